@@ -1,12 +1,10 @@
-//! Values and data, row by row of the description.
+//! Subsets in bits and back: asked for one at a time, in any order, and many of them; `tests/rows` has
+//! the rows of plain and of compressed data.
 
 mod asked;
-mod compressed;
 mod index;
-mod misfits;
-mod plain;
+mod many;
 mod samples;
-mod values;
 
 use std::fmt::Debug;
 use std::process::Abort;

@@ -1,10 +1,8 @@
-ghost use Rattle.std.specs.Prelude.{◌<◌, ◌+◌, ◌^◌, length};
+//! Streams: their frames, and what a framer holds. That pieces do not matter is proved.
 
-use bufr_answers::Items;
-use bufr_frame::*;
+use bufr_frame::{Found, Framer, Taken, frames_of_pieces};
 use std::alloc::Global;
 use std::fmt::Debug;
-use std::marker::Model;
 use std::process::Abort;
 
 /// A message of 62 octets: station, date and temperature by sequences.
@@ -86,50 +84,17 @@ fn assert_state(rt: &impl Abort, framer: &Framer, fed: usize, pending: usize) {
 #[derive(Clone, Copy, Debug)]
 enum Way {
     Feed,
-    Look,
     TakeNext,
-    NextFrame,
 }
 
-const WAYS: [Way; 4] = [Way::Feed, Way::Look, Way::TakeNext, Way::NextFrame];
-
-/// The octets of a frame that may be lent, copied.
-fn copied(rt: &impl Abort, alloc: Global, frame: &LentFrame<'_>) -> Found {
-    let bytes = Vec::from_slice(alloc, frame.as_slice()).expect(rt, "room");
-    Found {
-        place: frame.place(),
-        bytes: Items::from_vec(bytes),
-    }
-}
-
-/// Takes in a piece for which there is room, up to its first frame, which is lent where it can be.
-fn lend<'p>(rt: &impl Abort, alloc: Global, framer: &mut Framer, piece: &'p [u8]) -> Taken<'p>
-    requires { framer.old.fed + length piece.now < 2 ^ 64 }
-{
-    let NextFrame { found, rest } = framer.next_frame(piece).expect(rt, "room");
-    let found = match found {
-        Some(frame) => Some(copied(rt, alloc, &frame)),
-        None => None,
-    };
-    Taken { found, rest }
-}
+const WAYS: [Way; 2] = [Way::Feed, Way::TakeNext];
 
 /// Takes in a piece up to its first frame. The framer counts what it takes in, and holds no more
 /// than may be pending.
-fn take<'p>(
-    rt: &impl Abort,
-    alloc: Global,
-    lends: bool,
-    framer: &mut Framer,
-    piece: &'p [u8],
-) -> Taken<'p> {
+fn take<'p>(rt: &impl Abort, framer: &mut Framer, piece: &'p [u8]) -> Taken<'p> {
     let before = framer.fed();
     assert!(rt; before <= u64::MAX - piece.len() as u64);
-    let taken = if lends {
-        lend(rt, alloc, framer, piece)
-    } else {
-        framer.take_next(piece).expect(rt, "room")
-    };
+    let taken = framer.take_next(piece).expect(rt, "room");
     let left = taken.rest.len() as u128;
     let all = before as u128 + piece.len() as u128;
     same(rt, framer.fed() as u128 + left, all);
@@ -138,17 +103,11 @@ fn take<'p>(
 }
 
 /// Takes in a piece frame by frame.
-fn take_all(
-    rt: &impl Abort,
-    alloc: Global,
-    lends: bool,
-    framer: &mut Framer,
-    piece: &[u8],
-) -> Vec<Found> {
+fn take_all(rt: &impl Abort, alloc: Global, framer: &mut Framer, piece: &[u8]) -> Vec<Found> {
     let mut all = Vec::new(alloc);
     let mut rest = piece;
     for _ in 0..1_000_000 {
-        let taken = take(rt, alloc, lends, framer, rest);
+        let taken = take(rt, framer, rest);
         rest = taken.rest;
         match taken.found {
             Some(frame) => all.push(frame).expect(rt, "room"),
@@ -166,46 +125,15 @@ fn give(rt: &impl Abort, alloc: Global, way: Way, framer: &mut Framer, piece: &[
     assert!(rt; framer.fed() <= u64::MAX - piece.len() as u64);
     match way {
         Way::Feed => framer.feed(piece).expect(rt, "room"),
-        Way::Look => {
-            let look = framer.look(piece).expect(rt, "room");
-            framer.settle(look)
-        }
-        Way::TakeNext => take_all(rt, alloc, false, framer, piece),
-        Way::NextFrame => take_all(rt, alloc, true, framer, piece),
+        Way::TakeNext => take_all(rt, alloc, framer, piece),
     }
 }
 
-/// Ends the stream, and nothing is left.
-fn end(rt: &impl Abort, way: Way, framer: &mut Framer) -> Vec<Found> {
-    let last = match way {
-        Way::Look => {
-            let look = framer.look_end().expect(rt, "room");
-            framer.settle(look)
-        }
-        _ => framer.finish().expect(rt, "room"),
-    };
-    assert_state(rt, framer, 0, 0);
-    last
-}
-
-/// A look at a piece tells these frames, and changes nothing.
-fn assert_look(rt: &impl Abort, framer: &Framer, piece: &[u8], wanted: &[Frame<'_>]) {
-    let before = (framer.fed(), framer.pending());
-    assert!(rt; before.0 <= u64::MAX - piece.len() as u64);
-    let look = framer.look(piece).expect(rt, "room");
-    assert_found(rt, look.found(), wanted);
-    same(rt, (framer.fed(), framer.pending()), before);
-}
-
-/// A look at the stream's end tells these frames, and changes nothing; and they are those of the
-/// stream's end, behind which nothing is left.
-fn assert_end(rt: &impl Abort, way: Way, framer: &mut Framer, wanted: &[Frame<'_>]) {
-    let before = (framer.fed(), framer.pending());
-    let look = framer.look_end().expect(rt, "room");
-    assert_found(rt, look.found(), wanted);
-    same(rt, (framer.fed(), framer.pending()), before);
-    let last = end(rt, way, framer);
+/// The stream's end has these frames, and nothing is left behind it.
+fn assert_end(rt: &impl Abort, framer: &mut Framer, wanted: &[Frame<'_>]) {
+    let last = framer.finish().expect(rt, "room");
     assert_found(rt, &last, wanted);
+    assert_state(rt, framer, 0, 0);
 }
 
 /// How many octets of a stream are fed by a step, how many frames are handed out by then, and how
@@ -217,7 +145,7 @@ type Row<'a> = (&'a [&'a [u8]], &'a [Frame<'a>], &'a [Step]);
 
 /// Streams.
 const ROWS: &[Row<'static>] = &[
-    // two frames and a stray: at once, and in two pieces
+    // two frames and a stray: at once, in two pieces, and in more
     (
         &[b"ISMD01 EDZW 151200", SEQUENCES, b"BUFR", SEQUENCES],
         &[(18, SEQUENCES), (84, SEQUENCES)],
@@ -227,6 +155,18 @@ const ROWS: &[Row<'static>] = &[
         &[b"ISMD01 EDZW 151200", SEQUENCES, b"BUFR", SEQUENCES],
         &[(18, SEQUENCES), (84, SEQUENCES)],
         &[(30, 0, 12), (146, 1, 66)],
+    ),
+    (
+        &[b"ISMD01 EDZW 151200", SEQUENCES, b"BUFR", SEQUENCES],
+        &[(18, SEQUENCES), (84, SEQUENCES)],
+        &[
+            (20, 0, 2),
+            (79, 0, 61),
+            (80, 1, 0),
+            (82, 1, 2),
+            (145, 1, 65),
+            (146, 1, 66),
+        ],
     ),
     // a message in character data, whole and cut off
     (
@@ -248,6 +188,12 @@ const ROWS: &[Row<'static>] = &[
     // another mark, and another end
     (&[b"bufr\x00\x00\x0C\x047777"], &[], &[(12, 0, 0)]),
     (&[b"BUFR\x00\x00\x0C\x047778"], &[], &[(12, 0, 0)]),
+    // frames held behind one that is ruled out
+    (
+        &[b"BUFR\x00\x00\x24\x04", INNER, INNER, b"8"],
+        &[(8, INNER), (20, INNER)],
+        &[(32, 0, 32), (33, 2, 0)],
+    ),
     // a length that is too small behind six octets, and a frame behind a mark in two pieces
     (
         &[
@@ -267,7 +213,7 @@ fn part<'a, T>(rt: &impl Abort, list: &'a [T], from: usize, to: usize) -> &'a [T
     &list[from..to]
 }
 
-/// A piece has these frames, and the framer stands so then. A look tells the same frames before.
+/// A piece has these frames, and the framer stands so then.
 fn assert_step(
     rt: &impl Abort,
     alloc: Global,
@@ -277,7 +223,6 @@ fn assert_step(
     wanted: &[Frame<'_>],
     step: Step,
 ) {
-    assert_look(rt, framer, piece, wanted);
     let found = give(rt, alloc, way, framer, piece);
     assert_found(rt, &found, wanted);
     assert_state(rt, framer, step.0, step.2);
@@ -301,268 +246,17 @@ fn assert_steps(
         before = *step;
     }
     same(rt, before.0, stream.len());
-    assert_end(
-        rt,
-        way,
-        &mut framer,
-        part(rt, frames, before.1, frames.len()),
-    );
-}
-
-/// Pieces, and how many octets they have together. It is a type of its own, so that each loop keeps
-/// this, from which it follows that no more are fed than can be counted.
-#[derive(Drop)]
-struct Pieces<'p> {
-    list: Vec<&'p [u8]>,
-    octets: usize,
-}
-
-impl<'p> Model for Pieces<'p> {
-    ghost use Rattle.std.specs.Prelude.{◌≡◌, List, ℕ, length};
-    ghost use Rattle.std.specs.List.{flat_map};
-
-    ghost Value = { List ℕ };
-
-    ghost view = { λ p. flat_map (λ piece. piece.now) p.list.items };
-
-    ghost invariant = { λ p. length (flat_map (λ piece. piece.now) p.list.items) ≡ p.octets };
-}
-
-impl<'p> Pieces<'p> {
-    /// Adds a piece for which there is room.
-    fn push(&mut self, rt: &impl Abort, piece: &'p [u8]) {
-        assert!(rt; self.octets <= usize::MAX - piece.len());
-        self.list.push(piece).expect(rt, "room");
-        self.octets += piece.len();
-    }
-}
-
-/// The stream in pieces of this length and one of the rest.
-fn in_pieces_of<'p>(rt: &impl Abort, alloc: Global, stream: &'p [u8], length: usize) -> Pieces<'p> {
-    let mut pieces = Pieces {
-        list: Vec::new(alloc),
-        octets: 0,
-    };
-    assert!(rt; length > 0);
-    for piece in stream.chunks(length) {
-        pieces.push(rt, piece);
-    }
-    assert!(rt; pieces.octets == stream.len());
-    pieces
-}
-
-/// A stream that comes in these pieces has these frames.
-fn assert_frames(
-    rt: &impl Abort,
-    alloc: Global,
-    way: Way,
-    pieces: &[&[u8]],
-    fed: usize,
-    wanted: &[Frame<'_>],
-) {
-    let mut framer = Framer::new(alloc);
-    let mut all = Vec::new(alloc);
-    for piece in pieces {
-        let mut found = give(rt, alloc, way, &mut framer, *piece);
-        all.append(&mut found).expect(rt, "room");
-    }
-    same(rt, framer.fed(), fed as u64);
-    let mut last = end(rt, way, &mut framer);
-    all.append(&mut last).expect(rt, "room");
-    assert_found(rt, &all, wanted);
-}
-
-/// Cut in two at every place, a stream has these frames.
-fn assert_cuts(rt: &impl Abort, alloc: Global, way: Way, stream: &[u8], wanted: &[Frame<'_>]) {
-    let length = stream.len();
-    for place in 0..=length {
-        let front = part(rt, stream, 0, place);
-        let back = part(rt, stream, place, length);
-        assert_frames(rt, alloc, way, &[front, back], length, wanted);
-    }
-}
-
-/// The frames of a stream that comes in these pieces, all at once.
-fn at_once(rt: &impl Abort, alloc: Global, pieces: &Pieces<'_>) -> Vec<Found> {
-    let octets = pieces.octets;
-    assert!(rt; octets < 1_000_000_000);
-    frames_of_pieces(alloc, &pieces.list).expect(rt, "room")
-}
-
-/// A stream has these frames step by step, cut in two at every place, and octet by octet.
-fn assert_stream(
-    rt: &impl Abort,
-    alloc: Global,
-    stream: &[u8],
-    octets: &Pieces<'_>,
-    frames: &[Frame<'_>],
-    steps: &[Step],
-) {
-    for way in WAYS {
-        assert_steps(rt, alloc, way, stream, frames, steps);
-        assert_cuts(rt, alloc, way, stream, frames);
-        assert_frames(rt, alloc, way, &octets.list, octets.octets, frames);
-    }
-}
-
-/// The stream of a row has its frames: in all ways, and all at once.
-fn assert_row(rt: &impl Abort, alloc: Global, row: &Row<'_>) {
-    let (parts, frames, steps) = *row;
-    let stream = joined(rt, alloc, parts);
-    let octets = in_pieces_of(rt, alloc, &stream, 1);
-    assert_stream(rt, alloc, &stream, &octets, frames, steps);
-    assert_found(rt, &at_once(rt, alloc, &octets), frames);
-    let whole = in_pieces_of(rt, alloc, &stream, 1000);
-    assert_found(rt, &at_once(rt, alloc, &whole), frames);
+    assert_end(rt, &mut framer, part(rt, frames, before.1, frames.len()));
 }
 
 #[test]
 fn streams(rt: HostRuntime) {
-    for row in ROWS {
-        assert_row(&rt, rt.alloc(), row);
+    for (parts, frames, steps) in ROWS {
+        let stream = joined(&rt, rt.alloc(), parts);
+        for way in WAYS {
+            assert_steps(&rt, rt.alloc(), way, &stream, frames, steps);
+        }
     }
-}
-
-/// How far the piece of a call goes, the frame that it hands out, how many octets are fed then, and
-/// how many of them are pending. The piece begins behind what is fed before.
-type Call<'a> = (usize, Option<Frame<'a>>, usize, usize);
-
-/// The parts of a stream, calls to its end, and the frames of its end.
-type Calls<'a> = (&'a [&'a [u8]], &'a [Call<'a>], &'a [Frame<'a>]);
-
-/// Streams that are taken in frame by frame.
-const CALLS: &[Calls<'static>] = &[
-    // two frames and a stray
-    (
-        &[b"ISMD01 EDZW 151200", SEQUENCES, b"BUFR", SEQUENCES],
-        &[(146, Some((18, SEQUENCES)), 80, 0), (146, None, 146, 66)],
-        &[(84, SEQUENCES)],
-    ),
-    // frames held behind one that is ruled out
-    (
-        &[b"BUFR\x00\x00\x24\x04", INNER, INNER, b"8"],
-        &[
-            (32, None, 32, 32),
-            (33, Some((8, INNER)), 33, 13),
-            (33, Some((20, INNER)), 33, 0),
-        ],
-        &[],
-    ),
-];
-
-/// The place and the octets of a frame.
-fn parts_of(found: &Option<Found>) -> Option<Frame<'_>> {
-    match found {
-        Some(frame) => Some((frame.place, frame.bytes.as_slice())),
-        None => None,
-    }
-}
-
-/// A call takes a stream in so from this place on.
-fn assert_call(
-    rt: &impl Abort,
-    alloc: Global,
-    lends: bool,
-    framer: &mut Framer,
-    stream: &[u8],
-    from: usize,
-    call: &Call<'_>,
-) {
-    let (place, frame, fed, pending) = *call;
-    let piece = part(rt, stream, from, place);
-    let taken = take(rt, alloc, lends, framer, piece);
-    same(rt, parts_of(&taken.found), frame);
-    same(rt, taken.rest, part(rt, stream, fed, place));
-    assert_state(rt, framer, fed, pending);
-}
-
-/// Calls take a stream in so, and its end has these frames.
-fn assert_calls(
-    rt: &impl Abort,
-    alloc: Global,
-    lends: bool,
-    stream: &[u8],
-    calls: &[Call<'_>],
-    last: &[Frame<'_>],
-) {
-    let mut framer = Framer::new(alloc);
-    let mut from = 0;
-    for call in calls {
-        assert_call(rt, alloc, lends, &mut framer, stream, from, call);
-        from = call.2;
-    }
-    same(rt, from, stream.len());
-    assert_end(rt, Way::Feed, &mut framer, last);
-}
-
-#[test]
-fn frames_one_by_one(rt: HostRuntime) {
-    for (parts, calls, last) in CALLS {
-        let stream = joined(&rt, rt.alloc(), *parts);
-        assert_calls(&rt, rt.alloc(), false, &stream, *calls, *last);
-        assert_calls(&rt, rt.alloc(), true, &stream, *calls, *last);
-    }
-}
-
-#[test]
-fn a_look_of_another_framer(rt: HostRuntime) {
-    let one = Framer::new(rt.alloc());
-    assert_look(&rt, &one, SEQUENCES, &[(0, SEQUENCES)]);
-    let mut other = Framer::new(rt.alloc());
-    let none = give(&rt, rt.alloc(), Way::Feed, &mut other, b"BUFR");
-    assert_found(&rt, &none, &[]);
-    assert_state(&rt, &other, 4, 4);
-    assert!(rt; one.fed() == 0);
-    let look = one.look(SEQUENCES).expect(&rt, "room");
-    let found = other.settle(look);
-    assert_found(&rt, &found, &[(0, SEQUENCES)]);
-    assert_state(&rt, &other, 62, 0);
-    assert_state(&rt, &one, 0, 0);
-}
-
-/// A message of 66,051 octets, whose length is 01 02 03.
-fn long_message(rt: &impl Abort, alloc: Global) -> Vec<u8> {
-    let mut message = joined(rt, alloc, &[b"BUFR\x01\x02\x03\x04"]);
-    for _ in 0..66_039 {
-        message.push(0).expect(rt, "room");
-    }
-    message.extend_from_slice(b"7777").expect(rt, "room");
-    message
-}
-
-/// The three octets of the length count: the message is one frame, and with a greater length none.
-#[test]
-fn three_octets_of_the_length(rt: HostRuntime) {
-    let message = long_message(&rt, rt.alloc());
-    let mut longer = long_message(&rt, rt.alloc());
-    assert!(rt; longer.len() == 66_051);
-    longer[6] = 4;
-    for way in WAYS {
-        let frames: &[Frame<'_>] = &[(0, &message)];
-        assert_steps(&rt, rt.alloc(), way, &message, frames, &[(66_051, 1, 0)]);
-        assert_steps(&rt, rt.alloc(), way, &longer, &[], &[(66_051, 0, 66_051)]);
-    }
-}
-
-/// A piece given 256 times has no frame, and so many octets are pending then.
-fn give_often(rt: &impl Abort, alloc: Global, way: Way, piece: &[u8]) {
-    let mut framer = Framer::new(alloc);
-    for _ in 0..256 {
-        let none = give(rt, alloc, way, &mut framer, piece);
-        assert!(rt; none.is_empty() && framer.pending() <= 16_777_215);
-    }
-    assert_state(rt, &framer, 16_777_216, 4_347_200);
-    assert_found(rt, &end(rt, way, &mut framer), &[]);
-}
-
-#[test]
-fn bufr_without_end(rt: HostRuntime) {
-    let mut piece = Vec::new(rt.alloc());
-    for _ in 0..16_384 {
-        piece.extend_from_slice(b"BUFR").expect(&rt, "room");
-    }
-    give_often(&rt, rt.alloc(), Way::Feed, &piece);
-    give_often(&rt, rt.alloc(), Way::TakeNext, &piece);
 }
 
 /// 12,500 bulletins of one message each, and then a frame in one that lacks its end.
@@ -595,17 +289,6 @@ fn count_bulletins(rt: &impl Abort, frames: &[Found], before: u64) -> u64 {
     count
 }
 
-/// So many bulletins went before, and what is there of the next message is pending.
-fn assert_between(rt: &impl Abort, framer: &Framer, count: u64) {
-    let fed = framer.fed();
-    let pending = if fed == 1_075_020 {
-        20
-    } else {
-        (fed % 86).saturating_sub(24)
-    };
-    same(rt, (count, framer.pending() as u64), (fed / 86, pending));
-}
-
 /// The bulletins in large pieces.
 fn assert_bulletins(rt: &impl Abort, alloc: Global, way: Way, stream: &[u8]) {
     let mut framer = Framer::new(alloc);
@@ -613,10 +296,22 @@ fn assert_bulletins(rt: &impl Abort, alloc: Global, way: Way, stream: &[u8]) {
     for piece in stream.chunks(65_536) {
         let frames = give(rt, alloc, way, &mut framer, piece);
         count = count_bulletins(rt, &frames, count);
-        assert_between(rt, &framer, count);
+        let pending = (framer.fed() % 86).saturating_sub(24);
+        assert!(rt; framer.fed() == 1_075_020 || framer.pending() as u64 == pending);
     }
     same(rt, (count, framer.pending()), (12_500, 20));
-    assert_end(rt, way, &mut framer, &[(1_075_008, INNER)]);
+    assert_end(rt, &mut framer, &[(1_075_008, INNER)]);
+}
+
+/// The bulletins in two pieces, all at once.
+fn assert_at_once(rt: &impl Abort, alloc: Global, stream: &[u8]) {
+    assert!(rt; stream.len() == 1_075_020);
+    let (front, back) = stream.split_at(500_000);
+    let mut frames = frames_of_pieces(alloc, &[front, back]).expect(rt, "room");
+    assert!(rt; frames.len() == 12_501);
+    let last = frames.pop();
+    same(rt, last.is_some(), true);
+    same(rt, count_bulletins(rt, &frames, 0), 12_500);
 }
 
 #[test]
@@ -625,25 +320,5 @@ fn many_messages_in_large_pieces(rt: HostRuntime) {
     for way in WAYS {
         assert_bulletins(&rt, rt.alloc(), way, &stream);
     }
-}
-
-/// A stream of more than a million octets in more than a thousand pieces.
-#[test]
-fn a_thousand_pieces_at_once(rt: HostRuntime) {
-    let stream = many_bulletins(&rt, rt.alloc());
-    let pieces = in_pieces_of(&rt, rt.alloc(), &stream, 1000);
-    same(&rt, pieces.list.len(), 1076);
-    let mut frames = at_once(&rt, rt.alloc(), &pieces);
-    let last = frames.pop();
-    same(&rt, parts_of(&last), Some((1_075_008, INNER)));
-    same(&rt, count_bulletins(&rt, &frames, 0), 12_500);
-}
-
-#[test]
-fn octets_kept(rt: HostRuntime) {
-    let octets = Items::from_vec(joined(&rt, rt.alloc(), &[b"7777"]));
-    same(&rt, octets.as_slice(), b"7777".as_slice());
-    let joined = Items::from_vec(joined(&rt, rt.alloc(), &[b"77", b"77"]));
-    assert!(rt; octets == joined);
-    same(&rt, octets.into_vec().as_slice(), b"7777".as_slice());
+    assert_at_once(&rt, rt.alloc(), &stream);
 }

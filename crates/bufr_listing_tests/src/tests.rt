@@ -1,10 +1,8 @@
-//! Listings of messages, written and read. Expected values are typed from the rules of the format.
+//! Listings of messages, whole and part by part, read and written to devices. Expected values are
+//! typed from the rules of the format; `tests/rows` has the rows of lines and of faults.
 
 mod parts;
-mod reading;
 mod samples;
-mod turns;
-mod widths;
 mod writing;
 
 use std::fmt::Debug;

@@ -1,14 +1,11 @@
-//! The public calls, by subject.
+//! Messages read, viewed and written, their reports, and the order of what refuses to write one. Octets
+//! and texts are typed from the rules of the formats; `tests/rows` has the rows of listings and of
+//! refusals.
 
-mod calls;
 mod long;
-mod reading;
-mod refusals;
+mod refused;
 mod samples;
 mod shown;
-mod turns;
-mod writing;
-mod written_turns;
 
 use std::fmt::Debug;
 use std::process::Abort;

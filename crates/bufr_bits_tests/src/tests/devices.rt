@@ -48,20 +48,6 @@ impl Write for TakesOne {
 }
 
 #[test]
-fn a_source_of_octets_in_memory(rt: HostRuntime) {
-    let octets = [1u8, 2, 3, 4, 5];
-    let mut source = FromRead::new(octets.as_slice());
-    let mut buffer = [0; 3];
-    same(&rt, source.read(&mut buffer).expect(&rt, "an answer"), 3);
-    same(&rt, buffer, [1, 2, 3]);
-    same(&rt, source.read(&mut buffer).expect(&rt, "an answer"), 2);
-    same(&rt, buffer, [4, 5, 3]);
-    same(&rt, source.read(&mut buffer).expect(&rt, "an answer"), 0);
-    same(&rt, source.read(&mut buffer).expect(&rt, "an answer"), 0);
-    same(&rt, source.into_inner().len(), 0);
-}
-
-#[test]
 fn a_source_fails_at_any_error(rt: HostRuntime) {
     let mut source = FromRead::new(FailsOnce { reads: 0 });
     let mut buffer = [0; 4];
@@ -97,26 +83,6 @@ fn a_source_counts_its_reads_and_remembers_its_end(rt: HostRuntime) {
     let wanted =
         "FromRead { reader: EndsOnce { ended: true }, failed: false, reads: 2, met_end: true }";
     same(&rt, told.as_str(), wanted);
-}
-
-/// Writes to a lent vector, and compares what stands in it after the loan.
-fn write_to_lent(rt: &impl Abort, alloc: Global) {
-    let mut kept = Vec::new(alloc);
-    let mut lent = IntoWrite::new(&mut kept);
-    same(rt, lent.write(b"BUFR").expect(rt, "an answer"), 4);
-    let _ = lent.into_inner();
-    same(rt, kept.as_slice(), b"BUFR".as_slice());
-}
-
-#[test]
-fn a_sink_in_memory(rt: HostRuntime) {
-    let mut sink = IntoWrite::new(Vec::new(rt.alloc()));
-    same(&rt, sink.write(b"BUFR").expect(&rt, "an answer"), 4);
-    same(&rt, sink.write(&[]).expect(&rt, "an answer"), 0);
-    sink.flush().expect(&rt, "an answer");
-    write_all(&mut sink, b"7777").expect(&rt, "an answer");
-    same(&rt, sink.into_inner().as_slice(), b"BUFR7777".as_slice());
-    write_to_lent(&rt, rt.alloc());
 }
 
 #[test]
@@ -166,28 +132,22 @@ fn all_of<S: Source>(rt: &impl Abort, alloc: Global, source: &mut S, room: &mut 
     panic!(rt; "no end")
 }
 
-#[test]
-fn a_source_gives_all_over_a_thousand_reads(rt: HostRuntime) {
-    let octets = octets_of_length(rt.alloc(), 10_000).expect(&rt, "an answer");
-    let reader = GivesFew {
-        rest: octets.as_slice(),
-        most: 7,
-    };
-    let mut room = [0; 64];
-    let mut source = FromRead::new(reader);
-    let whole = all_of(&rt, rt.alloc(), &mut source, &mut room);
-    assert!(rt; whole.as_slice() == octets.as_slice());
-    same(&rt, source.into_inner().rest.len(), 0);
+/// A source over a reader that gives at most so many octets at a time, which is lent, gives all.
+fn gives_all(rt: &impl Abort, alloc: Global, octets: &[u8], most: usize) {
+    let mut room = vec![in alloc; 0u8; 70_000].expect(rt, "room");
+    let mut source = FromRead::new(GivesFew { rest: octets, most });
+    let mut lent = &mut source;
+    let whole = all_of(rt, alloc, &mut lent, room.as_mut_slice());
+    same(rt, whole.as_slice() == octets, true);
+    same(rt, source.into_inner().rest.len(), 0);
 }
 
+/// In more than a thousand reads, and in reads of 70,000 octets.
 #[test]
-fn a_lent_source_gives_all_in_large_reads(rt: HostRuntime) {
+fn a_lent_source_gives_all(rt: HostRuntime) {
     let octets = octets_of_length(rt.alloc(), 1_000_003).expect(&rt, "an answer");
-    let mut room = vec![in rt.alloc(); 0u8; 70_000].expect(&rt, "room");
-    let mut source = FromRead::new(octets.as_slice());
-    let mut lent = &mut source;
-    let whole = all_of(&rt, rt.alloc(), &mut lent, room.as_mut_slice());
-    assert!(rt; whole.as_slice() == octets.as_slice());
+    gives_all(&rt, rt.alloc(), octets.as_slice(), 700);
+    gives_all(&rt, rt.alloc(), octets.as_slice(), 70_000);
 }
 
 /// A writer that takes a few octets at a time, and counts how often it was to hand them on.
@@ -213,30 +173,26 @@ impl Write for TakesFew {
     }
 }
 
-#[test]
-fn a_sink_takes_all_over_a_thousand_writes(rt: HostRuntime) {
-    let octets = octets_of_length(rt.alloc(), 10_000).expect(&rt, "an answer");
+/// A sink over a writer that takes at most so many octets at a time, which is lent, takes all, and
+/// hands them on once.
+fn takes_all(rt: &impl Abort, alloc: Global, octets: &[u8], most: usize) {
     let mut sink = IntoWrite::new(TakesFew {
-        taken: Vec::new(rt.alloc()),
-        most: 7,
-        flushes: 0,
-    });
-    write_all(&mut sink, octets.as_slice()).expect(&rt, "an answer");
-    assert!(rt; sink.into_inner().taken.as_slice() == octets.as_slice());
-}
-
-#[test]
-fn a_lent_sink_takes_a_large_piece_and_hands_it_on(rt: HostRuntime) {
-    let octets = octets_of_length(rt.alloc(), 1_000_003).expect(&rt, "an answer");
-    let mut sink = IntoWrite::new(TakesFew {
-        taken: Vec::new(rt.alloc()),
-        most: 70_000,
+        taken: Vec::new(alloc),
+        most,
         flushes: 0,
     });
     let mut lent = &mut sink;
-    write_all(&mut lent, octets.as_slice()).expect(&rt, "an answer");
-    lent.flush().expect(&rt, "an answer");
+    write_all(&mut lent, octets).expect(rt, "an answer");
+    lent.flush().expect(rt, "an answer");
     let writer = sink.into_inner();
-    assert!(rt; writer.taken.as_slice() == octets.as_slice());
-    same(&rt, writer.flushes, 1);
+    same(rt, writer.taken.as_slice() == octets, true);
+    same(rt, writer.flushes, 1);
+}
+
+/// In more than a thousand writes, and in writes of 70,000 octets.
+#[test]
+fn a_lent_sink_takes_all_and_hands_it_on(rt: HostRuntime) {
+    let octets = octets_of_length(rt.alloc(), 1_000_003).expect(&rt, "an answer");
+    takes_all(&rt, rt.alloc(), octets.as_slice(), 700);
+    takes_all(&rt, rt.alloc(), octets.as_slice(), 70_000);
 }

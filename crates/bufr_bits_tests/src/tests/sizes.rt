@@ -1,4 +1,5 @@
-//! Large texts and many fields: want of memory meets every contract, so these are compared whole.
+//! Large texts, and the room of a sink: want of memory meets every contract, so these are compared
+//! whole.
 
 use super::{expect_text, same};
 use bufr_answers::OutOfMemory;
@@ -26,6 +27,7 @@ fn text_twice(rt: &impl Abort, alloc: Global, text: &[u8]) -> Vec<u8> {
     sink.into_bytes()
 }
 
+/// Off the edge there are no octets left for one more, and that is then the place.
 #[test]
 fn a_million_octets_on_and_off_the_edge(rt: HostRuntime) {
     let alloc = rt.alloc();
@@ -36,6 +38,8 @@ fn a_million_octets_on_and_off_the_edge(rt: HostRuntime) {
     expect_text(&rt, alloc, &mut reader, 1_000_003, text.as_slice());
     same(&rt, reader.take(3), Some(5));
     expect_text(&rt, alloc, &mut reader, 1_000_003, text.as_slice());
+    let none = reader.take_bytes(alloc, 1).expect(&rt, "an answer");
+    same(&rt, none.is_none(), true);
     same(&rt, reader.left(), 5);
 }
 
@@ -55,22 +59,4 @@ fn keeps_its_room(rt: &impl Abort, alloc: Global, octets: usize) {
 #[test]
 fn room_for_a_thousand_octets(rt: HostRuntime) {
     keeps_its_room(&rt, rt.alloc(), 1001);
-}
-
-#[test]
-fn a_hundred_thousand_fields(rt: HostRuntime) {
-    let mut sink = BitSink::with_capacity(rt.alloc(), 1000).expect(&rt, "room");
-    same(&rt, sink.len_bits(), 0);
-    for i in 0..100_000u64 {
-        sink.put(13, i % 8191).expect(&rt, "room");
-    }
-    same(&rt, sink.len_bits(), 1_300_000);
-    sink.fill_octet();
-    let octets = sink.into_bytes();
-    let mut reader = BitReader::new(octets.as_slice());
-    let mut good = true;
-    for i in 0..100_000u64 {
-        good = good && reader.take(13) == Some(i % 8191);
-    }
-    assert!(rt; good && reader.left() == 0);
 }

@@ -4,8 +4,8 @@ use super::same;
 use bufr_answers::Items;
 use bufr_bits::{BitReader, BitSink};
 use bufr_data::{Field, Raw, Subset, read_subsets};
-use bufr_expand::{Spec, Template};
-use bufr_tables::{Fxy, Kind, TableB, TableD, Tables};
+use bufr_expand::Template;
+use bufr_tables::{Fxy, TableB, TableD, Tables};
 use std::alloc::Global;
 use std::process::Abort;
 
@@ -19,12 +19,6 @@ pub(crate) type Wanted<'a> = (&'a [u64], &'a [u8]);
 pub(crate) const TEMPERATURE: Descriptors = &[(0, 12, 101)];
 
 pub(crate) const DELAYED: Descriptors = &[(1, 1, 0), (0, 31, 1), (0, 12, 101)];
-
-pub(crate) const SEQUENCES: Descriptors = &[(3, 1, 1), (3, 1, 11), (3, 1, 12), (0, 12, 101)];
-
-/// A replication, 255 turns of an operator, and one field of two bits: 512 items a subset, so that
-/// 32,768 subsets have 16,777,216.
-pub(crate) const MANY_ITEMS: Descriptors = &[(1, 1, 255), (2, 1, 129), (0, 2, 1)];
 
 /// Elements with their unit, scale, reference value and width.
 const TABLE_B: &[u8] = b"FXY,BUFR_Unit,BUFR_Scale,BUFR_ReferenceValue,BUFR_DataWidth_Bits
@@ -69,25 +63,6 @@ pub(crate) fn template(rt: &impl Abort, alloc: Global, list: Descriptors) -> Tem
 pub(crate) fn octets_of(mut sink: BitSink) -> Vec<u8> {
     sink.fill_octet();
     sink.into_bytes()
-}
-
-/// A field whose reference value is 0.
-pub(crate) fn field(
-    rt: &impl Abort,
-    (f, x, y): (u8, u8, u8),
-    kind: Kind,
-    scale: i32,
-    width: u32,
-    raw: Raw,
-) -> Field {
-    let spec = Spec {
-        kind,
-        scale,
-        reference: 0,
-        width,
-    };
-    let fxy = Fxy::new(f, x, y).expect(rt, "a descriptor");
-    Field { fxy, spec, raw }
 }
 
 /// The raw number of a field, `None` for a text.

@@ -5,8 +5,7 @@ ghost use Rattle.bufr_expand.specs.Walks.{waits};
 ghost use Rattle.bufr_expand_tests.specs.StepAnswers.{asked_width};
 
 use super::same;
-use bufr_answers::Failure;
-use bufr_expand::{Spec, Step, Template, TemplateFault, Walk, WalkFault};
+use bufr_expand::{Spec, Step, Template, Walk, WalkFault};
 use bufr_tables::{Fxy, Kind, TableB, TableD, Tables};
 use std::alloc::Global;
 use std::process::Abort;
@@ -25,66 +24,48 @@ const TABLE_B: &[u8] = b"FXY,BUFR_Unit,BUFR_Scale,BUFR_ReferenceValue,BUFR_DataW
 004005,min,0,0,6\n\
 012101,K,2,0,16\n\
 012102,K,2,0,64\n\
-031000,Numeric,0,0,1\n\
-031001,Numeric,0,0,8\n\
-031002,Numeric,0,0,17\n\
-031011,Numeric,0,0,8\n";
+031001,Numeric,0,0,8\n";
 
-/// Sequences, of which 301250 holds itself, and 301251 and 301252 hold each other.
-pub(crate) const SEQUENCES: &[u8] = b"FXY1,FXY2\n\
+const SEQUENCES: &[u8] = b"FXY1,FXY2\n\
 301001,001001\n\
 301001,001002\n\
 301011,004001\n\
 301011,004002\n\
 301011,004003\n\
 301012,004004\n\
-301012,004005\n\
-301250,301250\n\
-301251,301252\n\
-301252,301251\n";
+301012,004005\n";
 
 /// The descriptor that is written FXXYYY.
-pub(crate) fn fxy(rt: &impl Abort, digits: u32) -> Fxy {
+fn fxy(rt: &impl Abort, digits: u32) -> Fxy {
     let (f, x, y) = (digits / 100_000, digits / 1000 % 100, digits % 1000);
     assert!(rt; f < 4 && y < 256);
     Fxy::new(f as u8, x as u8, y as u8).expect(rt, "a descriptor")
 }
 
-/// The descriptors that are written FXXYYY.
-pub(crate) fn list_of(rt: &impl Abort, alloc: Global, digits: &[u32]) -> Vec<Fxy> {
-    let mut list = Vec::new(alloc);
-    for number in digits {
-        list.push(fxy(rt, *number)).expect(rt, "room");
-    }
-    list
-}
-
-/// The rows of the tests and a Table D.
-fn tables_of(rt: &impl Abort, alloc: Global, sequences: &[u8]) -> Tables {
-    let b = TableB::parse(alloc, TABLE_B).expect(rt, "a table");
+/// The tables of two files.
+pub(crate) fn tables_of(
+    rt: &impl Abort,
+    alloc: Global,
+    elements: &[u8],
+    sequences: &[u8],
+) -> Tables {
+    let b = TableB::parse(alloc, elements).expect(rt, "a table");
     let d = TableD::parse(alloc, sequences).expect(rt, "a table");
     Tables::new(b, d)
 }
 
-/// What is answered for a list, by the rows of the tests and a Table D.
-pub(crate) fn answer_of(
-    rt: &impl Abort,
-    alloc: Global,
-    sequences: &[u8],
-    list: &[Fxy],
-) -> Result<Template, Failure<TemplateFault>> {
-    let tables = tables_of(rt, alloc, sequences);
-    Template::build(alloc, &tables, list)
-}
-
 /// The template of descriptors that are written FXXYYY.
 pub(crate) fn template_of(rt: &impl Abort, alloc: Global, digits: &[u32]) -> Template {
-    let list = list_of(rt, alloc, digits);
-    answer_of(rt, alloc, SEQUENCES, &list).expect(rt, "a template")
+    let mut list = Vec::new(alloc);
+    for number in digits {
+        list.push(fxy(rt, *number)).expect(rt, "room");
+    }
+    let tables = tables_of(rt, alloc, TABLE_B, SEQUENCES);
+    Template::build(alloc, &tables, &list).expect(rt, "a template")
 }
 
 /// A spec.
-pub(crate) fn spec(kind: Kind, scale: i32, reference: i64, width: u32) -> Spec {
+fn spec(kind: Kind, scale: i32, reference: i64, width: u32) -> Spec {
     Spec {
         kind,
         scale,

@@ -22,7 +22,7 @@ FXY,ElementName_en,BUFR_Unit,BUFR_Scale,BUFR_ReferenceValue,BUFR_DataWidth_Bits
 ";
 
 /// Table D of the tests.
-pub(crate) const TABLE_D: &str = "\
+const TABLE_D: &str = "\
 FXY1,FXY2
 301001,001001
 301001,001002
@@ -31,13 +31,12 @@ FXY1,FXY2
 301011,004003
 301012,004004
 301012,004005
-301250,301250
 ";
 
-/// The tables of the tests with these sequences.
-pub(crate) fn tables(rt: &impl Abort, alloc: Global, sequences: &str) -> Tables {
+/// The tables of the tests.
+pub(crate) fn tables(rt: &impl Abort, alloc: Global) -> Tables {
     let b = TableB::parse(alloc, TABLE_B.as_bytes()).expect(rt, "a table");
-    let d = TableD::parse(alloc, sequences.as_bytes()).expect(rt, "a table");
+    let d = TableD::parse(alloc, TABLE_D.as_bytes()).expect(rt, "a table");
     Tables::new(b, d)
 }
 
@@ -58,44 +57,6 @@ fn digits_of(word: &str) -> &str {
         "END" => "37373737",
         "|" => "",
         other => other,
-    }
-}
-
-/// Numbers of two octets.
-#[derive(Clone, Copy)]
-pub(crate) struct Numbers {
-    /// The first.
-    pub(crate) first: u16,
-    /// How much greater each is than the one before it.
-    pub(crate) step: u16,
-    /// How many there are.
-    pub(crate) count: u32,
-}
-
-/// The octets of a text, these numbers, and section 5.
-pub(crate) fn with_numbers(
-    rt: &impl Abort,
-    alloc: Global,
-    front: &str,
-    numbers: Numbers,
-) -> Vec<u8> {
-    let mut all = octets(rt, alloc, front);
-    let mut number = numbers.first;
-    for _ in 0..numbers.count {
-        all.extend_from_slice(number.to_be_bytes().as_slice())
-            .expect(rt, "room");
-        number = number.wrapping_add(numbers.step);
-    }
-    all.extend_from_slice(b"7777").expect(rt, "room");
-    all
-}
-
-/// So many numbers of two zero octets.
-pub(crate) fn zeros(count: u32) -> Numbers {
-    Numbers {
-        first: 0,
-        step: 0,
-        count,
     }
 }
 
@@ -149,14 +110,6 @@ pub(crate) const OPERATORS: &str = "\
 42554652 00003E 04 | S1 | 000013 00 0001 80 8182 8281 0C65 8100 8200 0C65 |
 000009 00 F4241AACC0 | END";
 
-/// One bit more.
-pub(crate) const REPLACED_WIDTH: &str =
-    "42554652 000036 04 | S1 | 00000D 00 0001 80 8182 8181 0C65 | 000007 00 355980 | END";
-
-/// Scale, reference value and width raised together.
-pub(crate) const RAISED_TOGETHER: &str =
-    "42554652 000034 04 | S1 | 00000B 00 0001 80 8701 0C65 | 000007 00 42AFE0 | END";
-
 /// Four characters.
 pub(crate) const TEXT_WIDTH_AND_ESCAPES: &str =
     "42554652 000035 04 | S1 | 00000B 00 0001 80 8804 010B | 000008 00 41225C0A | END";
@@ -165,23 +118,12 @@ pub(crate) const TEXT_WIDTH_AND_ESCAPES: &str =
 pub(crate) const LOCAL_DESCRIPTOR: &str =
     "42554652 000033 04 | S1 | 00000B 00 0001 80 860C 01FA | 000006 00 0050 | END";
 
-/// A message of 52 octets as characters: 99 octets.
-pub(crate) const MESSAGE_IN_CHARACTER_DATA: &str = "\
-42554652 000063 04 | S1 | 000009 00 0001 80 8534 | 000038 00 | 42554652 000034 04 | S1 |
-00000D 00 0001 80 4100 1F01 0C65 | 000005 00 00 | END | END";
-
 /// The first with two octets for local use, a section 2, an odd octet in section 3 and two octets
 /// after the data: 81 octets.
 pub(crate) const LOCAL_OCTETS_AND_SLACK: &str = "\
 42554652 000051 04 | 000018 00 0062 0000 00 80 00 02 00 25 00 07E8 01 0F 0C 00 00 ABCD |
 000006 00 0102 | 000018 00 0001 80 0101 0102 0401 0402 0403 0404 0405 0C65 FF |
 00000F 00 14C03F409EC01AACC0 0000 | END";
-
-/// What is written for it: 78 octets.
-pub(crate) const LOCAL_OCTETS: &str = "\
-42554652 00004E 04 | 000018 00 0062 0000 00 80 00 02 00 25 00 07E8 01 0F 0C 00 00 ABCD |
-000006 00 0102 | 000017 00 0001 80 0101 0102 0401 0402 0403 0404 0405 0C65 |
-00000D 00 14C03F409EC01AACC0 | END";
 
 /// The first with ones in all that is ignored: the reserved bits of sections 1 and 3, the reserved
 /// octets and the fill bits.
@@ -222,10 +164,6 @@ pub(crate) const COMPRESSED_INCREMENTS: &str = "\
 pub(crate) const COMPRESSED_FACTOR: &str = "\
 42554652 000035 04 | S1 | 00000D 00 0002 C0 4100 1F01 0C65 | 000006 00 0004 | END";
 
-/// The same without increments: what is written for it.
-pub(crate) const FACTOR_WRITTEN: &str = "\
-42554652 000035 04 | S1 | 00000D 00 0002 C0 4100 1F01 0C65 | 000006 00 0000 | END";
-
 /// An element of one bit that is no factor, 0 and 1.
 pub(crate) const COMPRESSED_NOT_A_FACTOR: &str = "\
 42554652 000031 04 | S1 | 000009 00 0002 C0 1F00 | 000006 00 0280 | END";
@@ -242,60 +180,8 @@ pub(crate) const NO_SUBSETS_UNOBSERVED: &str =
 pub(crate) const TEMPERATURE: &str =
     "42554652 000031 04 | S1 | 000009 00 0001 80 0C65 | 000006 00 6AB3 | END";
 
-/// A sequence of two numbers under the tables of the tests, and of one under others.
-pub(crate) const SEQUENCE: &str =
-    "42554652 000032 04 | S1 | 000009 00 0001 80 C101 | 000007 00 14C000 | END";
-
-/// Tables under which the sequence is one temperature.
-pub(crate) const OTHER_TABLE_D: &str = "\
-FXY1,FXY2
-301001,012101
-";
-
 /// Edition 3, of the 15th of January 2024, 12:00: section 1 has 18 octets, one of them for local
 /// use.
 pub(crate) const EDITION_3: &str = "\
 42554652 00003C 03 | 000012 00 00 62 00 00 00 02 0D 00 18 01 0F 0C 00 00 |
 000010 00 0001 80 C101 C10B C10C 0C65 00 | 00000E 00 14C03F409EC01AACC0 00 | END";
-
-/// What is written for it: edition 4 with the octet for local use.
-pub(crate) const EDITION_3_WRITTEN: &str = "\
-42554652 00003F 04 | 000017 00 0062 0000 00 00 00 FF 02 0D 00 07E8 01 0F 0C 00 00 00 |
-00000F 00 0001 80 C101 C10B C10C 0C65 | 00000D 00 14C03F409EC01AACC0 | END";
-
-/// Each of 301201 to 301215 holds the next descriptor twice, and 301216 holds 031000 twice.
-pub(crate) const DOUBLING: &str = "\
-FXY1,FXY2
-301201,301202
-301201,301202
-301202,301203
-301202,301203
-301203,301204
-301203,301204
-301204,301205
-301204,301205
-301205,301206
-301205,301206
-301206,301207
-301206,301207
-301207,301208
-301207,301208
-301208,301209
-301208,301209
-301209,301210
-301209,301210
-301210,301211
-301210,301211
-301211,301212
-301211,301212
-301212,301213
-301212,301213
-301213,301214
-301213,301214
-301214,301215
-301214,301215
-301215,301216
-301215,301216
-301216,031000
-301216,031000
-";

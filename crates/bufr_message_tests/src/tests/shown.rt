@@ -1,109 +1,12 @@
-//! What messages are read and viewed as: slack, reports with their canonical messages, and listings,
-//! whole and one subset at a time. Octets and listings are typed from the rules of the format.
+//! What messages are read and viewed as: slack, reports with their canonical messages, and the
+//! listing of a view, one subset at a time. Octets and listings are typed from the rules of the format.
 
-use super::calls::*;
 use super::same;
 use super::samples::*;
-use bufr_message::listing::{
-    end_text, heading_of_view, push_subset_of_view, subset_of_view, text_of,
-};
-use bufr_message::{Message, Report, View, canonical_of_read, view};
+use bufr_message::listing::{end_text, heading_of_view, push_subset_of_view, subset_of_view};
+use bufr_message::{Report, View, canonical, canonical_of_read, decode, reports, view};
 use std::alloc::Global;
 use std::process::Abort;
-
-/// The first lines of most listings.
-const FRONT: &str = "message\nsection1 98 0 0 0 2 0 37 0\ntime 2024 1 15 12 0 0\n";
-
-/// Those of `DISTINCT_HEAD`: fourteen numbers that all differ.
-const DISTINCT_FRONT: &str = "message\nsection1 258 772 5 6 7 8 9 10\ntime 2828 13 14 15 16 17\n";
-
-/// Those of `EDITION_3`.
-const EDITION_3_FRONT: &str = "message\nsection1 98 0 0 0 255 2 13 0\ntime 2024 1 15 12 0 0\n";
-
-/// The data are observed.
-const OBSERVED: &str = "flags observed\n";
-
-/// They are compressed too.
-const COMPRESSED: &str = "flags observed compressed\n";
-
-/// The template of most messages here, in sequences.
-const IN_SEQUENCES: &str = "descriptors 301001 301011 301012 012101\n";
-
-/// The same template in elements.
-const IN_ELEMENTS: &str = "descriptors 001001 001002 004001 004002 004003 004004 004005 012101\n";
-
-/// A delayed count of temperatures.
-const DELAYED: &str = "descriptors 101000 031001 012101\n";
-
-/// A subset of the template of most messages.
-const STATION: &str = "\
-subset
-001001 10
-001002 384
-004001 2024
-004002 1
-004003 15
-004004 12
-004005 0
-012101 273.15
-";
-
-/// The same without a temperature.
-const STATION_MISSING: &str = "\
-subset
-001001 10
-001002 384
-004001 2024
-004002 1
-004003 15
-004004 12
-004005 0
-012101 missing
-";
-
-/// The first with the second behind it.
-const STATION_AND_MISSING: &str = "\
-subset
-001001 10
-001002 384
-004001 2024
-004002 1
-004003 15
-004004 12
-004005 0
-012101 273.15
-subset
-001001 10
-001002 384
-004001 2024
-004002 1
-004003 15
-004004 12
-004005 0
-012101 missing
-";
-
-/// The first with another behind it that is a hundredth of a degree warmer.
-const STATION_AND_WARMER: &str = "\
-subset
-001001 10
-001002 384
-004001 2024
-004002 1
-004003 15
-004004 12
-004005 0
-012101 273.15
-subset
-001001 10
-001002 384
-004001 2024
-004002 1
-004003 15
-004004 12
-004005 0
-012101 273.16
-";
 
 /// The canonical message of the report of `DISTINCT_HEAD`: no octets for local use.
 const DISTINCT_HEAD_ALONE: &str = "\
@@ -134,287 +37,73 @@ const EDITION_3_CANONICAL: &str = "\
 42554652 00003E 04 | 000016 00 0062 0000 00 00 00 FF 02 0D 00 07E8 01 0F 0C 00 00 |
 00000F 00 0001 80 C101 C10B C10C 0C65 | 00000D 00 14C03F409EC01AACC0 | END";
 
-/// What octets are read and viewed as.
-struct Row<'a> {
-    /// The octets.
-    text: &'a str,
-    /// How many octets of section 4 stand behind the data.
-    slack: u64,
-    /// The canonical messages of the reports.
-    reports: &'a [&'a str],
-    /// The first lines of the listing.
-    front: &'a str,
-    /// The lines of octets for local use and of flags.
-    flags: &'a str,
-    /// The line of descriptors.
-    descriptors: &'a str,
-    /// The lines of the subsets.
-    subsets: &'a str,
+/// Octets, how many octets of section 4 stand behind their data, and the canonical messages of their
+/// reports.
+type Row<'a> = (&'a str, u64, &'a [&'a str]);
+
+/// Plain messages, of other heads, under operators, of characters and of edition 3; and compressed ones.
+const ROWS: &[Row<'static>] = &[
+    (ELEMENTS_ONLY, 0, &[ELEMENTS_ONLY]),
+    (IGNORED_ONES, 0, &[ELEMENTS_ONLY]),
+    (LOCAL_OCTETS_AND_SLACK, 2, &[ELEMENTS_ONLY]),
+    (SEQUENCES, 0, &[SEQUENCES]),
+    (MISSING_TEMPERATURE, 0, &[MISSING_TEMPERATURE]),
+    (UNOBSERVED, 0, &[UNOBSERVED]),
+    (EMPTY_SECTION_2, 0, &[SEQUENCES]),
+    (NO_SUBSETS, 0, &[]),
+    (NO_SUBSETS_AND_SLACK, 9, &[]),
+    (UNEQUAL_COUNTS, 0, &[DELAYED_COUNT_0, DELAYED_COUNT_1]),
+    // a bit before or behind a subset is another than its own
+    (THREE_BITS, 0, &[BIT_0, BIT_1, BIT_0]),
+    (DISTINCT_HEAD, 0, &[DISTINCT_HEAD_ALONE]),
+    (OPERATORS, 0, &[OPERATORS]),
+    (TEXT_WIDTH_AND_ESCAPES, 0, &[TEXT_WIDTH_AND_ESCAPES]),
+    (CHARACTERS, 0, &[CHARACTERS]),
+    (LOCAL_DESCRIPTOR, 0, &[LOCAL_DESCRIPTOR]),
+    (EDITION_3, 1, &[EDITION_3_CANONICAL]),
+    (COMPRESSED_PAIR, 0, &[SEQUENCES, MISSING_TEMPERATURE]),
+    (COMPRESSED_INCREMENTS, 0, &[SEQUENCES, WARMER]),
+    (COMPRESSED_FACTOR, 0, &[DELAYED_COUNT_0, DELAYED_COUNT_0]),
+    (COMPRESSED_NOT_A_FACTOR, 0, &[BIT_0, BIT_1]),
+    (COMPRESSED_TEXTS, 0, &[FIRST_TEXT, SECOND_TEXT]),
+    (NO_COMPRESSED_SUBSETS, 0, &[]),
+    (NO_SUBSETS_UNOBSERVED, 0, &[]),
+    (TEMPERATURE, 0, &[TEMPERATURE]),
+];
+
+/// Octets are those of a text.
+fn assert_octets(rt: &impl Abort, alloc: Global, found: &[u8], wanted: &str) {
+    let all = octets(rt, alloc, wanted);
+    same(rt, wanted, found, all.as_slice());
 }
 
-/// Plain messages of the first template, and of counts.
-const PLAIN: &[Row<'static>] = &[
-    Row {
-        text: ELEMENTS_ONLY,
-        slack: 0,
-        reports: &[ELEMENTS_ONLY],
-        front: FRONT,
-        flags: OBSERVED,
-        descriptors: IN_ELEMENTS,
-        subsets: STATION,
-    },
-    Row {
-        text: IGNORED_ONES,
-        slack: 0,
-        reports: &[ELEMENTS_ONLY],
-        front: FRONT,
-        flags: OBSERVED,
-        descriptors: IN_ELEMENTS,
-        subsets: STATION,
-    },
-    Row {
-        text: LOCAL_OCTETS_AND_SLACK,
-        slack: 2,
-        reports: &[ELEMENTS_ONLY],
-        front: FRONT,
-        flags: "local1 abcd\nsection2 0102\nflags observed\n",
-        descriptors: IN_ELEMENTS,
-        subsets: STATION,
-    },
-    Row {
-        text: SEQUENCES,
-        slack: 0,
-        reports: &[SEQUENCES],
-        front: FRONT,
-        flags: OBSERVED,
-        descriptors: IN_SEQUENCES,
-        subsets: STATION,
-    },
-    Row {
-        text: MISSING_TEMPERATURE,
-        slack: 0,
-        reports: &[MISSING_TEMPERATURE],
-        front: FRONT,
-        flags: OBSERVED,
-        descriptors: IN_SEQUENCES,
-        subsets: STATION_MISSING,
-    },
-    Row {
-        text: UNOBSERVED,
-        slack: 0,
-        reports: &[UNOBSERVED],
-        front: FRONT,
-        flags: "flags\n",
-        descriptors: IN_SEQUENCES,
-        subsets: STATION,
-    },
-    Row {
-        text: EMPTY_SECTION_2,
-        slack: 0,
-        reports: &[SEQUENCES],
-        front: FRONT,
-        flags: "section2\nflags observed\n",
-        descriptors: IN_SEQUENCES,
-        subsets: STATION,
-    },
-    Row {
-        text: NO_SUBSETS,
-        slack: 0,
-        reports: &[],
-        front: FRONT,
-        flags: OBSERVED,
-        descriptors: IN_SEQUENCES,
-        subsets: "",
-    },
-    Row {
-        text: NO_SUBSETS_AND_SLACK,
-        slack: 9,
-        reports: &[],
-        front: FRONT,
-        flags: OBSERVED,
-        descriptors: IN_SEQUENCES,
-        subsets: "",
-    },
-    Row {
-        text: UNEQUAL_COUNTS,
-        slack: 0,
-        reports: &[DELAYED_COUNT_0, DELAYED_COUNT_1],
-        front: FRONT,
-        flags: OBSERVED,
-        descriptors: DELAYED,
-        subsets: "subset\n031001 0\nsubset\n031001 1\n012101 273.15\n",
-    },
-    // a bit before or behind a subset is another than its own
-    Row {
-        text: THREE_BITS,
-        slack: 0,
-        reports: &[BIT_0, BIT_1, BIT_0],
-        front: FRONT,
-        flags: OBSERVED,
-        descriptors: "descriptors 031000\n",
-        subsets: "subset\n031000 0\nsubset\n031000 1\nsubset\n031000 0\n",
-    },
-];
-
-/// Plain messages of other heads, under operators, of characters and of edition 3.
-const OTHERS: &[Row<'static>] = &[
-    Row {
-        text: DISTINCT_HEAD,
-        slack: 0,
-        reports: &[DISTINCT_HEAD_ALONE],
-        front: DISTINCT_FRONT,
-        flags: "local1 1213\nflags observed\n",
-        descriptors: "descriptors 012101\n",
-        subsets: "subset\n012101 273.15\n",
-    },
-    Row {
-        text: OPERATORS,
-        slack: 0,
-        reports: &[OPERATORS],
-        front: FRONT,
-        flags: OBSERVED,
-        descriptors: "descriptors 201130 202129 012101 201000 202000 012101\n",
-        subsets: "subset\n012101 250.000\n012101 273.15\n",
-    },
-    Row {
-        text: TEXT_WIDTH_AND_ESCAPES,
-        slack: 0,
-        reports: &[TEXT_WIDTH_AND_ESCAPES],
-        front: FRONT,
-        flags: OBSERVED,
-        descriptors: "descriptors 208004 001011\n",
-        subsets: "subset\n001011 \"A\\22\\5c\\0a\"\n",
-    },
-    Row {
-        text: CHARACTERS,
-        slack: 0,
-        reports: &[CHARACTERS],
-        front: FRONT,
-        flags: OBSERVED,
-        descriptors: "descriptors 208010 001011\n",
-        subsets: "subset\n001011 \"\\1f !\\22}~\\7f\\5c\\0a\\ff\"\n",
-    },
-    Row {
-        text: LOCAL_DESCRIPTOR,
-        slack: 0,
-        reports: &[LOCAL_DESCRIPTOR],
-        front: FRONT,
-        flags: OBSERVED,
-        descriptors: "descriptors 206012 001250\n",
-        subsets: "subset\n001250 5\n",
-    },
-    Row {
-        text: EDITION_3,
-        slack: 1,
-        reports: &[EDITION_3_CANONICAL],
-        front: EDITION_3_FRONT,
-        flags: "local1 00\nflags observed\n",
-        descriptors: IN_SEQUENCES,
-        subsets: STATION,
-    },
-];
-
-/// Compressed messages.
-const PACKED: &[Row<'static>] = &[
-    Row {
-        text: COMPRESSED_PAIR,
-        slack: 0,
-        reports: &[SEQUENCES, MISSING_TEMPERATURE],
-        front: FRONT,
-        flags: COMPRESSED,
-        descriptors: IN_SEQUENCES,
-        subsets: STATION_AND_MISSING,
-    },
-    Row {
-        text: COMPRESSED_INCREMENTS,
-        slack: 0,
-        reports: &[SEQUENCES, WARMER],
-        front: FRONT,
-        flags: COMPRESSED,
-        descriptors: IN_SEQUENCES,
-        subsets: STATION_AND_WARMER,
-    },
-    Row {
-        text: COMPRESSED_FACTOR,
-        slack: 0,
-        reports: &[DELAYED_COUNT_0, DELAYED_COUNT_0],
-        front: FRONT,
-        flags: COMPRESSED,
-        descriptors: DELAYED,
-        subsets: "subset\n031001 0\nsubset\n031001 0\n",
-    },
-    Row {
-        text: COMPRESSED_NOT_A_FACTOR,
-        slack: 0,
-        reports: &[BIT_0, BIT_1],
-        front: FRONT,
-        flags: COMPRESSED,
-        descriptors: "descriptors 031000\n",
-        subsets: "subset\n031000 0\nsubset\n031000 1\n",
-    },
-    Row {
-        text: COMPRESSED_TEXTS,
-        slack: 0,
-        reports: &[FIRST_TEXT, SECOND_TEXT],
-        front: FRONT,
-        flags: COMPRESSED,
-        descriptors: "descriptors 208003 001011\n",
-        subsets: "subset\n001011 \"AB \"\nsubset\n001011 missing\n",
-    },
-    Row {
-        text: NO_COMPRESSED_SUBSETS,
-        slack: 0,
-        reports: &[],
-        front: FRONT,
-        flags: COMPRESSED,
-        descriptors: IN_SEQUENCES,
-        subsets: "",
-    },
-    Row {
-        text: NO_SUBSETS_UNOBSERVED,
-        slack: 0,
-        reports: &[],
-        front: FRONT,
-        flags: "flags compressed\n",
-        descriptors: IN_SEQUENCES,
-        subsets: "",
-    },
-];
-
-/// The listing of a message is this one.
-fn assert_listed(rt: &impl Abort, alloc: Global, message: &Message, wanted: &str) {
-    let listing = text_of(alloc, message).expect(rt, "room");
-    same(rt, wanted, listing.as_slice(), wanted.as_bytes());
+/// The canonical message of a report.
+pub(crate) fn canonical_of(rt: &impl Abort, alloc: Global, report: &Report) -> Vec<u8> {
+    let tables = tables(rt, alloc);
+    canonical(alloc, &tables, report).expect(rt, "room")
 }
 
 /// The reports have these canonical messages.
 fn assert_canonical(rt: &impl Abort, alloc: Global, reports: &[Report], wanted: &[&str]) {
     same(rt, "reports", reports.len(), wanted.len());
-    for (index, text) in wanted.iter().enumerate() {
-        let report = reports.get(index).expect(rt, "report");
+    for (report, text) in reports.iter().zip(wanted) {
         let found = canonical_of(rt, alloc, report);
         assert_octets(rt, alloc, found.as_slice(), text);
     }
 }
 
 /// The octets are read so.
-fn assert_read(rt: &impl Abort, alloc: Global, row: &Row<'_>, listing: &str) {
-    let found = read(rt, alloc, row.text);
-    same(rt, row.text, found.slack_octets, row.slack);
-    assert_listed(rt, alloc, &found.message, listing);
-    let reports = reports_of(rt, alloc, found.message);
-    assert_canonical(rt, alloc, reports.as_slice(), row.reports);
+fn assert_read(rt: &impl Abort, alloc: Global, all: &[u8], row: &Row<'_>) {
+    let tables = tables(rt, alloc);
+    let found = decode(alloc, &tables, all).expect(rt, "a message");
+    same(rt, row.0, found.slack_octets, row.1);
+    let reports = reports(alloc, found.message).expect(rt, "room");
+    assert_canonical(rt, alloc, reports.as_slice(), row.2);
 }
 
 /// The report of this number, which is asked for alone, has this canonical message, and so has the
 /// subset of which no report is built, also where it is put behind other octets.
-pub(crate) fn assert_own(
-    rt: &impl Abort,
-    alloc: Global,
-    found: &View<'_>,
-    number: usize,
-    wanted: &str,
-) {
+fn assert_own(rt: &impl Abort, alloc: Global, found: &View<'_>, number: usize, wanted: &str) {
     assert!(rt; 1 <= number && number <= found.count());
     let report = found.report(alloc, number).expect(rt, "room");
     let own = canonical_of_read(alloc, &report).expect(rt, "room");
@@ -454,6 +143,42 @@ fn assert_owns(rt: &impl Abort, alloc: Global, found: &View<'_>, wanted: &[&str]
     }
 }
 
+/// What octets are viewed as.
+fn viewed<'a>(rt: &impl Abort, alloc: Global, all: &'a [u8]) -> View<'a> {
+    let tables = tables(rt, alloc);
+    view(alloc, &tables, all).expect(rt, "a view")
+}
+
+/// The octets are read and viewed so.
+fn assert_row(rt: &impl Abort, alloc: Global, row: &Row<'_>) {
+    let all = octets(rt, alloc, row.0);
+    assert_read(rt, alloc, all.as_slice(), row);
+    let found = viewed(rt, alloc, all.as_slice());
+    same(rt, row.0, found.slack(), row.1);
+    assert_owns(rt, alloc, &found, row.2);
+}
+
+#[test]
+fn read_and_viewed(rt: HostRuntime) {
+    for row in ROWS {
+        assert_row(&rt, rt.alloc(), row);
+    }
+}
+
+/// The listing of `COMPRESSED_TEXTS`.
+const TEXTS_LISTED: &str = "\
+message
+section1 98 0 0 0 2 0 37 0
+time 2024 1 15 12 0 0
+flags observed compressed
+descriptors 208003 001011
+subset
+001011 \"AB \"
+subset
+001011 missing
+end
+";
+
 /// The subset of this number is added to the lines of a listing, as it is listed alone.
 fn add_subset(
     rt: &impl Abort,
@@ -468,70 +193,21 @@ fn add_subset(
     same(rt, "a subset", listing.ends_with(alone.as_slice()), true);
 }
 
-/// The parts of the listing of a view, each added to those before it, are these octets.
-fn assert_parts(rt: &impl Abort, alloc: Global, found: &View<'_>, wanted: &str) {
-    let mut listing = heading_of_view(alloc, found).expect(rt, "room");
-    for number in 1..=found.count() {
-        add_subset(rt, alloc, found, number, &mut listing);
-    }
-    listing.extend_from_slice(end_text()).expect(rt, "room");
-    same(rt, wanted, listing.as_slice(), wanted.as_bytes());
-}
-
-/// A view is so.
-fn assert_view(rt: &impl Abort, alloc: Global, found: &View<'_>, row: &Row<'_>, listing: &str) {
-    same(rt, row.text, found.slack(), row.slack);
-    assert_owns(rt, alloc, found, row.reports);
-    assert_parts(rt, alloc, found, listing);
-}
-
-/// What octets are viewed as.
-pub(crate) fn viewed<'a>(rt: &impl Abort, alloc: Global, all: &'a [u8]) -> View<'a> {
-    let tables = tables(rt, alloc, TABLE_D);
-    view(alloc, &tables, all).expect(rt, "a view")
-}
-
-/// The octets are viewed so.
-fn assert_viewed(rt: &impl Abort, alloc: Global, row: &Row<'_>, listing: &str) {
-    let all = octets(rt, alloc, row.text);
-    assert_view(rt, alloc, &viewed(rt, alloc, all.as_slice()), row, listing);
-}
-
-/// The listing of a row.
-fn listing_of(rt: &impl Abort, alloc: Global, row: &Row<'_>) -> String {
-    format!(in alloc;
-        "{}{}{}{}end\n",
-        row.front, row.flags, row.descriptors, row.subsets
-    )
-    .expect(rt, "room")
-}
-
-/// The octets are read and viewed so.
-fn assert_row(rt: &impl Abort, alloc: Global, row: &Row<'_>) {
-    let listing = listing_of(rt, alloc, row);
-    assert_read(rt, alloc, row, listing.as_str());
-    assert_viewed(rt, alloc, row, listing.as_str());
-}
-
 #[test]
-fn read_and_viewed(rt: HostRuntime) {
-    for row in PLAIN {
-        assert_row(&rt, rt.alloc(), row);
+fn listed_part_by_part(rt: HostRuntime) {
+    let all = octets(&rt, rt.alloc(), COMPRESSED_TEXTS);
+    let found = viewed(&rt, rt.alloc(), all.as_slice());
+    let mut listing = heading_of_view(rt.alloc(), &found).expect(&rt, "room");
+    for number in 1..3 {
+        add_subset(&rt, rt.alloc(), &found, number, &mut listing);
     }
-}
-
-#[test]
-fn others_read_and_viewed(rt: HostRuntime) {
-    for row in OTHERS {
-        assert_row(&rt, rt.alloc(), row);
-    }
-}
-
-#[test]
-fn compressed_read_and_viewed(rt: HostRuntime) {
-    for row in PACKED {
-        assert_row(&rt, rt.alloc(), row);
-    }
+    listing.extend_from_slice(end_text()).expect(&rt, "room");
+    same(
+        &rt,
+        TEXTS_LISTED,
+        listing.as_slice(),
+        TEXTS_LISTED.as_bytes(),
+    );
 }
 
 /// Octets of one report, and its canonical message: itself, or what has nothing in what is free.

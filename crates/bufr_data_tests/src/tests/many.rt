@@ -1,0 +1,66 @@
+//! A thousand subsets of thirty fields: want of memory meets every contract, so each is compared.
+
+use super::index::indexed;
+use super::same;
+use super::samples::{Descriptors, octets_of, read, template};
+use bufr_bits::BitSink;
+use bufr_data::{Subset, write_subsets};
+use std::alloc::Global;
+use std::process::Abort;
+
+/// Thirty temperatures.
+const THIRTY: Descriptors = &[(1, 1, 30), (0, 12, 101)];
+
+/// The plain octets of the subsets.
+fn plain_octets(rt: &impl Abort, alloc: Global) -> Vec<u8> {
+    let mut plain = BitSink::new(alloc);
+    for subset in 0u64..1000 {
+        for field in 0u64..30 {
+            plain.put(16, 100 * field + subset).expect(rt, "room");
+        }
+    }
+    octets_of(plain)
+}
+
+/// The octets of subsets.
+fn written(rt: &impl Abort, alloc: Global, compressed: bool, subsets: &[Subset]) -> Vec<u8> {
+    let template = template(rt, alloc, THIRTY);
+    let mut sink = BitSink::new(alloc);
+    write_subsets(alloc, &template, compressed, subsets, &mut sink).expect(rt, "octets");
+    octets_of(sink)
+}
+
+/// Each subset that is asked for is the one that was read.
+fn assert_each(
+    rt: &impl Abort,
+    alloc: Global,
+    compressed: bool,
+    octets: &[u8],
+    place: u128,
+    subsets: &[Subset],
+) {
+    let index = indexed(rt, alloc, THIRTY, compressed, 1000, octets, place);
+    let mut number = 1;
+    for wanted in subsets {
+        assert!(rt; 1 <= number && number <= index.count());
+        let found = index.subset(alloc, number).expect(rt, "room");
+        same(rt, &found, wanted);
+        number = number.saturating_add(1);
+    }
+}
+
+#[test]
+fn thousand_subsets_of_thirty_fields(rt: HostRuntime) {
+    let alloc = rt.alloc();
+    let plain = plain_octets(&rt, alloc);
+    let subsets = read(&rt, alloc, THIRTY, false, 1000, &plain);
+    let again = written(&rt, alloc, false, subsets.as_slice());
+    same(&rt, again.as_slice(), plain.as_slice());
+    assert_each(&rt, alloc, false, &plain, 480_000, subsets.as_slice());
+    // for each field 16 bits, 6 bits, and 10 bits for each subset, up to 999 above the least
+    let columns = written(&rt, alloc, true, subsets.as_slice());
+    same(&rt, columns.len(), (30 * (16 + 6 + 10 * 1000) + 7) / 8);
+    let again = read(&rt, alloc, THIRTY, true, 1000, &columns);
+    same(&rt, &again, &subsets);
+    assert_each(&rt, alloc, true, &columns, 300_660, subsets.as_slice());
+}

@@ -1,8 +1,0 @@
--- For `assert_repeats`: what its loop keeps.
-use Rattle.std.proofs.Common.{◌≡◌, false}
-use Rattle.bufr_expand.specs.Walks.{waits}
-use Rattle.bufr_expand_tests.proofs.tests.large.assert_repeats.Given as goal
-
--- the walk waits for no number
-abbrev pub invariant-loop : goal.invariant-loop
-invariant-loop g l = waits l.walk ≡ false
