@@ -179,28 +179,3 @@ fn write_all(rt: &impl Abort, alloc: Global) {
 fn subsets_written(rt: HostRuntime) {
     write_all(&rt, rt.alloc());
 }
-
-/// Octets put behind the one of a begun sink; after a refusal it has that one alone.
-fn put(rt: &impl Abort, alloc: Global, octets: &[u8]) -> Vec<u8> {
-    let mut sink = begun(rt, alloc);
-    repeated!(rt, sink.put_bytes(octets), same(rt, sink.len_bits(), 8));
-    octets_of(sink)
-}
-
-/// The octets put are taken; after a refusal none is taken.
-fn put_and_take(rt: &impl Abort, alloc: Global) {
-    let written = put(rt, alloc, b"0123456789ABCDEF");
-    let mut reader = BitReader::new(&written);
-    let taken = repeated!(
-        rt,
-        reader.take_bytes(alloc, 17),
-        same(rt, reader.place(), 0)
-    );
-    let octets = taken.expect(rt, "enough bits");
-    same(rt, octets.as_slice(), b"\xEE0123456789ABCDEF".as_slice());
-}
-
-#[test]
-fn bits_put_and_taken(rt: HostRuntime) {
-    put_and_take(&rt, rt.alloc());
-}

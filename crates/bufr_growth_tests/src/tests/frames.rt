@@ -5,7 +5,7 @@ ghost use Rattle.std.specs.Prelude.{◌+◌, ◌<◌, ◌^◌, length};
 use crate::tests::refusals::repeated;
 use crate::tests::same;
 use crate::tests::samples::SEQUENCES;
-use bufr_frame::{Found, Framer, LentFrame, Look};
+use bufr_frame::{Found, Framer};
 use std::alloc::Global;
 use std::process::Abort;
 
@@ -71,41 +71,10 @@ fn pieces_taken_in(rt: HostRuntime) {
     take_in(&rt, rt.alloc());
 }
 
-/// A look at a piece, which leaves the framer as it is, and so does a refused one.
-fn looked(rt: &impl Abort, framer: &Framer, piece: &[u8]) -> Look {
-    let had = before(rt, framer, piece);
-    let look = repeated!(rt, framer.look(piece), same(rt, standing(framer), had));
-    same(rt, standing(framer), had);
-    look
-}
-
-/// The rest of a message, and then the stream's end, are looked at, and what was seen is settled.
-fn look_twice(rt: &impl Abort, alloc: Global) {
-    let mut framer = Framer::new(alloc);
-    feed(rt, &mut framer, &SEQUENCES[..40], &[]);
-    let look = looked(rt, &framer, &SEQUENCES[40..]);
-    assert_found(rt, &framer.settle(look), &[0]);
-    let look = repeated!(rt, framer.look_end());
-    assert_found(rt, &framer.settle(look), &[]);
-}
-
-#[test]
-fn pieces_looked_at(rt: HostRuntime) {
-    look_twice(&rt, rt.alloc());
-}
-
 /// The place and the octets of a frame that was handed out.
 fn parts_of(found: &Option<Found>) -> Option<Frame<'_>> {
     match found {
         Some(frame) => Some((frame.place, frame.bytes.as_slice())),
-        None => None,
-    }
-}
-
-/// The place and the octets of a frame that was lent.
-fn parts_lent<'a>(found: &'a Option<LentFrame<'_>>) -> Option<Frame<'a>> {
-    match found {
-        Some(frame) => Some((frame.place(), frame.as_slice())),
         None => None,
     }
 }
@@ -119,20 +88,8 @@ fn take(rt: &impl Abort, framer: &mut Framer, piece: &[u8], wanted: Option<Frame
     same(rt, taken.rest.len(), 0);
 }
 
-/// The same of a frame that may be lent.
-fn lend(rt: &impl Abort, framer: &mut Framer, piece: &[u8], wanted: Option<Frame<'_>>) {
-    let had = before(rt, framer, piece);
-    let next = repeated!(
-        rt,
-        framer.next_frame(piece),
-        same(rt, standing(framer), had)
-    );
-    same(rt, parts_lent(&next.found), wanted);
-    same(rt, next.rest.len(), 0);
-}
-
 /// A stream is taken in piece by piece, each with its message, if it brings one.
-fn assert_one_by_one(rt: &impl Abort, alloc: Global, lends: bool) {
+fn take_one_by_one(rt: &impl Abort, alloc: Global) {
     let pieces = [
         (&SEQUENCES[..40], None),
         (&SEQUENCES[40..], Some((0, SEQUENCES))),
@@ -142,21 +99,12 @@ fn assert_one_by_one(rt: &impl Abort, alloc: Global, lends: bool) {
     ];
     let mut framer = Framer::new(alloc);
     for (piece, wanted) in pieces {
-        if lends {
-            lend(rt, &mut framer, piece, wanted);
-        } else {
-            take(rt, &mut framer, piece, wanted);
-        }
+        take(rt, &mut framer, piece, wanted);
     }
     end(rt, &mut framer, &[136]);
 }
 
 #[test]
 fn frames_taken_one_by_one(rt: HostRuntime) {
-    assert_one_by_one(&rt, rt.alloc(), false);
-}
-
-#[test]
-fn frames_lent_one_by_one(rt: HostRuntime) {
-    assert_one_by_one(&rt, rt.alloc(), true);
+    take_one_by_one(&rt, rt.alloc());
 }

@@ -1,19 +1,14 @@
 //! Messages, reports and listings.
 
-ghost use Rattle.std.specs.Prelude.{◌≤◌, length};
-
 use crate::tests::refusals::{assert_refused, repeated};
 use crate::tests::same;
 use crate::tests::samples::{
-    COMPRESSED_PAIR, COMPRESSED_TEXTS, COUNT_0, COUNT_1, EDITION_3, LOCAL_OCTETS,
-    MISSING_TEMPERATURE, SEQUENCES, SEQUENCES_LISTED, UNEQUAL_COUNTS, room, tables,
+    COMPRESSED_PAIR, COMPRESSED_TEXTS, COUNT_0, COUNT_1, LOCAL_OCTETS, MISSING_TEMPERATURE,
+    SEQUENCES, TEXTS_LISTED, UNEQUAL_COUNTS, room, tables,
 };
 use bufr_bits::IntoWrite;
 use bufr_message::listing::{ListingWriteFault, text_of, write_message};
-use bufr_message::{
-    Decoded, Field, Items, Message, OutOfMemory, Report, Templates, View, canonical, decode,
-    encode, reports,
-};
+use bufr_message::{Decoded, Message, Report, canonical, decode, encode, reports};
 use bufr_tables::Tables;
 use std::alloc::Global;
 use std::process::Abort;
@@ -42,22 +37,12 @@ fn comes_back(rt: &impl Abort, alloc: Global, tables: &Tables, octets: &[u8]) {
     assert_written(rt, alloc, tables, &found.message, octets);
 }
 
-/// A message of one subset, of the year 2024, is read, with one octet of slack.
-fn assert_edition_3(rt: &impl Abort, alloc: Global, tables: &Tables) {
-    let found = decoded(rt, alloc, tables, EDITION_3);
-    let message = &found.message;
-    let told = (found.slack_octets, message.head.year);
-    same(rt, told, (1, 2024));
-    same(rt, message.subsets.len(), 1);
-}
-
 /// Messages are read and written.
 fn all_read(rt: &impl Abort, alloc: Global) {
     let tables = tables(rt, alloc);
     for octets in [SEQUENCES, COMPRESSED_PAIR, LOCAL_OCTETS] {
         comes_back(rt, alloc, &tables, octets);
     }
-    assert_edition_3(rt, alloc, &tables);
 }
 
 #[test]
@@ -107,19 +92,6 @@ fn reports_of_subsets(rt: HostRuntime) {
     all_parted(&rt, rt.alloc());
 }
 
-/// A message's listing ends so.
-fn assert_ends_with(rt: &impl Abort, alloc: Global, message: &Message, end: &[u8]) {
-    let listed = repeated!(rt, text_of(alloc, message));
-    assert!(rt; listed.ends_with(end));
-}
-
-/// Compressed texts are listed.
-fn list_texts(rt: &impl Abort, alloc: Global, tables: &Tables) {
-    let found = decoded(rt, alloc, tables, COMPRESSED_TEXTS);
-    let end = b"subset\n001011 \"ABC\"\nsubset\n001011 missing\nend\n";
-    assert_ends_with(rt, alloc, &found.message, end);
-}
-
 /// What writing the listing of a message to a fresh writer with room answers, and what it took.
 fn listed(
     rt: &impl Abort,
@@ -146,81 +118,16 @@ fn assert_listed(rt: &impl Abort, alloc: Global, message: &Message, wanted: &[u8
     }
 }
 
-/// The listing of the message is written.
-fn list_one(rt: &impl Abort, alloc: Global, tables: &Tables) {
-    let found = decoded(rt, alloc, tables, SEQUENCES);
-    assert_listed(rt, alloc, &found.message, SEQUENCES_LISTED);
-}
-
-/// Messages are listed.
-fn all_listed(rt: &impl Abort, alloc: Global) {
+/// The listing of the message is made, and written.
+fn list_one(rt: &impl Abort, alloc: Global) {
     let tables = tables(rt, alloc);
-    list_texts(rt, alloc, &tables);
-    list_one(rt, alloc, &tables);
+    let found = decoded(rt, alloc, &tables, COMPRESSED_TEXTS);
+    let listing = repeated!(rt, text_of(alloc, &found.message));
+    same(rt, listing.as_slice(), TEXTS_LISTED);
+    assert_listed(rt, alloc, &found.message, TEXTS_LISTED);
 }
 
 #[test]
 fn messages_listed(rt: HostRuntime) {
-    all_listed(&rt, rt.alloc());
-}
-
-/// The fields of the first subset of a view, one after another.
-fn fields_of(alloc: Global, view: &View<'_>) -> Result<Items<Field>, OutOfMemory>
-    requires { 1 ≤ length view.now.message.subsets }
-{
-    match view.fields(alloc, 1) {
-        Ok(fields) => fields.rest(alloc),
-        Err(fault) => Err(fault),
-    }
-}
-
-/// There are eight fields, and the last is 273.15 K.
-fn assert_last(rt: &impl Abort, fields: &[Field]) {
-    same(rt, fields.len(), 8);
-    let last = fields.get(7).expect(rt, "a field");
-    let value = last.value().expect(rt, "a number");
-    same(rt, value.units, 27_315);
-}
-
-/// The fields of the first subset of a view are those of the message.
-fn assert_fields(rt: &impl Abort, alloc: Global, view: &View<'_>) {
-    assert!(rt; view.count() >= 1);
-    let fields = repeated!(rt, fields_of(alloc, view));
-    assert_last(rt, fields.as_slice());
-}
-
-/// The message is viewed under templates that are kept.
-fn assert_viewed(rt: &impl Abort, alloc: Global, templates: &mut Templates<'_>) {
-    let view = repeated!(rt, templates.view(alloc, SEQUENCES));
-    assert_fields(rt, alloc, &view);
-    assert_put(rt, alloc, &view);
-}
-
-/// The canonical message of the first report of a view is put behind other octets.
-fn assert_put(rt: &impl Abort, alloc: Global, view: &View<'_>) {
-    assert!(rt; view.count() >= 1);
-    let mut out = repeated!(rt, Vec::from_slice(alloc, b"archive"));
-    same(
-        rt,
-        repeated!(rt, view.put_canonical(alloc, 1, &mut out)),
-        true,
-    );
-    same(
-        rt,
-        out.as_slice().strip_prefix(b"archive".as_slice()),
-        Some(SEQUENCES),
-    );
-}
-
-/// The message is viewed twice.
-fn view_twice(rt: &impl Abort, alloc: Global) {
-    let tables = tables(rt, alloc);
-    let mut templates = Templates::new(alloc, &tables);
-    assert_viewed(rt, alloc, &mut templates);
-    assert_viewed(rt, alloc, &mut templates);
-}
-
-#[test]
-fn messages_viewed_by_kept_templates(rt: HostRuntime) {
-    view_twice(&rt, rt.alloc());
+    list_one(&rt, rt.alloc());
 }

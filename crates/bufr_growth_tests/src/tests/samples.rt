@@ -35,23 +35,6 @@ pub(super) const SEQUENCES: &[u8] = b"BUFR\x00\x00\x3E\x04\
 \x00\x00\x0D\x00\x14\xC0\x3F\x40\x9E\xC0\x1A\xAC\xC0\
 7777";
 
-/// The listing of the first.
-pub(super) const SEQUENCES_LISTED: &[u8] = b"message\n\
-section1 98 0 0 0 2 0 37 0\n\
-time 2024 1 15 12 0 0\n\
-flags observed\n\
-descriptors 301001 301011 301012 012101\n\
-subset\n\
-001001 10\n\
-001002 384\n\
-004001 2024\n\
-004002 1\n\
-004003 15\n\
-004004 12\n\
-004005 0\n\
-012101 273.15\n\
-end\n";
-
 /// The first, compressed, with a second subset whose temperature is missing: 68 octets.
 pub(super) const COMPRESSED_PAIR: &[u8] = b"BUFR\x00\x00\x44\x04\
 \x00\x00\x16\x00\x00\x62\x00\x00\x00\x00\x00\x02\x00\x25\x00\x07\xE8\x01\x0F\x0C\x00\x00\
@@ -94,19 +77,24 @@ pub(super) const COMPRESSED_TEXTS: &[u8] = b"BUFR\x00\x00\x3B\x04\
 \x00\x00\x0E\x00\x00\x00\x00\x0D\x05\x09\x0F\xFF\xFF\xFC\
 7777";
 
+/// The listing of these.
+pub(super) const TEXTS_LISTED: &[u8] = b"message\n\
+section1 98 0 0 0 2 0 37 0\n\
+time 2024 1 15 12 0 0\n\
+flags observed compressed\n\
+descriptors 208003 001011\n\
+subset\n\
+001011 \"ABC\"\n\
+subset\n\
+001011 missing\n\
+end\n";
+
 /// Octets for local use, a section 2 and a text.
 pub(super) const LOCAL_OCTETS: &[u8] = b"BUFR\x00\x00\x3D\x04\
 \x00\x00\x18\x00\x00\x62\x00\x00\x00\x80\x00\x02\x00\x25\x00\x07\xE8\x01\x0F\x0C\x00\x00\xAB\xCD\
 \x00\x00\x06\x00\x01\x02\
 \x00\x00\x0B\x00\x00\x01\x80\x88\x04\x01\x0B\
 \x00\x00\x08\x00\x41\x22\x5C\x0A\
-7777";
-
-/// A message of edition 3: 60 octets.
-pub(super) const EDITION_3: &[u8] = b"BUFR\x00\x00\x3C\x03\
-\x00\x00\x12\x00\x00\x62\x00\x00\x00\x02\x0D\x00\x18\x01\x0F\x0C\x00\x00\
-\x00\x00\x10\x00\x00\x01\x80\xC1\x01\xC1\x0B\xC1\x0C\x0C\x65\x00\
-\x00\x00\x0E\x00\x14\xC0\x3F\x40\x9E\xC0\x1A\xAC\xC0\x00\
 7777";
 
 /// The tables of the tests.
