@@ -2,6 +2,7 @@ use bufr_answers::Items;
 use bufr_keys::{Key, Moment, Station};
 use bufr_shelves::*;
 use std::alloc::Global;
+use std::cmp::Ordering;
 use std::fmt::Debug;
 use std::process::Abort;
 
@@ -197,6 +198,8 @@ fn octets_and_faults(rt: HostRuntime) {
     let bytes = octets(&rt, rt.alloc(), b"abc");
     let copied = bytes.clone().expect(&rt, "room");
     assert!(rt; copied == bytes);
+    let longer = octets(&rt, rt.alloc(), b"abcd");
+    same(&rt, bytes.partial_cmp(&longer), Some(Ordering::Less));
     let bytes = bytes.into_vec();
     same(&rt, bytes.as_slice(), b"abc".as_slice());
     let said = format!(in rt.alloc(); "{}", JoinFault::OutOfMemory).expect(&rt, "room");
