@@ -1,5 +1,5 @@
-//! Depots over both shelves. Octets and answers are typed from the rules of the format and of
-//! depots.
+//! Archives and depots over both shelves. Octets and answers are typed from the rules of the format,
+//! of archives and of depots.
 use bufr_answers::Items;
 use bufr_archive::{MapShelf, Shelf, SortedShelf};
 use bufr_bits::device::IntoWrite;
@@ -9,8 +9,9 @@ use std::alloc::Global;
 use std::fmt::Debug;
 use std::process::Abort;
 
+mod archives;
+mod faults;
 mod large;
-mod random;
 
 const TABLE_B: &str = "\
 FXY,ElementName_en,BUFR_Unit,BUFR_Scale,BUFR_ReferenceValue,BUFR_DataWidth_Bits
@@ -21,6 +22,7 @@ FXY,ElementName_en,BUFR_Unit,BUFR_Scale,BUFR_ReferenceValue,BUFR_DataWidth_Bits
 004003,day,d,0,0,6
 004004,hour,h,0,0,5
 004005,minute,min,0,0,6
+004006,second,s,0,0,6
 012101,temperature,K,2,0,16
 ";
 
@@ -51,6 +53,14 @@ const UPDATED: [u8; 62] = [
     0x00, 0x14, 0xC0, 0x3F, 0x40, 0x9E, 0xC0, 0x1A, 0xC2, 0x00, 0x37, 0x37, 0x37, 0x37,
 ];
 
+/// The first in two pieces: 30 octets and 32.
+const FRONT: &[u8] = b"BUFR\x00\x00\x3E\x04\
+\x00\x00\x16\x00\x00\x62\x00\x00\x00\x00\x00\x02\x00\x25\x00\x07\xE8\x01\x0F\x0C\x00\x00";
+
+const BACK: &[u8] = b"\x00\x00\x0F\x00\x00\x01\x80\xC1\x01\xC1\x0B\xC1\x0C\x0C\x65\
+\x00\x00\x0D\x00\x14\xC0\x3F\x40\x9E\xC0\x1A\xAC\xC0\
+7777";
+
 /// The first with month 13, which has no key.
 const MONTH_13: [u8; 62] = [
     0x42, 0x55, 0x46, 0x52, 0x00, 0x00, 0x3E, 0x04, 0x00, 0x00, 0x16, 0x00, 0x00, 0x62, 0x00, 0x00,
@@ -68,12 +78,9 @@ const EDITION_5: [u8; 62] = [
 ];
 
 /// What a step does.
-#[derive(Clone, Copy)]
 enum Done {
     /// The stream of a slot goes on by these octets.
     Feed(usize, &'static [u8]),
-    /// The same by some of these octets, from one place to another.
-    Part(usize, &'static [u8], usize, usize),
     /// The stream of a slot ends.
     End(usize),
     /// From a slot into another.
@@ -84,10 +91,9 @@ enum Done {
     Copy(usize, usize),
 }
 
-use Done::{Copy, End, Feed, Merge, Part, Transfer};
+use Done::{Copy, End, Feed, Merge, Transfer};
 
 /// What a step answers.
-#[derive(Clone, Copy)]
 enum Told {
     /// Messages, refused frames, and reports that changed what was kept, with a piece.
     Fed(u128, u128, u128),
@@ -121,41 +127,47 @@ fn feed(rt: &impl Abort, alloc: Global, slot: usize, octets: &[u8]) -> Step {
 }
 
 /// The step that does this.
-fn step_of(rt: &impl Abort, alloc: Global, done: Done) -> Step {
+fn step_of(rt: &impl Abort, alloc: Global, done: &Done) -> Step {
     match done {
-        Feed(slot, octets) => feed(rt, alloc, slot, octets),
-        Part(slot, octets, from, to) => {
-            let part = octets.get(from..to).expect(rt, "a part");
-            feed(rt, alloc, slot, part)
-        }
-        End(slot) => Step::End { slot },
-        Merge(from, into) => Step::Merge { from, into },
-        Transfer(from, into) => Step::Transfer { from, into },
-        Copy(from, into) => Step::Copy { from, into },
+        Feed(slot, octets) => feed(rt, alloc, *slot, *octets),
+        End(slot) => Step::End { slot: *slot },
+        Merge(from, into) => Step::Merge {
+            from: *from,
+            into: *into,
+        },
+        Transfer(from, into) => Step::Transfer {
+            from: *from,
+            into: *into,
+        },
+        Copy(from, into) => Step::Copy {
+            from: *from,
+            into: *into,
+        },
     }
 }
 
 /// The answer that tells this.
-fn answer_of(told: Told) -> Result<Answer, StepFault> {
+fn answer_of(told: &Told) -> Result<Answer, StepFault> {
     match told {
         Fed(messages, refused, changed) => Ok(Answer::Fed {
-            messages,
-            refused,
-            changed,
+            messages: *messages,
+            refused: *refused,
+            changed: *changed,
         }),
         Ended(messages, refused, changed) => Ok(Answer::Ended {
-            messages,
-            refused,
-            changed,
+            messages: *messages,
+            refused: *refused,
+            changed: *changed,
         }),
         Joined => Ok(Answer::Joined),
-        NoSlot(slot) => Err(StepFault::NoSlot(slot)),
+        NoSlot(slot) => Err(StepFault::NoSlot(*slot)),
     }
 }
 
-/// The step is answered so.
-fn does<S: Shelf>(rt: &impl Abort, depot: &mut Depot<S>, step: &Step, told: Told) {
-    same(rt, depot.step(step), answer_of(told));
+/// A step is answered so.
+fn does<S: Shelf>(rt: &impl Abort, alloc: Global, depot: &mut Depot<S>, done: &Done, told: &Told) {
+    let step = step_of(rt, alloc, done);
+    same(rt, depot.step(&step), answer_of(told));
 }
 
 /// A slot has the archive of this text.
@@ -200,60 +212,16 @@ fn one_by_one<S: Shelf>(
 ) {
     let mut depot: Depot<S> = Depot::new(alloc, tables, slots).expect(rt, "room");
     for (done, told, written) in rows {
-        let step = step_of(rt, alloc, *done);
-        does(rt, &mut depot, &step, *told);
+        does(rt, alloc, &mut depot, done, told);
         assert_all_write(rt, alloc, &depot, *written);
     }
-}
-
-/// The steps of rows.
-fn steps_of(rt: &impl Abort, alloc: Global, rows: &[Row]) -> Vec<Step> {
-    let mut steps = Vec::new(alloc);
-    for (done, _, _) in rows {
-        steps.push(step_of(rt, alloc, *done)).expect(rt, "room");
-    }
-    steps
-}
-
-/// Steps are answered as the rows have it.
-fn assert_answers(rt: &impl Abort, answers: &[Result<Answer, StepFault>], rows: &[Row]) {
-    same(rt, answers.len(), rows.len());
-    for (answer, (_, told, _)) in answers.iter().zip(rows) {
-        same(rt, *answer, answer_of(*told));
-    }
-}
-
-/// The same steps in one run, and what is written of slots in the end.
-fn at_once<S: Shelf>(
-    rt: &impl Abort,
-    alloc: Global,
-    tables: &Tables,
-    slots: usize,
-    steps: &[Step],
-    rows: &[Row],
-) {
-    let mut depot: Depot<S> = Depot::new(alloc, tables, slots).expect(rt, "room");
-    let answers = depot.run(steps).expect(rt, "room");
-    assert_answers(rt, &answers, rows);
-    let (_, _, written) = rows.last().expect(rt, "a row");
-    assert_all_write(rt, alloc, &depot, *written);
-}
-
-/// The rows hold over both shelves, step by step and in one run.
-fn assert_rows(rt: &impl Abort, alloc: Global, slots: usize, rows: &[Row]) {
-    let tables = tables(rt, alloc);
-    one_by_one::<MapShelf>(rt, alloc, &tables, slots, rows);
-    one_by_one::<SortedShelf>(rt, alloc, &tables, slots, rows);
-    let steps = steps_of(rt, alloc, rows);
-    at_once::<MapShelf>(rt, alloc, &tables, slots, &steps, rows);
-    at_once::<SortedShelf>(rt, alloc, &tables, slots, &steps, rows);
 }
 
 /// The first message in two pieces, and what the other slot takes in; the update, and what both
 /// slots then hold.
 const DEPOT: &[Row] = &[
-    (Part(0, &ROW_1, 0, 30), Fed(0, 0, 0), &[]),
-    (Part(0, &ROW_1, 30, 62), Fed(1, 0, 1), &[]),
+    (Feed(0, FRONT), Fed(0, 0, 0), &[]),
+    (Feed(0, BACK), Fed(1, 0, 1), &[]),
     (End(0), Ended(0, 0, 0), &[(1, &[])]),
     (Transfer(0, 1), Joined, &[(1, &ROW_1)]),
     (Feed(1, &UPDATED), Fed(1, 0, 1), &[]),
@@ -262,24 +230,6 @@ const DEPOT: &[Row] = &[
     (Copy(0, 1), Joined, &[(0, &UPDATED), (1, &UPDATED)]),
     (End(9), NoSlot(9), &[]),
 ];
-
-#[test]
-fn depot(rt: HostRuntime) {
-    assert_rows(&rt, rt.alloc(), 2, DEPOT);
-}
-
-/// A run answers each step and does them in turn.
-const RUN: &[Row] = &[
-    (Feed(0, &ROW_1), Fed(1, 0, 1), &[]),
-    (End(0), Ended(0, 0, 0), &[]),
-    (Transfer(0, 1), Joined, &[]),
-    (End(9), NoSlot(9), &[(1, &ROW_1)]),
-];
-
-#[test]
-fn run_of_steps(rt: HostRuntime) {
-    assert_rows(&rt, rt.alloc(), 2, RUN);
-}
 
 /// A slot that takes in itself stays as it is, reports without key too. Then each kind of step brings
 /// the only report of an archive, which has no key, to another slot, which had nothing.
@@ -293,11 +243,6 @@ const ITSELF: &[Row] = &[
     (Copy(0, 3), Joined, &[(3, &MONTH_13)]),
 ];
 
-#[test]
-fn self_merge(rt: HostRuntime) {
-    assert_rows(&rt, rt.alloc(), 4, ITSELF);
-}
-
 /// The first slot that is not there is named.
 const MISSING: &[Row] = &[
     (Feed(1, &ROW_1), NoSlot(1), &[]),
@@ -309,11 +254,6 @@ const MISSING: &[Row] = &[
     (Copy(7, 8), NoSlot(7), &[]),
     (Copy(0, 8), NoSlot(8), &[(0, &[])]),
 ];
-
-#[test]
-fn no_slot(rt: HostRuntime) {
-    assert_rows(&rt, rt.alloc(), 1, MISSING);
-}
 
 /// A frame that spells no message is counted, also one that only an end brings; a message that an
 /// end brings is added with it.
@@ -329,38 +269,24 @@ const FRAMES: &[Row] = &[
     (Feed(0, &ROW_1), Fed(1, 0, 0), &[(0, &ROW_1)]),
 ];
 
-#[test]
-fn frames_of_the_end(rt: HostRuntime) {
-    assert_rows(&rt, rt.alloc(), 1, FRAMES);
-}
-
 /// A thousand slots, the last of which takes in a message.
 const LAST: &[Row] = &[(Feed(999, &ROW_1), Fed(1, 0, 1), &[(0, &[]), (999, &ROW_1)])];
 
-#[test]
-fn thousand_slots(rt: HostRuntime) {
-    assert_rows(&rt, rt.alloc(), 1000, LAST);
-}
-
-/// Faults, and what is printed of them.
-const PRINTED: &[(StepFault, &str)] = &[
-    (StepFault::NoSlot(9), "P1 NoSlot 9"),
-    (StepFault::StreamTooLong, "P2 StreamTooLong"),
-    (
-        StepFault::OutOfMemory { joined: 3 },
-        "out of memory, 3 reports joined",
-    ),
+/// How many slots there are, and the steps.
+const DEPOTS: &[(usize, &[Row])] = &[
+    (2, DEPOT),
+    (4, ITSELF),
+    (1, MISSING),
+    (1, FRAMES),
+    (1000, LAST),
 ];
 
-/// This is printed of a fault.
-fn assert_prints(rt: &impl Abort, alloc: Global, fault: StepFault, text: &str) {
-    let said = format!(in alloc; "{fault}").expect(rt, "room");
-    same(rt, said.as_str(), text);
-}
-
+/// The steps are answered so over both shelves.
 #[test]
-fn texts_of_faults(rt: HostRuntime) {
-    for (fault, text) in PRINTED {
-        assert_prints(&rt, rt.alloc(), *fault, *text);
+fn steps(rt: HostRuntime) {
+    let tables = tables(&rt, rt.alloc());
+    for (slots, rows) in DEPOTS {
+        one_by_one::<MapShelf>(&rt, rt.alloc(), &tables, *slots, *rows);
+        one_by_one::<SortedShelf>(&rt, rt.alloc(), &tables, *slots, *rows);
     }
 }

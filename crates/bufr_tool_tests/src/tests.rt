@@ -1,6 +1,7 @@
 //! What the engines and the commands answer and write. Octets and texts are typed from the rules of
 //! the formats.
 
+mod collecting;
 mod devices;
 mod failing_devices;
 mod samples;

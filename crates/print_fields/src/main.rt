@@ -2,7 +2,7 @@
 #![tactic(auto)]
 
 use bufr_message::{
-    Failure, Field, OutOfMemory, Raw, Refused, TableB, TableD, TableFault, Tables, decode,
+    Failure, Field, Message, OutOfMemory, Raw, Refused, TableB, TableD, TableFault, Tables, decode,
 };
 use std::process::ExitCode;
 use std::{env, fs, io};
@@ -72,24 +72,41 @@ fn print_field(rt: &HostRuntime, field: &Field) -> Result<(), Problem> {
     Ok(())
 }
 
-/// Reads the files that the words of the call name, and prints the fields of the message.
-fn run(rt: &HostRuntime) -> Result<(), Problem> {
-    let alloc = rt.alloc();
-    let words = env::args(rt)?.collect::<Vec<String>>(alloc)?;
-    let [_, b, d, file] = words.as_slice() else {
-        return Err(Problem::Usage);
-    };
-    let elements = TableB::parse(alloc, fs::read(rt, b.as_str())?.as_slice())?;
-    let sequences = TableD::parse(alloc, fs::read(rt, d.as_str())?.as_slice())?;
-    let tables = Tables::new(elements, sequences);
-    let octets = fs::read(rt, file.as_str())?;
-    let decoded = decode(alloc, &tables, octets.as_slice())?;
-    for subset in decoded.message.subsets.as_slice() {
+/// The tables of two files.
+fn tables_of(rt: &HostRuntime, b: &str, d: &str) -> Result<Tables, Problem> {
+    let text = fs::read(rt, b)?;
+    let elements = TableB::parse(rt.alloc(), text.as_slice())?;
+    let text = fs::read(rt, d)?;
+    let sequences = TableD::parse(rt.alloc(), text.as_slice())?;
+    Ok(Tables::new(elements, sequences))
+}
+
+/// The message of a file.
+fn message_of(rt: &HostRuntime, tables: &Tables, file: &str) -> Result<Message, Problem> {
+    let octets = fs::read(rt, file)?;
+    let decoded = decode(rt.alloc(), tables, octets.as_slice())?;
+    Ok(decoded.message)
+}
+
+/// Prints the fields of the message of a file.
+fn print_message(rt: &HostRuntime, tables: &Tables, file: &str) -> Result<(), Problem> {
+    let message = message_of(rt, tables, file)?;
+    for subset in message.subsets.as_slice() {
         for field in subset.fields.as_slice() {
             print_field(rt, field)?;
         }
     }
     Ok(())
+}
+
+/// Reads the files that the words of the call name, and prints the fields of the message.
+fn run(rt: &HostRuntime) -> Result<(), Problem> {
+    let words = env::args(rt)?.collect::<Vec<String>>(rt.alloc())?;
+    let [_, b, d, file] = words.as_slice() else {
+        return Err(Problem::Usage);
+    };
+    let tables = tables_of(rt, b.as_str(), d.as_str())?;
+    print_message(rt, &tables, file.as_str())
 }
 
 fn main(rt: HostRuntime) -> ExitCode {

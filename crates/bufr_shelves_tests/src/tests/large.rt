@@ -92,12 +92,8 @@ fn join_a_thousand<S: Shelf>(rt: &impl Abort, alloc: Global) {
 }
 
 #[test]
-fn thousand_on_a_map_shelf(rt: HostRuntime) {
+fn thousand_joined(rt: HostRuntime) {
     join_a_thousand::<MapShelf>(&rt, rt.alloc());
-}
-
-#[test]
-fn thousand_on_a_sorted_shelf(rt: HostRuntime) {
     join_a_thousand::<SortedShelf>(&rt, rt.alloc());
 }
 
@@ -106,7 +102,13 @@ fn shelve_a_thousand<S: Shelf>(rt: &impl Abort, alloc: Global) {
     let mut entries = Vec::new(alloc);
     for place in 0..1000u32 {
         let number = scattered(place) / 2;
-        let next = entry(rt, alloc, (Some(number as i128), &digits(number)));
+        let key = noon(Some(number as i128));
+        let bytes = octets(rt, alloc, &digits(number));
+        let next = Entry {
+            key,
+            update: 0,
+            bytes,
+        };
         entries.push(next).expect(rt, "room");
     }
     let shelf: S = shelve(alloc, entries).expect(rt, "room");

@@ -2,7 +2,7 @@
 
 use super::samples::{
     CHECKED, COMPRESSED_PAIR, COMPRESSED_PAIR_LISTING, ELEMENTS_ONLY, HEADING, LISTING,
-    MANY_SUBSETS, SEQUENCES, SEQUENCES_LISTING, SUBSET, TWO_FRAMES, joined,
+    MANY_SUBSETS, Part, SEQUENCES, SEQUENCES_LISTING, SUBSET, TWO_FRAMES, joined,
 };
 use super::{Engine, Run, Seen, assert_run, same};
 use bufr_io::{Input, ToolFault};
@@ -70,42 +70,80 @@ fn assert_each_room(
     let _ = assert_run(rt, alloc, run, Ok(counts), text);
 }
 
-/// The output of a message is taken so many octets at a time.
-const WIDTHS: [(&[u8], usize, &[u8]); 4] = [
-    (ELEMENTS_ONLY, 1, LISTING),
-    (COMPRESSED_PAIR, 1, COMPRESSED_PAIR_LISTING),
-    (COMPRESSED_PAIR, 40, COMPRESSED_PAIR_LISTING),
-    (COMPRESSED_PAIR, 10_000, COMPRESSED_PAIR_LISTING),
+/// An engine, its input, how many octets are read and taken at a time, and what is counted and
+/// written.
+type Row = (
+    Engine,
+    &'static [Part<'static>],
+    usize,
+    usize,
+    (u128, u128, u128),
+    &'static [Part<'static>],
+);
+
+/// A listing octet by octet, its lines in parts; the lines of `check`, whose stream is read in
+/// pieces; two messages that are encoded.
+const ROWS: [Row; 6] = [
+    (
+        Engine::Show,
+        &[(ELEMENTS_ONLY, 1)],
+        1000,
+        1,
+        (1, 0, 0),
+        &[(LISTING, 1)],
+    ),
+    (
+        Engine::Show,
+        &[(COMPRESSED_PAIR, 1)],
+        1000,
+        1,
+        (1, 0, 0),
+        &[(COMPRESSED_PAIR_LISTING, 1)],
+    ),
+    (
+        Engine::Show,
+        &[(COMPRESSED_PAIR, 1)],
+        1000,
+        40,
+        (1, 0, 0),
+        &[(COMPRESSED_PAIR_LISTING, 1)],
+    ),
+    (
+        Engine::Show,
+        &[(COMPRESSED_PAIR, 1)],
+        1000,
+        10_000,
+        (1, 0, 0),
+        &[(COMPRESSED_PAIR_LISTING, 1)],
+    ),
+    (
+        Engine::Check,
+        TWO_FRAMES,
+        50,
+        3,
+        (2, 0, 22),
+        &[(CHECKED, 1)],
+    ),
+    (
+        Engine::Encode(false),
+        &[(LISTING, 1), (SEQUENCES_LISTING, 1)],
+        1000,
+        1,
+        (2, 0, 0),
+        &[(ELEMENTS_ONLY, 1), (SEQUENCES, 1)],
+    ),
 ];
 
 #[test]
-fn failing_writer_of_show(rt: HostRuntime) {
-    for (octets, width, text) in WIDTHS {
-        let mut run = Run::new("show", Engine::Show, octets);
+fn failing_writers(rt: HostRuntime) {
+    for (engine, octets, most, width, counts, text) in ROWS {
+        let octets = joined(&rt, rt.alloc(), octets);
+        let text = joined(&rt, rt.alloc(), text);
+        let mut run = Run::new("writer", engine, &octets);
+        run.most = most;
         run.width = width;
-        assert_each_room(&rt, rt.alloc(), run, (1, 0, 0), text);
+        assert_each_room(&rt, rt.alloc(), run, counts, &text);
     }
-}
-
-/// The writer of the lines of `check`, whose stream is read in pieces.
-#[test]
-fn failing_writer_of_check(rt: HostRuntime) {
-    let octets = joined(&rt, rt.alloc(), TWO_FRAMES);
-    let mut run = Run::new("check", Engine::Check, &octets);
-    run.most = 50;
-    run.width = 3;
-    assert_each_room(&rt, rt.alloc(), run, (2, 0, 22), CHECKED);
-}
-
-/// The writer of two messages that are encoded.
-#[test]
-fn failing_writer_of_encode(rt: HostRuntime) {
-    let alloc = rt.alloc();
-    let listing = joined(&rt, alloc, &[(LISTING, 1), (SEQUENCES_LISTING, 1)]);
-    let octets = joined(&rt, alloc, &[(ELEMENTS_ONLY, 1), (SEQUENCES, 1)]);
-    let mut run = Run::new("encode", Engine::Encode(false), &listing);
-    run.width = 1;
-    assert_each_room(&rt, alloc, run, (2, 0, 0), &octets);
 }
 
 /// Rooms of a writer that fails within the first part of the listing, between the parts, within the

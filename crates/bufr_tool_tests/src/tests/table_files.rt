@@ -1,16 +1,16 @@
-//! Files of tables: faults, readers that fail at each place or never end, and thousands of rows.
+//! Files of tables: faults, and readers that fail at each place or never end.
 
 use super::devices::Reader;
 use super::same;
 use super::samples::{TABLE_B, TABLE_D};
 use bufr_io::{Input, ToolFault};
-use bufr_tables::{Column, Element, Fxy, Kind, TableFault, Tables};
+use bufr_tables::{Column, TableFault};
 use bufr_tool::load_tables;
 use std::alloc::Global;
 use std::process::Abort;
 
 /// Loading two texts in so many reads, so many octets a read, whose readers then end or fail, is
-/// told as this. Answers how often each was read.
+/// told as this. Answers how often each was read, and the most octets that a read asked for.
 fn assert_loaded(
     rt: &impl Abort,
     alloc: Global,
@@ -18,17 +18,24 @@ fn assert_loaded(
     b: (&[u8], bool),
     d: (&[u8], bool),
     wanted: Option<ToolFault>,
-) -> (u64, u64) {
+) -> [(u64, usize); 2] {
     let mut b = Reader::new(b.0, 0, most, b.1);
     let mut d = Reader::new(d.0, 0, most, d.1);
     let fault = load_tables(alloc, u64::from(reads), &mut b, &mut d).err();
     same(rt, fault, wanted);
-    (b.reads, d.reads)
+    [(b.reads, b.asked), (d.reads, d.asked)]
+}
+
+/// Tables are loaded by reads that ask for 65,536 octets.
+#[test]
+fn tables_loaded(rt: HostRuntime) {
+    let (b, d) = ((TABLE_B, false), (TABLE_D, false));
+    let [(_, b_asked), (_, d_asked)] = assert_loaded(&rt, rt.alloc(), MANY, b, d, None);
+    same(&rt, (b_asked, d_asked), (65_536, 65_536));
 }
 
 /// Texts of Table B and Table D, and why they can't be loaded.
-const LOADED: [(&[u8], &[u8], Option<ToolFault>); 3] = [
-    (TABLE_B, TABLE_D, None),
+const LOADED: [(&[u8], &[u8], Option<ToolFault>); 2] = [
     (
         TABLE_B,
         b"FXY1,FXY2\n301001,x\n",
@@ -86,54 +93,7 @@ fn endless_tables(rt: HostRuntime) {
     let lines = (lines.as_slice(), false);
     for reads in [0u32, 1, 4, 1000] {
         let found = assert_loaded(&rt, rt.alloc(), (reads, 1), lines, lines, B_ENDLESS);
-        same(&rt, found, (u64::from(reads), 0));
+        let [(b_reads, _), (d_reads, _)] = found;
+        same(&rt, (b_reads, d_reads), (u64::from(reads), 0));
     }
-}
-
-/// Five thousand rows of Table B, of the descriptors with 0 to 4999 as their bits, which are their
-/// reference values; and the sequence 363255 of these descriptors, in as many rows of Table D.
-fn many_rows(rt: &impl Abort, alloc: Global) -> (Vec<u8>, Vec<u8>) {
-    let header = b"FXY,BUFR_Unit,BUFR_Scale,BUFR_ReferenceValue,BUFR_DataWidth_Bits\n".as_slice();
-    let mut b = Vec::from_slice(alloc, header).expect(rt, "room");
-    let mut d = Vec::from_slice(alloc, b"FXY1,FXY2\n".as_slice()).expect(rt, "room");
-    for bits in 0..5000u16 {
-        let fxy = Fxy::from_bits(bits);
-        let row = format!(in alloc; "{fxy},Numeric,0,{bits},9\n").expect(rt, "room");
-        b.extend_from_slice(row.as_bytes()).expect(rt, "room");
-        let row = format!(in alloc; "363255,{fxy}\n").expect(rt, "room");
-        d.extend_from_slice(row.as_bytes()).expect(rt, "room");
-    }
-    (b, d)
-}
-
-/// The tables have each of the five thousand rows: a descriptor's element has the reference value
-/// of its bits, and it is the member at that index.
-fn assert_many_rows(rt: &impl Abort, tables: &Tables) {
-    let members = tables
-        .sequence(Fxy::from_bits(0xFFFF))
-        .expect(rt, "members");
-    same(rt, members.len(), 5000);
-    for bits in 0..5000u16 {
-        let fxy = Fxy::from_bits(bits);
-        let element = Element {
-            kind: Kind::Quantity,
-            scale: 0,
-            reference: i64::from(bits),
-            width: 9,
-        };
-        same(rt, tables.element(fxy), Some(&element));
-        same(rt, members.get(usize::from(bits)), Some(&fxy));
-    }
-}
-
-/// The tables of two files of more than 65,536 octets.
-#[test]
-fn tables_of_thousands_of_rows(rt: HostRuntime) {
-    let (b, d) = many_rows(&rt, rt.alloc());
-    same(&rt, d.len(), 70_010);
-    let mut b = Reader::new(&b, 0, 1_000_000, false);
-    let mut d = Reader::new(&d, 0, 1_000_000, false);
-    let tables = load_tables(rt.alloc(), 10, &mut b, &mut d).expect(&rt, "tables");
-    same(&rt, (b.asked, d.asked), (65_536, 65_536));
-    assert_many_rows(&rt, &tables);
 }
