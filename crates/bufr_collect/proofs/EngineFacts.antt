@@ -30,12 +30,13 @@ use Rattle.bufr_io.specs.declared.input.Pieces.{Pieces}
 use Rattle.bufr_io.specs.Limits.{most_reads}
 use Rattle.bufr_collect.specs.declared.counts.Counts.{Counts}
 use Rattle.bufr_archive.specs.StreamsTold.{all_told}
-use Rattle.bufr_collect.specs.Collected.{frames_of, refused_of, collected_text, collected_tally}
+use Rattle.bufr_io.specs.Refusals.{refused_of}
+use Rattle.bufr_collect.specs.Collected.{frames_of, collected_text, collected_tally}
 use Rattle.bufr_collect.specs.Collected.{AreTextsOf, all_of}
 use Rattle.bufr_collect.specs.Readers.{AreFresh, AreReadAtMost, WereReadOut, EndsAt}
 use Rattle.bufr_collect.specs.Collects.{AllReadOut, StreamsEndAt, Collects, AllArchives}
 use Rattle.bufr_collect.specs.Collects.{ArchivesEndAt, IsNoArchive, Merges}
-use Rattle.bufr_collect.specs.Taking.{EndsEarly, unread, at_piece, at_end, TakesStream}
+use Rattle.bufr_io.specs.Taking.{EndsEarly, unread, at_piece, at_end, TakesStream}
 use Rattle.bufr_collect.specs.Adds.{reports_of_frames, HasAdded, HasAddedSince, AddsStreams}
 use Rattle.bufr_collect.specs.Adds.{ReadsArchive, MergesReaders}
 use Rattle.bufr_collect.specs.Parts.{WritesArchive}

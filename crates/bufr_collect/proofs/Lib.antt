@@ -1,7 +1,6 @@
 -- The proofs of the crate: what readers, frames and streams bring, for the clauses of `run_add` and
 -- `run_merge` and for [`laws`]; those of each function stand in the folder of its file.
 pub mod FrameFacts
-pub mod TakingFacts
 pub mod StreamFacts
 pub mod ReaderFacts
 pub mod EngineFacts

@@ -1,15 +1,13 @@
 -- What is collected of streams and of archives (this project's own): reports in the words of
 -- archives, and what is counted of them.
-use Rattle.std.specs.Prelude.{◌≡◌, ℕ, Result, Ok, Err, List, [], ◌∷◌, length, sum_by}
+use Rattle.std.specs.Prelude.{◌≡◌, ℕ, List, [], ◌∷◌, length}
 use Rattle.std.specs.List.{flat_map}
 use Rattle.bufr_tables.specs.Entries.{Entries}
 use Rattle.bufr_frame.specs.declared.frames.Found.{Found}
 use Rattle.bufr_frame.specs.Streams.{cut}
-use Rattle.bufr_message.specs.declared.Decoded.{Decoded}
-use Rattle.bufr_message.specs.declared.Refused.{Refused}
 use Rattle.bufr_message.specs.declared.report.Report.{Report}
-use Rattle.bufr_message.specs.Messages.{message_of}
 use Rattle.bufr_io.specs.declared.fault.Tally.{Tally}
+use Rattle.bufr_io.specs.Refusals.{refused_of}
 use Rattle.bufr_archive.specs.ReportEntries.{AreUnder, kept_of, text_of}
 use Rattle.bufr_archive.specs.StreamsTold.{all_told}
 
@@ -18,19 +16,6 @@ use Rattle.bufr_archive.specs.StreamsTold.{all_told}
 -- the frames of streams, each of which is cut apart by itself
 abbrev pub frames_of : List (List ℕ) → List Found
 frames_of streams = flat_map cut streams
-
--- how many messages of a frame are refused: one or none
-abbrev pub refused_as : Result Decoded Refused → ℕ
-refused_as (Ok found) = 0
-refused_as (Err why) = 1
-
--- the same of a frame as it stands under the tables
-abbrev pub frame_refused : Entries → Found → ℕ
-frame_refused tables frame = refused_as (message_of tables frame.bytes)
-
--- how many of the frames spell no message
-abbrev pub refused_of : Entries → List Found → ℕ
-refused_of tables frames = sum_by (frame_refused tables) frames
 
 -- the text of an archive of all reports that streams tell
 abbrev pub collected_text : Entries → List (List ℕ) → List ℕ

@@ -1,7 +1,6 @@
 pub mod Collected
 pub mod Readers
 pub mod Collects
-pub mod Taking
 pub mod Adds
 pub mod Laws
 pub mod ReaderLaws

@@ -3,12 +3,11 @@
 ghost use Rattle.std.specs.Prelude.{◌≡◌};
 ghost use Rattle.bufr_io.specs.declared.fault.ToolFault.TheVariants.{OutOfMemory as RanOut};
 ghost use Rattle.bufr_collect.specs.Adds.{HasAddedSince};
-ghost use Rattle.bufr_collect.specs.Taking.{frame_at};
+ghost use Rattle.bufr_io.specs.Taking.{frame_at};
 
 use crate::counts::Counts;
-use crate::taking::TakesFrames;
 use bufr_archive::{AddFault, ArchiveBuilder};
-use bufr_io::ToolFault;
+use bufr_io::{TakesFrames, ToolFault};
 use std::alloc::Global;
 
 /// The builder of an archive takes in the messages that frames spell; the frames are counted.

@@ -8,10 +8,8 @@ pub mod laws;
 mod merging;
 mod parts;
 mod streams;
-mod taking;
 mod text_stack;
 
 pub use adding::run_add;
 pub use counts::Counts;
 pub use merging::run_merge;
-pub use taking::{TakesFrames, take_stream};

@@ -6,10 +6,9 @@ ghost use Rattle.bufr_collect.specs.Adds.{AddsStreams, HasAdded};
 ghost use Rattle.bufr_collect.specs.Readers.{AreFresh, AreReadAtMost};
 
 use crate::counts::Counts;
-use crate::taking::take_stream;
 use bufr_archive::ArchiveBuilder;
 use bufr_bits::Source;
-use bufr_io::{Input, ToolFault};
+use bufr_io::{Input, ToolFault, take_stream};
 use std::alloc::Global;
 
 /// Adds the messages of the streams of all readers to a new builder.

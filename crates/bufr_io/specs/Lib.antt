@@ -4,3 +4,5 @@ pub mod Limits
 pub mod Faults
 pub mod ReadingLaws
 pub mod WritingLaws
+pub mod Taking
+pub mod Refusals

@@ -1,13 +1,4 @@
--- What the contracts of the engines and of the command line are proved from.
+-- What the contracts of the command line and of the commands are proved from.
 mod CommandFacts
-mod TextFacts
-mod LineFacts
-mod ListingFacts
-mod PartFacts
-mod PrintingFacts
-mod StreamFacts
-mod EngineFacts
-mod EncodingFacts
-mod LoadFacts
 mod OpenFacts
 mod OnLiterals

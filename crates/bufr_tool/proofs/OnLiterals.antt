@@ -1,9 +1,7 @@
 -- What opens the definitions on literals: for the examples, which the gate computes.
 use Rattle.std.specs.Fmt.{digits}
-use Rattle.bufr_message.specs.Reasons.{reason}
-use Rattle.bufr_io.specs.Faults.{input_text}
 
--- opens the definitions on numbers and names
+-- opens the definition on numbers
 unfoldable pub lines_on_literals : Unit {0}
-unfolding digits reason input_text
+unfolding digits
 lines_on_literals = tt

@@ -6,6 +6,7 @@ use Rattle.std.specs.Str.{bytes_eq}
 use Rattle.clap.specs.Words.{App, Row, Rule, Shape, all_of, first_of, new_app, new_rule}
 use Rattle.clap.specs.Words.{subcommand_of, with_rule, with_subcommand}
 use Rattle.clap.specs.Simple.{new_shape, on_top}
+use Rattle.clap.specs.declared.builder.action.ArgAction.{ArgAction}
 use Rattle.clap.specs.declared.builder.action.ArgAction.TheVariants.{Set, SetTrue, Append}
 use Rattle.bufr_tool.specs.declared.command_line.Task.{Task}
 use Rattle.bufr_tool.specs.declared.command_line.Task.TheVariants.{Show, Check, Encode, Add, Merge}
@@ -17,10 +18,11 @@ abbrev pub path_option : List ℕ → ℕ → Rule
 path_option id letter = record
     (new_rule id) { short = Some letter; action = Some Set; value_names = 1; required = true }
 
--- the path of the file that is read, which has to be there
-abbrev pub input_argument : Rule
-input_argument = record
-    (new_rule (codes "input")) { action = Some Set; value_names = 1; required = true }
+-- the path of the file that is read, or those of several, by what is done with a word: one has to be
+-- there
+abbrev pub input_argument : ArgAction → Rule
+input_argument action = record
+    (new_rule (codes "input")) { action = Some action; value_names = 1; required = true }
 
 -- `NAME -b TABLE_B -d TABLE_D`, before it has an input
 abbrev pub under_tables : List ℕ → App
@@ -30,19 +32,14 @@ under_tables name = with_rule (with_rule (new_app name) (path_option (codes "b")
 -- `NAME -b TABLE_B -d TABLE_D INPUT`
 abbrev pub reading_command : List ℕ → Shape
 reading_command name = record (new_shape name) {
-  rules = path_option (codes "b") 98 ∷ path_option (codes "d") 100 ∷ input_argument ∷ [];
+  rules = path_option (codes "b") 98 ∷ path_option (codes "d") 100 ∷ input_argument Set ∷ [];
 }
-
--- the paths of the files that are read, at least one
-abbrev pub inputs_argument : Rule
-inputs_argument = record
-    (new_rule (codes "input")) { action = Some Append; value_names = 1; required = true }
 
 -- `NAME -b TABLE_B -d TABLE_D -o OUT INPUT...`
 abbrev pub collecting_command : List ℕ → Shape
 collecting_command name = record (new_shape name) {
   rules = path_option (codes "b") 98 ∷ path_option (codes "d") 100 ∷ path_option (codes "out") 111
-      ∷ inputs_argument ∷ [];
+      ∷ input_argument Append ∷ [];
 }
 
 -- a flag, by its word
@@ -53,7 +50,7 @@ flag id = record (new_rule id) { long = Some id; action = Some SetTrue }
 abbrev pub encoding_command : Shape
 encoding_command = record (new_shape (codes "encode")) {
   rules = path_option (codes "b") 98 ∷ path_option (codes "d") 100 ∷ flag (codes "compressed")
-      ∷ input_argument ∷ [];
+      ∷ input_argument Set ∷ [];
 }
 
 -- the program's name and settings: the words come without the name, a version is told, and one of

@@ -1,7 +1,2 @@
-pub mod Output
-pub mod Lines
-pub mod Loads
-pub mod StreamEngines
-pub mod Encoding
+pub mod ArchiveLines
 pub mod CommandLines
-pub mod Samples

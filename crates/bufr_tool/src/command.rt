@@ -3,18 +3,15 @@
 ghost use Rattle.std.specs.Prelude.{◌≡◌, ◌≤◌, ◌++◌, map, string_bytes, IfOk, OnOk, IfSome};
 ghost use Rattle.bufr_collect.specs.Readers.{AreFresh};
 ghost use Rattle.bufr_io.specs.Engines.{IsFresh};
-ghost use Rattle.bufr_tool.specs.Output.{added_line, merged_line};
+ghost use Rattle.bufr_tool.specs.ArchiveLines.{added_line, merged_line};
 
-use crate::check::run_check;
 use crate::command_line::{CommandLine, Task, line};
-use crate::encode::run_encode;
 use crate::late_file::LateFile;
 use crate::late_input::LateInput;
-use crate::show::run_show;
-use crate::tables::load_tables;
 use bufr_answers::OutOfMemory;
 use bufr_bits::{IntoWrite, Source};
 use bufr_collect::{run_add, run_merge};
+use bufr_engines::{load_tables, run_check, run_encode, run_show};
 use bufr_io::{Input, MOST_READS, Tally, ToolFault, write_out};
 use bufr_tables::Tables;
 use clap::error::ErrorKind;
@@ -180,136 +177,84 @@ fn run_task<R: Files, S: Source, O: Write + Drop>(
 {
     let tables = load_tables(alloc, MOST_READS, b, d)?;
     match line.task {
-        Task::Show => show_first(alloc, &tables, inputs, out),
-        Task::Check => check_first(alloc, &tables, inputs, out),
-        Task::Encode => encode_first(alloc, &tables, line.compressed, inputs, out),
-        Task::Add => add_all(rt, alloc, &tables, inputs, line.out, out),
-        Task::Merge => merge_all(rt, alloc, &tables, inputs, line.out, out),
+        Task::Add | Task::Merge => collect(rt, alloc, &tables, line, inputs, out),
+        _ => run_first(alloc, &tables, line, inputs, out),
     }
 }
 
-/// The fault of a task over one input that has none.
-const NO_INPUT: ToolFault = ToolFault::ReadFailed(Input::Number(1));
-
-/// Shows the messages of the first input.
-fn show_first<S: Source, O: Write + Drop>(
+/// Runs the engine of a task that reads the first input and writes no archive.
+fn run_first<S: Source, O: Write + Drop>(
     alloc: Global,
     tables: &Tables,
+    line: &CommandLine,
     inputs: &mut [S],
     out: &mut O,
 ) -> Result<Tally, ToolFault>
     requires { AreFresh (map S.reading inputs.old) }
 {
     let Some(input) = inputs.first_mut() else {
-        return Err(NO_INPUT);
+        return Err(ToolFault::ReadFailed(Input::Number(1)));
     };
     let mut writer = IntoWrite::new(&mut *out);
-    run_show(alloc, MOST_READS, tables, input, &mut writer)
+    match line.task {
+        Task::Check => run_check(alloc, MOST_READS, tables, input, &mut writer),
+        Task::Encode => run_encode(
+            alloc,
+            MOST_READS,
+            tables,
+            line.compressed,
+            input,
+            &mut writer,
+        ),
+        _ => run_show(alloc, MOST_READS, tables, input, &mut writer),
+    }
 }
 
-/// Checks the frames of the first input.
-fn check_first<S: Source, O: Write + Drop>(
-    alloc: Global,
-    tables: &Tables,
-    inputs: &mut [S],
-    out: &mut O,
-) -> Result<Tally, ToolFault>
-    requires { AreFresh (map S.reading inputs.old) }
-{
-    let Some(input) = inputs.first_mut() else {
-        return Err(NO_INPUT);
-    };
-    let mut writer = IntoWrite::new(&mut *out);
-    run_check(alloc, MOST_READS, tables, input, &mut writer)
-}
-
-/// Encodes the listing of the first input, each message compressed where that is asked.
-fn encode_first<S: Source, O: Write + Drop>(
-    alloc: Global,
-    tables: &Tables,
-    compressed: bool,
-    inputs: &mut [S],
-    out: &mut O,
-) -> Result<Tally, ToolFault>
-    requires { AreFresh (map S.reading inputs.old) }
-{
-    let Some(input) = inputs.first_mut() else {
-        return Err(NO_INPUT);
-    };
-    let mut writer = IntoWrite::new(&mut *out);
-    run_encode(alloc, MOST_READS, tables, compressed, input, &mut writer)
-}
-
-/// Writes an archive of streams to the file of a path, and then prints what was counted.
-fn add_all<R: Files, S: Source, O: Write + Drop>(
+/// Writes an archive of the inputs, and then prints what was counted.
+fn collect<R: Files, S: Source, O: Write + Drop>(
     rt: &R,
     alloc: Global,
     tables: &Tables,
+    line: &CommandLine,
     inputs: &mut [S],
-    path: &str,
     out: &mut O,
 ) -> Result<Tally, ToolFault>
     requires { AreFresh (map S.reading inputs.old) }
 {
     // No memory is asked for once the archive is written: then only writing can fail.
     let mut text = String::with_capacity(alloc, LONGEST_LINE)?;
-    let tally = add(rt, alloc, tables, inputs, path)?;
-    print_added(&mut text, tally, out)
+    let tally = write_archive(rt, alloc, tables, line, inputs)?;
+    print_collected(line.task, &mut text, tally, out)
 }
 
-/// Writes an archive of streams to the file of a path, which is closed again at the end.
-fn add<R: Files, S: Source>(
+/// Writes an archive of the inputs to the file of a line, which is closed again at the end.
+fn write_archive<R: Files, S: Source>(
     rt: &R,
     alloc: Global,
     tables: &Tables,
+    line: &CommandLine,
     inputs: &mut [S],
-    path: &str,
 ) -> Result<Tally, ToolFault>
     requires { AreFresh (map S.reading inputs.old) }
 {
-    let mut archive = LateFile::new(rt, path);
-    run_add(alloc, MOST_READS, tables, inputs, &mut archive)
+    let mut archive = LateFile::new(rt, line.out);
+    match line.task {
+        Task::Merge => run_merge(alloc, MOST_READS, tables, inputs, &mut archive),
+        _ => run_add(alloc, MOST_READS, tables, inputs, &mut archive),
+    }
 }
 
-/// Writes an archive of archives to the file of a path, and then prints what was counted.
-fn merge_all<R: Files, S: Source, O: Write + Drop>(
-    rt: &R,
-    alloc: Global,
-    tables: &Tables,
-    inputs: &mut [S],
-    path: &str,
-    out: &mut O,
-) -> Result<Tally, ToolFault>
-    requires { AreFresh (map S.reading inputs.old) }
-{
-    // Here too no memory is asked for once the archive is written.
-    let mut text = String::with_capacity(alloc, LONGEST_LINE)?;
-    let tally = merge(rt, alloc, tables, inputs, path)?;
-    print_merged(&mut text, tally, out)
-}
-
-/// Writes an archive of archives to the file of a path, which is closed again at the end.
-fn merge<R: Files, S: Source>(
-    rt: &R,
-    alloc: Global,
-    tables: &Tables,
-    inputs: &mut [S],
-    path: &str,
-) -> Result<Tally, ToolFault>
-    requires { AreFresh (map S.reading inputs.old) }
-{
-    let mut archive = LateFile::new(rt, path);
-    run_merge(alloc, MOST_READS, tables, inputs, &mut archive)
-}
-
-/// Prints what was counted of an archive of streams, by way of some text that has room for it, and
-/// answers it.
-fn print_added<O: Write + Drop>(
+/// Prints what was counted of an archive, by way of some text that has room for it, and answers it.
+fn print_collected<O: Write + Drop>(
+    task: Task,
     text: &mut String,
     tally: Tally,
     out: &mut O,
 ) -> Result<Tally, ToolFault> {
-    push_added(text, &tally)?;
+    match task {
+        Task::Merge => push_merged(text, &tally)?,
+        _ => push_added(text, &tally)?,
+    }
     write_out(&mut IntoWrite::new(&mut *out), 0, text.as_bytes())?;
     Ok(tally)
 }
@@ -325,18 +270,6 @@ fn push_added(text: &mut String, tally: &Tally) -> Result<(), OutOfMemory>
         text,
         "frames {frames} refused {refused} reports {reports}\n"
     )
-}
-
-/// Prints what was counted of an archive of archives, by way of some text that has room for it, and
-/// answers it.
-fn print_merged<O: Write + Drop>(
-    text: &mut String,
-    tally: Tally,
-    out: &mut O,
-) -> Result<Tally, ToolFault> {
-    push_merged(text, &tally)?;
-    write_out(&mut IntoWrite::new(&mut *out), 0, text.as_bytes())?;
-    Ok(tally)
 }
 
 /// Adds what is printed after an archive of archives was written.

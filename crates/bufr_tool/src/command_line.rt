@@ -6,7 +6,7 @@ ghost use Rattle.clap.specs.Words.{subcommand_rows_of, takes, with_subcommand};
 ghost use Rattle.clap.specs.declared.error.ErrorKind.TheVariants.{OutOfMemory as NoMemory};
 ghost use Rattle.bufr_tool.specs.CommandLines.{collecting_command, commands};
 ghost use Rattle.bufr_tool.specs.CommandLines.{encoding_command, flag, flag_in};
-ghost use Rattle.bufr_tool.specs.CommandLines.{flag_of, input_argument, inputs_argument};
+ghost use Rattle.bufr_tool.specs.CommandLines.{flag_of, input_argument};
 ghost use Rattle.bufr_tool.specs.CommandLines.{path_option, commands_without_archive, program, under_tables};
 ghost use Rattle.bufr_tool.specs.CommandLines.{reading_command, task_in, task_of, value_in};
 ghost use Rattle.bufr_tool.specs.CommandLines.{value_of, values_in, values_of};
@@ -232,6 +232,7 @@ fn reading<'a>(
         alloc,
         "FILE",
         "The file of the messages, or /dev/stdin",
+        ArgAction::Set,
     ))
 }
 
@@ -245,7 +246,12 @@ fn encoding<'a>(alloc: Global) -> Result<Command<'a>, OutOfMemory>
         ["Writes the messages of a listing", ENCODE],
     )?
     .arg(switch(alloc, "compressed", "Compresses every message"))?
-    .arg(input(alloc, "LISTING", "The file of the listing, or /dev/stdin"))
+    .arg(input(
+        alloc,
+        "LISTING",
+        "The file of the listing, or /dev/stdin",
+        ArgAction::Set,
+    ))
 }
 
 /// A command that writes an archive of what it reads under tables, with what it does and an
@@ -262,7 +268,7 @@ fn collecting<'a>(
     let out = "The archive that is written, once all was read";
     under_tables(alloc, name, texts)?
         .arg(path(alloc, "out", 'o', "OUT", out))?
-        .arg(inputs(alloc, files, help))
+        .arg(input(alloc, files, help, ArgAction::Append))
 }
 
 /// A command under tables, with what it does and an example.
@@ -307,26 +313,14 @@ fn switch<'a>(alloc: Global, id: &'a str, help: &'a str) -> Arg<'a>
         .action(ArgAction::SetTrue)
 }
 
-/// The file that is read.
-fn input<'a>(alloc: Global, name: &'a str, help: &'a str) -> Arg<'a>
-    ensures rule { rule_of result ≡ input_argument }
+/// The files that are read, one or several by what is done with a word.
+fn input<'a>(alloc: Global, name: &'a str, help: &'a str, action: ArgAction) -> Arg<'a>
+    ensures rule { rule_of result ≡ input_argument action }
     ensures local { result.global ≡ false }
 {
     Arg::new(alloc, "input")
         .value_name(name)
         .help(help)
         .required(true)
-        .action(ArgAction::Set)
-}
-
-/// The files that are read.
-fn inputs<'a>(alloc: Global, name: &'a str, help: &'a str) -> Arg<'a>
-    ensures rule { rule_of result ≡ inputs_argument }
-    ensures local { result.global ≡ false }
-{
-    Arg::new(alloc, "input")
-        .value_name(name)
-        .help(help)
-        .required(true)
-        .action(ArgAction::Append)
+        .action(action)
 }

@@ -2,8 +2,7 @@
 use Rattle.std.proofs.Common.{◌<◌, ◌^◌, length, map, arith, slice_set}
 use Rattle.std.proofs.lemmas.List.{map-set}
 use Rattle.bufr_collect.specs.Adds.{AddsStreams}
-use Rattle.bufr_collect.proofs.TakingFacts.{passed}
-use Rattle.bufr_collect.proofs.FrameFacts.{refused_at_most}
+use Rattle.bufr_collect.proofs.FrameFacts.{passed, refused_at_most}
 use Rattle.bufr_collect.proofs.StreamFacts.{since_none}
 use Rattle.bufr_collect.proofs.ReaderFacts.{reach_item, fresh_next}
 use Rattle.bufr_collect.proofs.EngineFacts.{added_first, added_next, bounded_next, added_ends}

@@ -11,4 +11,4 @@ returns c =
     ∙ ap₂ with_rule c.in_ok-under_tables.ensures c.path.ensures.rule in
     IfOk-weaker c.arg-2.result _ _
     (λ r a. ap (λ (x : App). x.top)
-    (a.shape c.inputs.ensures.local ∙ ap₂ with_rule one c.inputs.ensures.rule)) c.arg-2.ensures
+    (a.shape c.input.ensures.local ∙ ap₂ with_rule one c.input.ensures.rule)) c.arg-2.ensures

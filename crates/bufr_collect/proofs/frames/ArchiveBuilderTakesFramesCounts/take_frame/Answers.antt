@@ -1,6 +1,6 @@
 -- The clauses of `take_frame`: a frame whose octets spell a message adds it, and another only counts.
 use Rattle.std.proofs.Common.{◌≡◌, ◌+◌, refl, arith}
-use Rattle.bufr_collect.specs.Taking.{frame_at}
+use Rattle.bufr_io.specs.Taking.{frame_at}
 use Rattle.bufr_collect.proofs.FrameFacts.{added_ok, added_none}
 use Rattle.bufr_collect.proofs.StreamFacts.{since_more}
 use Rattle.bufr_collect.proofs.frames.ArchiveBuilderTakesFramesCounts.take_frame.Goals as goal

@@ -1,0 +1,11 @@
+-- What the contracts of the engines are proved from.
+mod TextFacts
+mod LineFacts
+mod ListingFacts
+mod PartFacts
+mod PrintingFacts
+mod StreamFacts
+mod EngineFacts
+mod EncodingFacts
+mod LoadFacts
+mod OnLiterals

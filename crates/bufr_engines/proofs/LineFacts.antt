@@ -1,0 +1,111 @@
+-- Whole lines: what is printed of a frame is some, and so is what of it was written when memory ran
+-- out. The contracts of `print_fields`, `print_judged` and all above need it, and so those of
+-- `run_show` and `run_check`.
+use Rattle.std.proofs.Common.{◌≡◌, ℕ, false, inl, inr, List, [], ◌∷◌, ◌++◌, codes, decimal, length}
+use Rattle.std.proofs.Common.{Result, Ok, Err, refl, sym, ap, ◌∙◌, subst}
+use Rattle.std.proofs.Common.{append_assoc}
+use Rattle.std.specs.List.{flat_map}
+use Rattle.std.proofs.lemmas.List.{append-nil}
+use Rattle.bufr_bits.specs.Devices.{Writing}
+use Rattle.bufr_tables.specs.Entries.{Entries}
+use Rattle.bufr_frame.specs.declared.frames.Found.{Found}
+use Rattle.bufr_listing.specs.Listings.{line, joined, field_line, lines_of, listing}
+use Rattle.bufr_message.specs.declared.Decoded.{Decoded}
+use Rattle.bufr_message.specs.declared.Field.{Field}
+use Rattle.bufr_message.specs.declared.Message.{Message}
+use Rattle.bufr_message.specs.declared.Refused.{Refused}
+use Rattle.bufr_message.specs.Messages.{message_of}
+use Rattle.bufr_message.specs.Reasons.{reason}
+use Rattle.bufr_engines.specs.declared.printing.Printing.{Printing}
+use Rattle.bufr_engines.specs.declared.printing.Printing.TheVariants.{Shown, Checked}
+use Rattle.bufr_io.specs.Engines.{WritesAll}
+use Rattle.bufr_io.specs.WritingLaws.{writes_none}
+use Rattle.bufr_engines.specs.Output.{fields_text, place_and_length, printed_as, frame_text}
+use Rattle.bufr_engines.specs.Lines.{AreWholeLines, WritesLines}
+
+-- ---- whole lines
+
+-- octets before a line feed are whole lines with it
+pub line_whole : (before : List ℕ) → AreWholeLines (before ++ 10 ∷ [])
+line_whole before = inr (before, refl)
+
+-- whole lines behind any octets, where there are some
+pub end_whole : (a b : List ℕ) (before : List ℕ) → b ≡ before ++ 10 ∷ [] → AreWholeLines (a ++ b)
+end_whole a b before is =
+    let whole = ap (λ (t : List ℕ). a ++ t) is ∙ sym (append_assoc a before (10 ∷ [])) in
+    inr (a ++ before, whole)
+
+-- whole lines, one behind another
+pub both_whole : (a b : List ℕ) → AreWholeLines a → AreWholeLines b → AreWholeLines (a ++ b)
+both_whole a b one (inl none) =
+    subst AreWholeLines (sym (ap (λ (t : List ℕ). a ++ t) none ∙ append-nil a)) one
+both_whole a b one (inr last) = end_whole a b last.0 last.1
+
+-- the same of many
+pub all_whole : {A : Type 0} (f : A → List ℕ) (xs : List A) → ((x : A) → AreWholeLines (f x))
+    → AreWholeLines (flat_map f xs)
+all_whole f [] each = inl refl
+all_whole f (x ∷ xs) each = both_whole (f x) (flat_map f xs) (each x) (all_whole f xs each)
+
+-- ---- listings
+
+-- lines with their ends are whole
+pub joined_whole : (ls : List (List ℕ)) → AreWholeLines (joined ls)
+joined_whole ls = all_whole line ls line_whole
+
+-- the lines of fields are whole
+pub fields_whole : (fields : List Field) → AreWholeLines (fields_text fields)
+fields_whole fields = all_whole (λ f. line (field_line f)) fields (λ f. line_whole (field_line f))
+
+-- the listing of a message has whole lines
+listing_whole : (m : Message) → AreWholeLines (listing m)
+unfolding listing
+listing_whole m = joined_whole (lines_of m)
+
+-- ---- frames
+
+-- what is printed of a frame, whether it spells a message or not, has whole lines
+pub printed_whole : (printing : Printing) (frame : Found) (found : Result Decoded Refused)
+    → AreWholeLines (printed_as printing frame found)
+printed_whole Shown frame (Ok found) = listing_whole found.message
+printed_whole Shown frame (Err why) =
+    line_whole (codes "# refused " ++ decimal frame.place ++ 32 ∷ reason why)
+printed_whole Checked frame (Ok found) =
+    line_whole (place_and_length frame ++ codes " ok " ++ decimal (length found.message.subsets)
+    ++ 32 ∷ decimal found.slack_octets)
+printed_whole Checked frame (Err why) =
+    line_whole (place_and_length frame ++ codes " refused " ++ reason why)
+
+-- what is printed of a frame under the tables has whole lines
+pub frame_whole : (printing : Printing) (tables : Entries) (frame : Found)
+    → AreWholeLines (frame_text printing tables frame)
+frame_whole printing tables frame = printed_whole printing frame (message_of tables frame.bytes)
+
+-- ---- lines that were written
+
+-- no line was written yet
+pub lines_none : (w : Writing) (text : List ℕ) → w.failed ≡ false → WritesLines w w text
+lines_none w text works = record {
+  front = [];
+  rest = text;
+  parted = refl;
+  whole = inl refl;
+  written = writes_none w works;
+}
+
+-- all lines of a front were written
+pub some_lines : (first now : Writing) (front rest text : List ℕ) → text ≡ front ++ rest
+    → AreWholeLines front → WritesAll first now front → WritesLines first now text
+some_lines first now front rest text parted whole all =
+    record { front = front; rest = rest; parted = parted; whole = whole; written = all }
+
+-- the first lines of a text are those of a longer one
+pub lines_longer : (first now : Writing) (text more all : List ℕ) → all ≡ text ++ more
+    → WritesLines first now text → WritesLines first now all
+lines_longer first now text more all is h = record {
+  front = h.front;
+  rest = h.rest ++ more;
+  parted = is ∙ ap (λ (t : List ℕ). t ++ more) h.parted ∙ append_assoc h.front h.rest more;
+  whole = h.whole;
+  written = h.written;
+}

@@ -1,0 +1,9 @@
+-- What opens the definitions on literals: for the examples, which the gate computes.
+use Rattle.std.specs.Fmt.{digits}
+use Rattle.bufr_message.specs.Reasons.{reason}
+use Rattle.bufr_io.specs.Faults.{input_text}
+
+-- opens the definitions on numbers and names
+unfoldable pub lines_on_literals : Unit {0}
+unfolding digits reason input_text
+lines_on_literals = tt

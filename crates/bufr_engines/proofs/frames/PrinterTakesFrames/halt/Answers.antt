@@ -1,0 +1,25 @@
+-- The clause of `halt`: what is held was written, or the writer failed.
+use Rattle.std.proofs.Common.{refl, arith}
+use Rattle.bufr_engines.specs.Output.{frames_text}
+use Rattle.bufr_engines.proofs.PrintingFacts.{halted}
+use Rattle.bufr_engines.proofs.frames.PrinterTakesFrames.halt.Goals as goal
+
+-- memory ran out behind the frames
+pub stop-requires : goal.stop-requires
+stop-requires g c =
+    let s = c.requires in
+    record {
+      stopped = (
+        g.W.Sink.writing s.1,
+        frames_text s.0.printing s.0.templates s.2,
+        halted _ _ _ _ c.args.self.now c.args.self.now s.2 s.3.printed s.4.count refl refl,
+      );
+    }
+
+-- and then what is held was written
+pub returns : goal.returns
+returns g c first begin frames h =
+    let s = c.requires in
+    c.stop.ensures (g.W.Sink.writing begin) (frames_text first.printing first.templates frames)
+    (halted _ _ _ _ c.args.self.now c.args.self.now frames h.printed
+    (omega (arith, h.printed.frames_are, s.3.printed.frames_are, s.4.count)) refl refl)

@@ -1,0 +1,6 @@
+pub mod Output
+pub mod Lines
+pub mod Loads
+pub mod StreamEngines
+pub mod Encoding
+pub mod Samples

@@ -1,0 +1,100 @@
+-- What `show` and `check` print, as functions of what they read. How many frames spell no message
+-- (`refused_of`) is said in `Refusals` of bufr_io.
+use Rattle.std.specs.Prelude.{ℕ, ◌-◌, Result, Ok, Err, List, [], ◌∷◌, ◌++◌, length, codes, decimal}
+use Rattle.std.specs.Prelude.{sum_by}
+use Rattle.std.specs.List.{flat_map}
+use Rattle.bufr_tables.specs.Entries.{Entries}
+use Rattle.bufr_frame.specs.declared.frames.Found.{Found}
+use Rattle.bufr_frame.specs.Streams.{cut}
+use Rattle.bufr_message.specs.declared.Decoded.{Decoded}
+use Rattle.bufr_message.specs.declared.Refused.{Refused}
+use Rattle.bufr_message.specs.Messages.{message_of}
+use Rattle.bufr_message.specs.declared.Field.{Field}
+use Rattle.bufr_message.specs.Listings.{line, field_line, listing}
+use Rattle.bufr_message.specs.Reasons.{reason}
+use Rattle.bufr_io.specs.declared.fault.Tally.{Tally}
+use Rattle.bufr_io.specs.Refusals.{refused_of}
+use Rattle.bufr_engines.specs.declared.printing.Printing.{Printing}
+use Rattle.bufr_engines.specs.declared.printing.Printing.TheVariants.{Shown, Checked}
+
+-- ---- one frame
+
+-- what `show` prints of fields of a subset, a line each
+abbrev pub fields_text : List Field → List ℕ
+fields_text fields = flat_map (λ f. line (field_line f)) fields
+
+-- what `show` prints of a frame: the listing of its message, or its place and why it spells none
+abbrev pub shown_as : Found → Result Decoded Refused → List ℕ
+shown_as frame (Ok found) = listing found.message
+shown_as frame (Err why) = codes "# refused " ++ decimal frame.place ++ 32 ∷ reason why ++ 10 ∷ []
+
+-- the place and the length of a frame, with which its line in `check` begins
+abbrev pub place_and_length : Found → List ℕ
+place_and_length frame = decimal frame.place ++ 32 ∷ decimal (length frame.bytes)
+
+-- what `check` prints of a frame: how many subsets its message has and how many octets of section 4
+-- stand after the data, or why it spells none
+abbrev pub checked_as : Found → Result Decoded Refused → List ℕ
+checked_as frame (Ok found) = place_and_length frame ++ codes " ok "
+    ++ decimal (length found.message.subsets) ++ 32 ∷ decimal found.slack_octets ++ 10 ∷ []
+checked_as frame (Err why) = place_and_length frame ++ codes " refused " ++ reason why ++ 10 ∷ []
+
+-- what either prints of a frame
+abbrev pub printed_as : Printing → Found → Result Decoded Refused → List ℕ
+printed_as Shown frame found = shown_as frame found
+printed_as Checked frame found = checked_as frame found
+
+-- what is printed of a frame under the tables
+abbrev pub frame_text : Printing → Entries → Found → List ℕ
+frame_text printing tables frame = printed_as printing frame (message_of tables frame.bytes)
+
+-- ---- frames
+
+-- what is printed of frames, one after another
+abbrev pub frames_text : Printing → Entries → List Found → List ℕ
+frames_text printing tables frames = flat_map (frame_text printing tables) frames
+
+-- how many octets the frames have
+abbrev pub octets_of : List Found → ℕ
+octets_of frames = sum_by (λ frame. length frame.bytes) frames
+
+-- ---- a stream that has ended
+
+-- how many of a stream's octets stand in no frame, of which so many stand in one, where the command
+-- counts them
+abbrev pub skipped_by : Printing → ℕ → ℕ → ℕ
+skipped_by Shown long inside = 0
+skipped_by Checked long inside = long - inside
+
+-- what is counted of a stream
+abbrev pub tally_of : Printing → Entries → List ℕ → Tally
+tally_of printing tables stream = record {
+  frames = length (cut stream);
+  refused = refused_of tables (cut stream);
+  skipped = skipped_by printing (length stream) (octets_of (cut stream));
+  reports = 0;
+}
+
+-- the last line of `check`
+abbrev pub tally_line : Tally → List ℕ
+tally_line tally = codes "frames " ++ decimal tally.frames ++ codes " refused "
+    ++ decimal tally.refused ++ codes " skipped " ++ decimal tally.skipped ++ 10 ∷ []
+
+-- what is printed after the frames
+abbrev pub last_text : Printing → Tally → List ℕ
+last_text Shown tally = []
+last_text Checked tally = tally_line tally
+
+-- what is printed of a stream: of each frame of its cut, and the last line
+abbrev pub stream_text : Printing → Entries → List ℕ → List ℕ
+stream_text printing tables stream =
+    frames_text printing tables (cut stream) ++ last_text printing (tally_of printing tables stream)
+
+-- what `show` prints of a stream
+abbrev pub shown : Entries → List ℕ → List ℕ
+shown tables stream = frames_text Shown tables (cut stream)
+
+-- what `check` prints of a stream
+abbrev pub checked : Entries → List ℕ → List ℕ
+checked tables stream =
+    frames_text Checked tables (cut stream) ++ tally_line (tally_of Checked tables stream)

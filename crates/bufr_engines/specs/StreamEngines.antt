@@ -1,0 +1,208 @@
+-- What the engines over the frames of a stream answer and do.
+use Rattle.std.specs.Prelude.{◌≡◌, ℕ, ◌+◌, ◌*◌, ◌^◌, ◌≤◌, Bool, true, false, List, ◌++◌, length}
+use Rattle.std.specs.Prelude.{◌<◌, [], IfSome, Result, Ok, Err}
+use Rattle.bufr_answers.specs.declared.failure.Failure.{Failure}
+use Rattle.bufr_answers.specs.declared.failure.Failure.TheVariants.{Fault, OutOfMemory}
+use Rattle.bufr_bits.specs.Devices.{Reading, Writing}
+use Rattle.bufr_tables.specs.Entries.{Entries}
+use Rattle.bufr_frame.specs.declared.frames.Found.{Found}
+use Rattle.bufr_frame.specs.Streams.{cut, sure}
+use Rattle.bufr_message.specs.declared.Decoded.{Decoded}
+use Rattle.bufr_message.specs.declared.Refused.{Refused}
+use Rattle.bufr_engines.specs.declared.printer.Printer.{Printer}
+use Rattle.bufr_io.specs.declared.fault.Input.TheVariants.{Number}
+use Rattle.bufr_io.specs.declared.fault.Tally.{Tally}
+use Rattle.bufr_io.specs.declared.fault.ToolFault.{ToolFault}
+use Rattle.bufr_io.specs.declared.fault.ToolFault.TheVariants as faults
+use Rattle.bufr_engines.specs.declared.printing.Printing.{Printing}
+use Rattle.bufr_io.specs.Engines.{WasReadOut, HasFailed, IsEndless, HasGiven, AreAllOf}
+use Rattle.bufr_io.specs.Engines.{WritesAll, WritesAfter, FailsAfter}
+use Rattle.bufr_io.specs.Refusals.{frame_refused, refused_of}
+use Rattle.bufr_engines.specs.Output.{frame_text, frames_text, octets_of}
+use Rattle.bufr_engines.specs.Output.{stream_text, tally_of}
+use Rattle.bufr_engines.specs.Lines.{AreWholeLines, WritesLines}
+
+-- ---- an engine
+
+-- the frames that may be handed out once this was read: the sure ones, or all where that was the
+-- end
+abbrev pub frames_by : Bool → List ℕ → List Found
+frames_by true read = cut read
+frames_by false read = sure read
+
+-- what may be printed by then
+abbrev pub text_by : Printing → Entries → Bool → List ℕ → List ℕ
+text_by printing tables true read = stream_text printing tables read
+text_by printing tables false read = frames_text printing tables (sure read)
+
+-- What `run_show` and `run_check` answer and do, from a reader and a writer that work to what they
+-- leave of them. Without a fault: the whole stream was read, and all that is printed of it was
+-- written. Where a read failed or the input was endless: of the octets that were read the lines of
+-- the sure frames were written, and nothing else. Where memory ran out: the first lines, each of
+-- them whole, of what is printed of the frames that may be handed out by what was read, and nothing
+-- else. Where the writer failed: a front, so many octets long, of what may be printed by what was
+-- read, which is one of what is printed of the whole stream.
+abbrev pub Prints : Printing → Entries → ℕ → Reading → Reading → Writing → Writing
+    → Result Tally ToolFault → Type 0
+Prints printing tables reads reader reader' writer writer' (Ok tally) =
+    WasReadOut reader' × (stream : List ℕ) × AreAllOf reader stream
+    × WritesAll writer writer' (stream_text printing tables stream)
+    × (tally ≡ tally_of printing tables stream)
+Prints printing tables reads reader reader' writer writer' (Err (faults.ReadFailed source)) =
+    (source ≡ Number 1) × HasFailed reader' × (read : List ℕ) × HasGiven reader reader' read
+    × WritesAll writer writer' (frames_text printing tables (sure read))
+Prints printing tables reads reader reader' writer writer' (Err (faults.EndlessInput source)) =
+    (source ≡ Number 1) × IsEndless reads reader' × (read : List ℕ) × HasGiven reader reader' read
+    × WritesAll writer writer' (frames_text printing tables (sure read))
+Prints printing tables reads reader reader' writer writer' (Err (faults.WriteFailed written)) =
+    (reader'.failed ≡ false) × (read : List ℕ) × HasGiven reader reader' read
+    × FailsAfter written writer writer' (text_by printing tables reader'.met_end read)
+    × IfSome reader.left (λ stream. FailsAfter written writer writer'
+    (stream_text printing tables stream))
+Prints printing tables reads reader reader' writer writer' (Err faults.OutOfMemory) =
+    (reader'.failed ≡ false) × (read : List ℕ) × HasGiven reader reader' read
+    × WritesLines writer writer' (frames_text printing tables (frames_by reader'.met_end read))
+Prints printing tables reads reader reader' writer writer' (Err fault) = ⊥
+
+-- ---- text by text
+
+-- of a text the first lines were written behind so many octets before it, so that so many are
+-- written now, and what is held is the rest of it: whole lines both
+pub record WritesAllBut (held text : List ℕ) (before now : ℕ) (writer writer' : Writing) : Type 0
+  where
+    pub front : List ℕ
+    pub parted : text ≡ front ++ held
+    pub front_whole : AreWholeLines front
+    pub held_whole : AreWholeLines held
+    pub written : WritesAll writer writer' front
+    pub counted : now ≡ before + length front
+
+-- so it is with the first lines of a text
+pub record WritesSome (held text : List ℕ) (before now : ℕ) (writer writer' : Writing) : Type 0
+  where
+    pub front : List ℕ
+    pub rest : List ℕ
+    pub parted : text ≡ front ++ rest
+    pub done : WritesAllBut held front before now writer writer'
+
+-- the lines that are held were written, and none is held; or the writer failed after a front of
+-- them
+abbrev pub WritesHeld : Printer → Printer → Writing → Writing → Result (Unit {0}) ToolFault
+    → Type 0
+WritesHeld p p' writer writer' (Ok done) =
+    WritesAll writer writer' p.held.items × (p'.held.items ≡ [])
+    × (p'.written ≡ p.written + length p.held.items)
+WritesHeld p p' writer writer' (Err fault) =
+    WritesAfter p.written p.held.items writer writer' (Err fault)
+
+-- a text was added to the lines that were held: of both the first lines were written and the others
+-- are held; or the writer failed after a front of them; or memory ran out behind some of the lines
+abbrev pub Adds : List ℕ → Printer → Printer → Writing → Writing → Result (Unit {0}) ToolFault
+    → Type 0
+Adds text p p' writer writer' (Ok done) = WritesAllBut p'.held.items (p.held.items ++ text)
+    p.written p'.written writer writer'
+Adds text p p' writer writer' (Err (faults.WriteFailed written)) =
+    (more : ℕ) × (written ≡ p.written + more)
+    × FailsAfter more writer writer' (p.held.items ++ text)
+Adds text p p' writer writer' (Err faults.OutOfMemory) = WritesSome p'.held.items
+    (p.held.items ++ text) p.written p'.written writer writer'
+Adds text p p' writer writer' (Err fault) = ⊥
+
+-- so it is with lines that were held, of which fewer are held now
+abbrev pub WritesPart : Printer → Printer → Writing → Writing → Result (Unit {0}) ToolFault
+    → Type 0
+WritesPart p p' writer writer' (Ok done) = WritesAllBut p'.held.items p.held.items
+    p.written p'.written writer writer'
+WritesPart p p' writer writer' (Err fault) =
+    WritesAfter p.written p.held.items writer writer' (Err fault)
+
+-- what is printed of frames, under which tables, and what was counted of them stay; lines are held
+-- or written
+pub record Keeps (p p' : Printer) : Type 0 where
+  pub printing : p'.printing ≡ p.printing
+  pub tables : p'.templates ≡ p.templates
+  pub frames : p'.frames ≡ p.frames
+  pub refused : p'.refused ≡ p.refused
+  pub octets : p'.octets ≡ p.octets
+
+-- what is held, which is no longer than a vector can be, can be counted with what was written
+abbrev pub Fits : Printer → Type 0
+Fits p = length p.held.items < 2 ^ 64 → p.written + length p.held.items < 2 ^ 128
+
+-- ---- frame by frame
+
+-- a frame was printed and counted
+pub record HasAdded (printing : Printing) (tables : Entries) (frame : Found) (p p' : Printer)
+    (writer writer' : Writing) : Type 0 where
+  pub text : WritesAllBut p'.held.items (p.held.items ++ frame_text printing tables frame)
+      p.written p'.written writer writer'
+  pub frames : p'.frames ≡ p.frames + 1
+  pub refused : p'.refused ≡ p.refused + frame_refused tables frame
+  pub octets : p'.octets ≡ p.octets + length frame.bytes
+  pub short : length (frame_text printing tables frame) < 2 ^ 80
+
+-- what a call answered that did not run out of memory: this message, or this fault
+abbrev pub Tells : Result Decoded (Failure Refused) → Result Decoded Refused → Type 0
+Tells (Ok found) meant = meant ≡ Ok found
+Tells (Err (Fault why)) meant = meant ≡ Err why
+Tells (Err OutOfMemory) meant = ⊥
+
+-- so it is, or printing it stopped
+abbrev pub PrintsFrame : Printing → Entries → Found → Printer → Printer → Writing → Writing
+    → Result (Unit {0}) ToolFault → Type 0
+PrintsFrame printing tables frame p p' writer writer' (Ok done) =
+    HasAdded printing tables frame p p' writer writer'
+PrintsFrame printing tables frame p p' writer writer' (Err fault) =
+    Adds (frame_text printing tables frame) p p' writer writer' (Err fault) × Fits p'
+
+-- these frames were printed since the first of the two states of the writer, and counted: their
+-- text is what was written since then and what is held
+pub record HasPrinted (printing : Printing) (tables : Entries) (first now : Writing)
+    (p : Printer) (frames : List Found) : Type 0 where
+  pub printing_is : p.printing ≡ printing
+  pub tables_are : p.templates ≡ tables
+  pub text : WritesAllBut p.held.items (frames_text printing tables frames) 0 p.written
+      first now
+  pub frames_are : p.frames ≡ length frames
+  pub refused_are : p.refused ≡ refused_of tables frames
+  pub octets_are : p.octets ≡ octets_of frames
+  pub short : length (frames_text printing tables frames) + length frames ≤ 2 ^ 80 * length frames
+
+-- printing a text stopped with a fault: the writer failed after a front of it; or memory ran out
+-- when some of its lines were written or held
+abbrev pub StopsWithin : List ℕ → Writing → Printer → Writing → ToolFault → Type 0
+StopsWithin text first p now (faults.WriteFailed written) = FailsAfter written first now text
+StopsWithin text first p now faults.OutOfMemory =
+    WritesSome p.held.items text 0 p.written first now × Fits p
+StopsWithin text first p now fault = ⊥
+
+-- so it is when no line is held
+abbrev pub Stops : List ℕ → Writing → Writing → ToolFault → Type 0
+Stops text first now (faults.WriteFailed written) = FailsAfter written first now text
+Stops text first now faults.OutOfMemory = WritesLines first now text
+Stops text first now fault = ⊥
+
+-- since these states of the printer and of its writer these frames were printed and counted
+pub record HasPrintedSince (start : Printer) (first : Writing) (p : Printer) (now : Writing)
+    (frames : List Found) : Type 0 where
+  pub counted : p.frames ≡ start.frames + length frames
+  pub printed : HasPrinted start.printing start.templates first now p frames
+
+-- a stream of so many octets has ended, and all its frames were printed
+pub record HasEnded (printing : Printing) (tables : Entries) (first now : Writing) (p : Printer)
+    (fed : ℕ) (stream : List ℕ) : Type 0 where
+  pub printed : HasPrinted printing tables first now p (cut stream)
+  pub long : fed ≡ length stream
+
+-- and what stands after them was written, or a front of all that is printed of the stream; where
+-- memory ran out, some lines of its frames
+abbrev pub PrintsEnd : Printing → Entries → List ℕ → Writing → Writing → Result Tally ToolFault
+    → Type 0
+PrintsEnd printing tables stream first now (Ok tally) =
+    WritesAll first now (stream_text printing tables stream)
+    × (tally ≡ tally_of printing tables stream)
+PrintsEnd printing tables stream first now (Err (faults.WriteFailed written)) =
+    FailsAfter written first now (stream_text printing tables stream)
+PrintsEnd printing tables stream first now (Err faults.OutOfMemory) =
+    WritesLines first now (frames_text printing tables (cut stream))
+PrintsEnd printing tables stream first now (Err fault) = ⊥

@@ -1,0 +1,36 @@
+//! The engine of `check`.
+
+ghost use Rattle.std.specs.Prelude.{◌≡◌, ◌≤◌, false};
+ghost use Rattle.bufr_io.specs.Engines.{IsFresh};
+ghost use Rattle.bufr_io.specs.Limits.{most_reads};
+ghost use Rattle.bufr_engines.specs.StreamEngines.{Prints};
+ghost use Rattle.bufr_engines.specs.declared.printing.Printing.TheVariants.{Checked};
+
+use crate::frames::print_stream;
+use crate::printing::Printing;
+use bufr_bits::{Sink, Source};
+use bufr_io::{Tally, ToolFault};
+use bufr_tables::Tables;
+use std::alloc::Global;
+
+/// Writes a line for each frame of a reader's stream: its place, its length and whether it spells a
+/// message. The lines of the frames that a read makes sure are written before the next read. A last
+/// line counts the frames, those that are refused, and the octets outside frames; so does the tally.
+/// Where memory runs out, the lines so far are written; the fault is the writer's where it fails
+/// then.
+pub fn run_check<S: Source, W: Sink>(
+    alloc: Global,
+    reads: u64,
+    tables: &Tables,
+    reader: &mut S,
+    writer: &mut W,
+) -> Result<Tally, ToolFault>
+    requires few { reads ≤ most_reads }
+    requires fresh { IsFresh (S.reading reader.old) }
+    requires works { (W.writing writer.old).failed ≡ false }
+    ensures bounded { (S.reading reader.new).reads ≤ reads }
+    ensures checks { Prints Checked tables.now reads (S.reading reader.old) (S.reading reader.new)
+        (W.writing writer.old) (W.writing writer.new) result }
+{
+    print_stream(alloc, Printing::Checked, reads, tables, reader, writer)
+}

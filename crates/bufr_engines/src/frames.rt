@@ -1,0 +1,120 @@
+//! Printing the frames of a stream as they are found.
+
+ghost use Rattle.std.specs.Prelude.{◌≡◌, ◌≤◌, ◌<◌, ◌^◌, ℕ, List, false, []};
+ghost use Rattle.bufr_bits.specs.Devices.{Writing};
+ghost use Rattle.bufr_tables.specs.Entries.{Entries};
+ghost use Rattle.bufr_io.specs.Engines.{IsFresh};
+ghost use Rattle.bufr_io.specs.Limits.{most_reads};
+ghost use Rattle.bufr_engines.specs.Output.{frames_text, skipped_by};
+ghost use Rattle.bufr_engines.specs.declared.printing.Printing.{Printing as PrintingKind};
+ghost use Rattle.bufr_engines.specs.StreamEngines.{HasEnded, HasPrintedSince, Prints, PrintsEnd, Stops};
+
+use crate::printer::Printer;
+use crate::printing::{Printing, hold_tally};
+use bufr_bits::{Sink, Source};
+use bufr_io::{Input, TakesFrames, Tally, ToolFault, room, take_stream, write_out};
+use bufr_tables::Tables;
+use std::alloc::Global;
+
+/// A printer prints each frame that it takes in. The lines of the frames that a piece makes sure are
+/// written together, behind the piece. Where memory runs out they are written too, and the fault is
+/// the writer's where it fails then.
+impl<'t, W: Sink> TakesFrames<W> for Printer<'t> {
+    ghost count = { λ printer writer. printer.frames };
+
+    ghost HasTaken = { λ first begin printer writer frames.
+        HasPrintedSince first (W.writing begin) printer (W.writing writer) frames };
+
+    ghost HoldsNone = { λ printer writer. printer.held.items ≡ [] };
+
+    ghost HasStopped = { λ first begin printer writer frames fault.
+        Stops (frames_text first.printing first.templates frames) (W.writing begin)
+        (W.writing writer) fault };
+
+    fn take_frame(
+        &mut self,
+        alloc: Global,
+        place: u64,
+        octets: &[u8],
+        out: &mut W,
+    ) -> Result<(), ToolFault> {
+        match self.print_frame(alloc, place, octets, out) {
+            Ok(()) => Ok(()),
+            Err(fault) => Err(self.stop(fault, out)),
+        }
+    }
+
+    fn end_piece(&mut self, out: &mut W) -> Result<(), ToolFault> {
+        self.write_held(out)
+    }
+
+    fn halt(&mut self, out: &mut W) -> ToolFault {
+        self.stop(ToolFault::OutOfMemory, out)
+    }
+
+    ghost counts_each = { λ first self begin out frames h. h.counted };
+}
+
+/// Counts a stream of so many octets, all of whose frames were printed, prints what stands after
+/// them, and writes all that is held.
+fn print_tally<W: Sink>(
+    fed: u64,
+    printer: &mut Printer<'_>,
+    writer: &mut W,
+) -> Result<Tally, ToolFault>
+    requires long { fed < 2 ^ 48 }
+    requires ended { (printing : PrintingKind) × (tables : Entries) × (first : Writing)
+        × (stream : List ℕ)
+        × HasEnded printing tables first (W.writing writer.old) printer.old fed stream }
+    ensures { (printing : PrintingKind) (tables : Entries) (first : Writing) (stream : List ℕ)
+        → HasEnded printing tables first (W.writing writer.old) printer.old fed stream
+        → PrintsEnd printing tables stream first (W.writing writer.new) result }
+{
+    let skipped = match printer.printing {
+        Printing::Shown => 0,
+        Printing::Checked => fed - printer.octets,
+    };
+    let tally = Tally {
+        frames: printer.frames,
+        refused: printer.refused,
+        skipped: skipped as u128,
+        reports: 0,
+    };
+    let Ok(()) = hold_tally(&mut printer.held, printer.printing, &tally) else {
+        return Err(printer.stop(ToolFault::OutOfMemory, writer));
+    };
+    write_out(writer, printer.written, &printer.held)?;
+    Ok(tally)
+}
+
+/// Prints the frames of the stream of a reader, each as soon as it is sure, and what stands after
+/// them.
+pub fn print_stream<S: Source, W: Sink>(
+    alloc: Global,
+    printing: Printing,
+    reads: u64,
+    tables: &Tables,
+    reader: &mut S,
+    writer: &mut W,
+) -> Result<Tally, ToolFault>
+    requires few { reads ≤ most_reads }
+    requires fresh { IsFresh (S.reading reader.old) }
+    requires works { (W.writing writer.old).failed ≡ false }
+    ensures bounded { (S.reading reader.new).reads ≤ reads }
+    ensures prints { Prints printing tables.now reads (S.reading reader.old) (S.reading reader.new)
+        (W.writing writer.old) (W.writing writer.new) result }
+{
+    let mut room = room(alloc)?;
+    let mut printer = Printer::new(alloc, printing, tables);
+    let source = Input::Number(1);
+    let fed = take_stream(
+        alloc,
+        reads,
+        source,
+        reader,
+        &mut room,
+        &mut printer,
+        writer,
+    )?;
+    print_tally(fed, &mut printer, writer)
+}

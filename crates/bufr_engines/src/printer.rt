@@ -1,0 +1,329 @@
+//! What is printed of a stream, frame by frame: lines are held, and written where they are many.
+
+ghost use Rattle.std.specs.Prelude.{◌≡◌, ◌≤◌, ◌<◌, ◌+◌, ◌*◌, ◌^◌, ◌++◌, ℕ, List, false, [], length};
+ghost use Rattle.std.specs.Prelude.{Err, IfErr, IfOk, OnOk};
+ghost use Rattle.std.specs.Int.{from_bool};
+ghost use Rattle.bufr_bits.specs.Devices.{Writing};
+ghost use Rattle.bufr_message.specs.Listings.{listing};
+ghost use Rattle.bufr_message.specs.Messages.{message_of};
+ghost use Rattle.bufr_message.specs.ShortListings.{HasShortListing};
+ghost use Rattle.bufr_answers.specs.Answers.{Gives};
+ghost use Rattle.bufr_engines.specs.Lines.{AreWholeLines};
+ghost use Rattle.bufr_io.specs.Refusals.{frame_refused};
+ghost use Rattle.bufr_io.specs.Taking.{frame_at};
+ghost use Rattle.bufr_engines.specs.Output.{fields_text, frame_text};
+ghost use Rattle.bufr_engines.specs.StreamEngines.{Adds, Fits, Keeps, PrintsFrame};
+ghost use Rattle.bufr_engines.specs.StreamEngines.{Stops, StopsWithin, Tells, WritesAllBut, WritesHeld};
+ghost use Rattle.bufr_engines.specs.StreamEngines.{WritesPart};
+
+use crate::printing::{Printing, hold_checked, hold_refused};
+use bufr_answers::Failure;
+use bufr_bits::Sink;
+use bufr_io::{ToolFault, write_after};
+use bufr_listing::laws::{listings_are_joined_parts, subsets_are_joined_lines};
+use bufr_listing::{push_field, push_subset_line};
+use bufr_message::laws::listings_are_short;
+use bufr_message::{Field, Fields, Refused, Templates, View, listing};
+use bufr_tables::Tables;
+use std::alloc::Global;
+
+/// How many octets are held before they are written.
+const PART: usize = 65_536;
+
+/// What prints the frames of a stream: lines that are printed are held until they are many, or
+/// until they are to be written.
+#[derive(Debug, Drop)]
+pub struct Printer<'t> {
+    /// What is printed of a frame.
+    pub printing: Printing,
+    /// The tables of the stream.
+    pub templates: Templates<'t>,
+    /// How many frames were printed.
+    pub frames: u128,
+    /// How many of them spell no message.
+    pub refused: u128,
+    /// How many octets these frames have.
+    pub octets: u64,
+    /// How many octets were written for them.
+    pub written: u128,
+    /// The lines that are printed and not yet written.
+    pub held: Vec<u8>,
+}
+
+impl<'t> Printer<'t> {
+    /// What prints the frames of a stream under some tables. It takes no memory.
+    pub fn new(alloc: Global, printing: Printing, tables: &'t Tables) -> Printer<'t>
+        ensures printing { result.printing ≡ printing }
+        ensures tables { result.templates ≡ tables.now }
+        ensures frames { result.frames ≡ 0 }
+        ensures refused { result.refused ≡ 0 }
+        ensures octets { result.octets ≡ 0 }
+        ensures written { result.written ≡ 0 }
+        ensures held { result.held.items ≡ [] }
+    {
+        Printer {
+            printing,
+            templates: Templates::new(alloc, tables),
+            frames: 0,
+            refused: 0,
+            octets: 0,
+            written: 0,
+            held: Vec::new(alloc),
+        }
+    }
+
+    /// Writes the lines that are held, and holds none then.
+    pub fn write_held<W: Sink>(&mut self, writer: &mut W) -> Result<(), ToolFault>
+        requires works { (W.writing writer.old).failed ≡ false }
+        requires fits { Fits self.old }
+        ensures writes { WritesHeld self.old self.new (W.writing writer.old) (W.writing writer.new)
+            result }
+        ensures keeps { Keeps self.old self.new }
+        ensures short { self.new.written + length self.new.held.items
+            < self.old.written + 2 ^ 64 }
+    {
+        if self.held.is_empty() {
+            return Ok(());
+        }
+        let long = self.held.len() as u128;
+        write_after(writer, self.written, &self.held)?;
+        self.written += long;
+        self.held.clear();
+        Ok(())
+    }
+
+    /// Writes the lines that are held where they are long, and holds none then.
+    fn write_long<W: Sink>(&mut self, writer: &mut W) -> Result<(), ToolFault>
+        requires works { (W.writing writer.old).failed ≡ false }
+        requires fits { self.old.written + 2 ^ 64 ≤ 2 ^ 128 }
+        requires lines { AreWholeLines self.old.held.items }
+        ensures writes { WritesPart self.old self.new (W.writing writer.old) (W.writing writer.new)
+            result }
+        ensures keeps { Keeps self.old self.new }
+        ensures short { self.new.written + length self.new.held.items
+            < self.old.written + 2 ^ 64 }
+    {
+        if self.held.len() < PART {
+            return Ok(());
+        }
+        self.write_held(writer)
+    }
+
+    /// Prints the lines of the fields that are left, each as it is built.
+    fn print_fields<W: Sink>(
+        &mut self,
+        alloc: Global,
+        mut fields: Fields<'_>,
+        writer: &mut W,
+    ) -> Result<(), ToolFault>
+        requires works { (W.writing writer.old).failed ≡ false }
+        requires fits { self.old.written + length self.old.held.items
+            + length (fields_text fields) + 2 ^ 64 ≤ 2 ^ 128 }
+        requires lines { AreWholeLines self.old.held.items }
+        ensures prints { Adds (fields_text fields.entry) self.old self.new (W.writing writer.old)
+            (W.writing writer.new) result }
+        ensures keeps { Keeps self.old self.new }
+        ensures short { self.new.written < self.old.written
+            + length self.old.held.items + length (fields_text fields.entry) + 2 ^ 64 }
+    {
+        'fields: loop {
+            let next = fields.next(alloc);
+            match &next {
+                Ok(Some(field)) => {
+                    push_field(alloc, &mut self.held, field)?;
+                    self.write_long(writer)?;
+                }
+                Ok(None) => return Ok(()),
+                Err(_) => return Err(ToolFault::OutOfMemory),
+            }
+        }
+    }
+
+    /// Prints the listing of a message, of which one field at a time is built. No more is held than
+    /// the lines before the first subset, or a part, and with either the line of one field.
+    fn print_listing<W: Sink>(
+        &mut self,
+        alloc: Global,
+        found: &View<'_>,
+        writer: &mut W,
+    ) -> Result<(), ToolFault>
+        requires works { (W.writing writer.old).failed ≡ false }
+        requires listed { HasShortListing found.now.message }
+        requires fits { self.old.written + 2 ^ 80 ≤ 2 ^ 128 }
+        requires lines { AreWholeLines self.old.held.items }
+        ensures prints { Adds (listing found.now.message) self.old self.new (W.writing writer.old)
+            (W.writing writer.new) result }
+        ensures keeps { Keeps self.old self.new }
+        ensures short { self.new.written + 2 ^ 64 ≤ self.old.written + 2 ^ 80 }
+    {
+        listings_are_joined_parts();
+        subsets_are_joined_lines();
+        let heading = listing::heading_of_view(alloc, found)?;
+        self.held.extend_from_slice(&heading)?;
+        self.write_long(writer)?;
+        for index in 0..found.count() {
+            let fields = found.fields(alloc, index + 1)?;
+            push_subset_line(&mut self.held)?;
+            self.print_fields(alloc, fields, writer)?;
+        }
+        self.held.extend_from_slice(listing::end_text())?;
+        Ok(())
+    }
+
+    /// Prints what the frame of these octets at this place was judged to spell, or why it spells no
+    /// message.
+    fn print_judged<W: Sink>(
+        &mut self,
+        alloc: Global,
+        place: u64,
+        octets: &[u8],
+        judged: &Result<View<'_>, Failure<Refused>>,
+        writer: &mut W,
+    ) -> Result<(), ToolFault>
+        requires works { (W.writing writer.old).failed ≡ false }
+        requires exact { Gives (λ d. d) judged.now (message_of self.old.templates octets.now) }
+        requires listed { IfOk judged.now (λ d. HasShortListing d.message) }
+        requires fits { self.old.written + 2 ^ 80 ≤ 2 ^ 128 }
+        requires lines { AreWholeLines self.old.held.items }
+        ensures prints { Adds
+            (frame_text self.old.printing self.old.templates (frame_at place octets.now))
+            self.old self.new (W.writing writer.old) (W.writing writer.new) result }
+        ensures told { OnOk result (Tells judged.now (message_of self.old.templates octets.now)) }
+        ensures keeps { Keeps self.old self.new }
+        ensures short { self.new.written + 2 ^ 64 ≤ self.old.written + 2 ^ 80 }
+    {
+        match judged {
+            Ok(found) => match self.printing {
+                Printing::Shown => self.print_listing(alloc, found, writer),
+                Printing::Checked => {
+                    hold_checked(&mut self.held, place, octets, found)?;
+                    Ok(())
+                }
+            },
+            Err(Failure::Fault(why)) => {
+                hold_refused(alloc, &mut self.held, self.printing, place, octets, why)?;
+                Ok(())
+            }
+            Err(Failure::OutOfMemory) => Err(ToolFault::OutOfMemory),
+        }
+    }
+
+    /// Prints what the frame of these octets at this place was judged to spell, and answers whether
+    /// that is no message.
+    fn print_told<W: Sink>(
+        &mut self,
+        alloc: Global,
+        place: u64,
+        octets: &[u8],
+        judged: &Result<View<'_>, Failure<Refused>>,
+        writer: &mut W,
+    ) -> Result<bool, ToolFault>
+        requires works { (W.writing writer.old).failed ≡ false }
+        requires exact { Gives (λ d. d) judged.now (message_of self.old.templates octets.now) }
+        requires listed { IfOk judged.now (λ d. HasShortListing d.message) }
+        requires fits { self.old.written + 2 ^ 80 ≤ 2 ^ 128 }
+        requires lines { AreWholeLines self.old.held.items }
+        ensures prints { OnOk result (WritesAllBut self.new.held.items (self.old.held.items
+            ++ frame_text self.old.printing self.old.templates (frame_at place octets.now))
+            self.old.written self.new.written (W.writing writer.old) (W.writing writer.new)) }
+        ensures stops { IfErr result (λ fault. Adds
+            (frame_text self.old.printing self.old.templates (frame_at place octets.now))
+            self.old self.new (W.writing writer.old) (W.writing writer.new) (Err fault)) }
+        ensures told { IfOk result (λ refused. from_bool refused
+            ≡ frame_refused self.old.templates (frame_at place octets.now)) }
+        ensures keeps { Keeps self.old self.new }
+        ensures short { self.new.written + 2 ^ 64 ≤ self.old.written + 2 ^ 80 }
+    {
+        match self.print_judged(alloc, place, octets, judged, writer) {
+            Ok(()) => Ok(judged.is_err()),
+            Err(fault) => Err(fault),
+        }
+    }
+
+    /// Prints the frame of these octets at this place, and answers whether it spells no message.
+    fn print_message<W: Sink>(
+        &mut self,
+        alloc: Global,
+        place: u64,
+        octets: &[u8],
+        writer: &mut W,
+    ) -> Result<bool, ToolFault>
+        requires works { (W.writing writer.old).failed ≡ false }
+        requires fits { self.old.written + 2 ^ 80 ≤ 2 ^ 128 }
+        requires lines { AreWholeLines self.old.held.items }
+        ensures prints { OnOk result (WritesAllBut self.new.held.items (self.old.held.items
+            ++ frame_text self.old.printing self.old.templates (frame_at place octets.now))
+            self.old.written self.new.written (W.writing writer.old) (W.writing writer.new)) }
+        ensures stops { IfErr result (λ fault. Adds
+            (frame_text self.old.printing self.old.templates (frame_at place octets.now))
+            self.old self.new (W.writing writer.old) (W.writing writer.new) (Err fault)) }
+        ensures told { IfOk result (λ refused. from_bool refused
+            ≡ frame_refused self.old.templates (frame_at place octets.now)) }
+        ensures keeps { Keeps self.old self.new }
+        ensures short { self.new.written + 2 ^ 64 ≤ self.old.written + 2 ^ 80 }
+    {
+        listings_are_short();
+        let judged = &self.templates.view(alloc, octets);
+        self.print_told(alloc, place, octets, judged, writer)
+    }
+
+    /// Counts the frame of these octets, which spells a message or none.
+    fn count(&mut self, octets: &[u8], refused: bool)
+        requires frames { self.old.frames + 1 < 2 ^ 128 }
+        requires refused { self.old.refused + 1 < 2 ^ 128 }
+        requires octets { self.old.octets + length octets.now < 2 ^ 64 }
+        ensures { self.new ≡ record self.old {
+          frames = self.old.frames + 1;
+          refused = self.old.refused + from_bool refused;
+          octets = self.old.octets + length octets.now;
+        } }
+    {
+        self.frames += 1;
+        self.refused += u128::from(refused);
+        self.octets += octets.len() as u64;
+    }
+
+    /// Prints the frame of these octets at this place, and counts it.
+    pub fn print_frame<W: Sink>(
+        &mut self,
+        alloc: Global,
+        place: u64,
+        octets: &[u8],
+        writer: &mut W,
+    ) -> Result<(), ToolFault>
+        requires works { (W.writing writer.old).failed ≡ false }
+        requires lines { AreWholeLines self.old.held.items }
+        requires few { self.old.frames + 1 ≤ 2 ^ 48 }
+        requires refused { self.old.refused ≤ self.old.frames }
+        requires octets { self.old.octets + length octets.now < 2 ^ 64 }
+        requires short { self.old.written + length self.old.held.items
+            + self.old.frames ≤ 2 ^ 80 * self.old.frames }
+        ensures prints { PrintsFrame self.old.printing self.old.templates
+            (frame_at place octets.now) self.old self.new (W.writing writer.old)
+            (W.writing writer.new) result }
+        ensures printing { self.new.printing ≡ self.old.printing }
+        ensures tables { self.new.templates ≡ self.old.templates }
+    {
+        let refused = self.print_message(alloc, place, octets, writer)?;
+        self.count(octets, refused);
+        self.write_long(writer)
+    }
+
+    /// Writes the lines that are held where printing stopped with a fault, unless the writer has
+    /// failed; and answers the fault, or that of the writer where it fails now.
+    pub fn stop<W: Sink>(&mut self, fault: ToolFault, writer: &mut W) -> ToolFault
+        requires stopped { (first : Writing) × (text : List ℕ)
+            × StopsWithin text first self.old (W.writing writer.old) fault }
+        ensures { (first : Writing) (text : List ℕ)
+            → StopsWithin text first self.old (W.writing writer.old) fault
+            → Stops text first (W.writing writer.new) result }
+    {
+        match fault {
+            ToolFault::OutOfMemory => match self.write_held(writer) {
+                Ok(()) => fault,
+                Err(failed) => failed,
+            },
+            _ => fault,
+        }
+    }
+}

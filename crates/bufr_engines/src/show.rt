@@ -1,0 +1,35 @@
+//! The engine of `show`.
+
+ghost use Rattle.std.specs.Prelude.{◌≡◌, ◌≤◌, false};
+ghost use Rattle.bufr_io.specs.Engines.{IsFresh};
+ghost use Rattle.bufr_io.specs.Limits.{most_reads};
+ghost use Rattle.bufr_engines.specs.StreamEngines.{Prints};
+ghost use Rattle.bufr_engines.specs.declared.printing.Printing.TheVariants.{Shown};
+
+use crate::frames::print_stream;
+use crate::printing::Printing;
+use bufr_bits::{Sink, Source};
+use bufr_io::{Tally, ToolFault};
+use bufr_tables::Tables;
+use std::alloc::Global;
+
+/// Writes the listing of each message of a reader's stream, or why a frame spells none. Those of the
+/// frames that a read makes sure are written before the next read. The tally counts frames and those
+/// that are refused. Where memory runs out, the lines so far are written; the fault is the writer's
+/// where it fails then.
+pub fn run_show<S: Source, W: Sink>(
+    alloc: Global,
+    reads: u64,
+    tables: &Tables,
+    reader: &mut S,
+    writer: &mut W,
+) -> Result<Tally, ToolFault>
+    requires few { reads ≤ most_reads }
+    requires fresh { IsFresh (S.reading reader.old) }
+    requires works { (W.writing writer.old).failed ≡ false }
+    ensures bounded { (S.reading reader.new).reads ≤ reads }
+    ensures shows { Prints Shown tables.now reads (S.reading reader.old) (S.reading reader.new)
+        (W.writing writer.old) (W.writing writer.new) result }
+{
+    print_stream(alloc, Printing::Shown, reads, tables, reader, writer)
+}

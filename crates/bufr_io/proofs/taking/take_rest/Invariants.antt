@@ -1,0 +1,11 @@
+-- The loop of `take_rest`: the frames taken in so far.
+use Rattle.std.proofs.Common.{◌++◌, List, take}
+use Rattle.bufr_frame.specs.declared.frames.Found.{Found}
+use Rattle.bufr_io.proofs.taking.take_rest.Given as goal
+
+-- whatever was taken in before, the frames up to this one were taken in after it
+abbrev pub invariant-loop-frame : goal.invariant-loop-frame
+invariant-loop-frame g l =
+    (first : g.row.T.Denot) (begin : g.row.O.Denot) (before : List Found)
+    → g.T.TakesFrames.HasTaken first begin l.fn.taker l.fn.out before
+    → g.T.TakesFrames.HasTaken first begin l.taker l.out (before ++ take l.frame-index l.frame-items)

@@ -1,0 +1,163 @@
+//! The frames of a stream, read to its end and handed on one after the other.
+
+ghost use Rattle.std.specs.Prelude.{◌≡◌, ◌≤◌, ◌<◌, ◌+◌, ◌*◌, ◌^◌, ◌++◌, ◌∷◌, [], ℕ, List, length};
+ghost use Rattle.std.specs.Prelude.{OnOk, IfErr};
+ghost use Rattle.bufr_frame.specs.declared.frames.Found.{Found as FoundFrame};
+ghost use Rattle.bufr_frame.specs.Streams.{cut};
+ghost use Rattle.bufr_io.specs.declared.fault.ToolFault.{ToolFault as ToolFaultKind};
+ghost use Rattle.bufr_io.specs.Engines.{IsFresh};
+ghost use Rattle.bufr_io.specs.Limits.{most_reads, longest_piece};
+ghost use Rattle.bufr_io.specs.Taking.{frame_at, AreFew, HasSure, TakesAll, TakesPiece};
+ghost use Rattle.bufr_io.specs.Taking.{TakesStream};
+
+use crate::fault::{Input, ToolFault};
+use crate::input::Pieces;
+use bufr_bits::Source;
+use bufr_frame::{Framer, NextFrame};
+use std::alloc::Global;
+
+/// What takes in the frames of a stream, one after the other, and puts what it makes of them out.
+pub trait TakesFrames<O> {
+    /// How many frames were taken in.
+    ghost count: { Self → O → ℕ };
+
+    /// Since the first of these two states these frames were taken in.
+    ghost HasTaken: { Self → O → Self → O → List FoundFrame → Type 0 };
+
+    /// Nothing is held back of what was taken in.
+    ghost HoldsNone: { Self → O → Type 0 };
+
+    /// Since the first of these two states some or all of these frames were taken in, and then it
+    /// stopped with a fault.
+    ghost HasStopped: { Self → O → Self → O → List FoundFrame → ToolFaultKind → Type 0 };
+
+    /// Takes in the frame of these octets at this place.
+    fn take_frame(
+        &mut self,
+        alloc: Global,
+        place: u64,
+        octets: &[u8],
+        out: &mut O,
+    ) -> Result<(), ToolFault>
+        requires { (first : Self) × (begin : O) × (frames : List FoundFrame)
+            × HasTaken first begin self.old out.old frames
+            × AreFew (frames ++ frame_at place octets.now ∷ []) }
+        ensures taken { OnOk result ((first : Self) (begin : O) (frames : List FoundFrame)
+            → HasTaken first begin self.old out.old frames
+            → HasTaken first begin self.new out.new (frames ++ frame_at place octets.now ∷ [])) }
+        ensures stopped { IfErr result (λ fault. (first : Self) (begin : O)
+            (frames : List FoundFrame) → HasTaken first begin self.old out.old frames
+            → HasStopped first begin self.new out.new (frames ++ frame_at place octets.now ∷ [])
+            fault) };
+
+    /// Holds nothing back: so it is behind each piece of the stream.
+    fn end_piece(&mut self, out: &mut O) -> Result<(), ToolFault>
+        requires { (first : Self) × (begin : O) × (frames : List FoundFrame)
+            × HasTaken first begin self.old out.old frames × AreFew frames }
+        ensures taken { OnOk result ((first : Self) (begin : O) (frames : List FoundFrame)
+            → HasTaken first begin self.old out.old frames
+            → HasTaken first begin self.new out.new frames) }
+        ensures none { OnOk result (HoldsNone self.new out.new) }
+        ensures stopped { IfErr result (λ fault. (first : Self) (begin : O)
+            (frames : List FoundFrame) → HasTaken first begin self.old out.old frames
+            → HasStopped first begin self.new out.new frames fault) };
+
+    /// Stops where memory ran out, and answers the fault that is to be told.
+    fn halt(&mut self, out: &mut O) -> ToolFault
+        requires { (first : Self) × (begin : O) × (frames : List FoundFrame)
+            × HasTaken first begin self.old out.old frames × AreFew frames }
+        ensures { (first : Self) (begin : O) (frames : List FoundFrame)
+            → HasTaken first begin self.old out.old frames
+            → HasStopped first begin self.new out.new frames result };
+
+    /// Each frame that was taken in is counted.
+    ghost counts_each: { (first self : Self) (begin out : O) (frames : List FoundFrame)
+        → HasTaken first begin self out frames
+        → count self out ≡ count first begin + length frames };
+}
+
+/// Takes in the frames that are sure with a piece of a stream. One that lies whole in the piece is
+/// not copied.
+fn take_piece<O, T: TakesFrames<O>>(
+    alloc: Global,
+    piece: &[u8],
+    framer: &mut Framer,
+    taker: &mut T,
+    out: &mut O,
+) -> Result<(), ToolFault>
+    requires so_far { (first : T) × (begin : O) × (stream : List ℕ)
+        × HasSure (T.HasTaken first begin taker.old out.old) framer.old stream }
+    requires room { framer.old.fed + length piece.now ≤ 2 ^ 48 }
+    ensures { (first : T) (begin : O) (stream : List ℕ)
+        → HasSure (T.HasTaken first begin taker.old out.old) framer.old stream
+        → TakesPiece (T.HasTaken first begin taker.new out.new) (T.HoldsNone taker.new out.new)
+        (T.HasStopped first begin taker.new out.new) framer.new (stream ++ piece.now) result }
+{
+    let mut rest = piece;
+    loop {
+        let Ok(NextFrame { found, rest: left }) = framer.next_frame(rest) else {
+            return Err(taker.halt(out));
+        };
+        let Some(frame) = found else {
+            return taker.end_piece(out);
+        };
+        taker.take_frame(alloc, frame.place(), frame.as_slice(), out)?;
+        rest = left;
+    }
+}
+
+/// Ends a stream, and takes in the frames that are left.
+fn take_rest<O, T: TakesFrames<O>>(
+    alloc: Global,
+    framer: &mut Framer,
+    taker: &mut T,
+    out: &mut O,
+) -> Result<(), ToolFault>
+    requires so_far { (first : T) × (begin : O) × (stream : List ℕ)
+        × HasSure (T.HasTaken first begin taker.old out.old) framer.old stream }
+    requires long { framer.old.fed ≤ 2 ^ 48 }
+    ensures { (first : T) (begin : O) (stream : List ℕ)
+        → HasSure (T.HasTaken first begin taker.old out.old) framer.old stream
+        → TakesAll (T.HasTaken first begin taker.new out.new)
+        (T.HasStopped first begin taker.new out.new) (cut stream) result }
+{
+    let Ok(frames) = framer.finish() else {
+        return Err(taker.halt(out));
+    };
+    for frame in &frames {
+        taker.take_frame(alloc, frame.place, frame.bytes.as_slice(), out)?;
+    }
+    Ok(())
+}
+
+/// Reads the stream of a reader to its end through some room, and hands on each of its frames as
+/// soon as it is sure. Behind each piece nothing is held back. Answers how many octets were read.
+pub fn take_stream<O, S: Source, T: TakesFrames<O>>(
+    alloc: Global,
+    reads: u64,
+    source: Input,
+    reader: &mut S,
+    room: &mut [u8],
+    taker: &mut T,
+    out: &mut O,
+) -> Result<u64, ToolFault>
+    requires few { reads ≤ most_reads }
+    requires fresh { IsFresh (S.reading reader.old) }
+    requires some { 0 < length room.old }
+    requires short { length room.old ≤ longest_piece }
+    requires none_taken { T.HasTaken taker.old out.old taker.old out.old [] }
+    requires none_held { T.HoldsNone taker.old out.old }
+    ensures bounded { (S.reading reader.new).reads ≤ reads }
+    ensures takes { TakesStream (T.HasTaken taker.old out.old taker.new out.new)
+        (T.HoldsNone taker.new out.new) (T.HasStopped taker.old out.old taker.new out.new) source
+        reads (S.reading reader.old) (S.reading reader.new) result }
+{
+    let mut framer = Framer::new(alloc);
+    let mut pieces = Pieces::new(reads, source);
+    while let Some(piece) = pieces.next(reader, &mut *room)? {
+        take_piece(alloc, piece, &mut framer, taker, out)?;
+    }
+    let long = framer.fed();
+    take_rest(alloc, &mut framer, taker, out)?;
+    Ok(long)
+}
