@@ -4,11 +4,10 @@
 //! for each of its growths, which then fails. Octets, texts and counts are typed from the rules of
 //! the formats.
 
-mod archives;
 mod depots;
+mod gathered;
 mod refusals;
 mod samples;
-mod shelves;
 
 use std::fmt::Debug;
 use std::process::Abort;

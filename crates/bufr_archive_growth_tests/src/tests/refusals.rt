@@ -1,7 +1,6 @@
 //! Want of memory told from faults.
 
 use bufr_answers::{Failure, OutOfMemory};
-use bufr_shelves::JoinFault;
 use std::fmt::Debug;
 use std::process::Abort;
 
@@ -20,12 +19,6 @@ impl Refusal for OutOfMemory {
 impl<F> Refusal for Failure<F> {
     fn is_refusal(&self) -> bool {
         matches!(self, Failure::OutOfMemory)
-    }
-}
-
-impl Refusal for JoinFault {
-    fn is_refusal(&self) -> bool {
-        matches!(self, JoinFault::OutOfMemory)
     }
 }
 

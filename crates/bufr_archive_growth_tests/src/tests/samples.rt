@@ -1,6 +1,9 @@
 //! Tables and messages.
 
 use crate::tests::refusals::repeated;
+use crate::tests::same;
+use bufr_archive::{Archive, Shelf};
+use bufr_bits::IntoWrite;
 use bufr_tables::{TableB, TableD, Tables};
 use std::alloc::Global;
 use std::process::Abort;
@@ -33,11 +36,11 @@ pub(super) const SEQUENCES: &[u8] = b"BUFR\x00\x00\x3E\x04\
 \x00\x00\x0D\x00\x14\xC0\x3F\x40\x9E\xC0\x1A\xAC\xC0\
 7777";
 
-/// The same with update sequence number 1 and 274.00 K.
-pub(super) const UPDATED: &[u8] = b"BUFR\x00\x00\x3E\x04\
-\x00\x00\x16\x00\x00\x62\x00\x00\x01\x00\x00\x02\x00\x25\x00\x07\xE8\x01\x0F\x0C\x00\x00\
+/// The same with 273.14 K.
+pub(super) const COLDER: &[u8] = b"BUFR\x00\x00\x3E\x04\
+\x00\x00\x16\x00\x00\x62\x00\x00\x00\x00\x00\x02\x00\x25\x00\x07\xE8\x01\x0F\x0C\x00\x00\
 \x00\x00\x0F\x00\x00\x01\x80\xC1\x01\xC1\x0B\xC1\x0C\x0C\x65\
-\x00\x00\x0D\x00\x14\xC0\x3F\x40\x9E\xC0\x1A\xC2\x00\
+\x00\x00\x0D\x00\x14\xC0\x3F\x40\x9E\xC0\x1A\xAC\x80\
 7777";
 
 /// The first at the next station.
@@ -54,25 +57,20 @@ pub(super) const MONTH_13: &[u8] = b"BUFR\x00\x00\x3E\x04\
 \x00\x00\x0D\x00\x14\xC0\x3F\x46\x9E\xC0\x1A\xAC\xC0\
 7777";
 
-/// The first and the next station as two plain subsets: 70 octets.
-pub(super) const PAIR_OF_STATIONS: &[u8] = b"BUFR\x00\x00\x46\x04\
-\x00\x00\x16\x00\x00\x62\x00\x00\x00\x00\x00\x02\x00\x25\x00\x07\xE8\x01\x0F\x0C\x00\x00\
-\x00\x00\x0F\x00\x00\x02\x80\xC1\x01\xC1\x0B\xC1\x0C\x0C\x65\
-\x00\x00\x15\x00\x14\xC0\x3F\x40\x9E\xC0\x1A\xAC\xC5\x30\x2F\xD0\x27\xB0\x06\xAB\x30\
-7777";
-
-/// The first, compressed, with a second subset whose temperature is missing: 68 octets.
-pub(super) const COMPRESSED_PAIR: &[u8] = b"BUFR\x00\x00\x44\x04\
-\x00\x00\x16\x00\x00\x62\x00\x00\x00\x00\x00\x02\x00\x25\x00\x07\xE8\x01\x0F\x0C\x00\x00\
-\x00\x00\x0F\x00\x00\x02\xC0\xC1\x01\xC1\x0B\xC1\x0C\x0C\x65\
-\x00\x00\x13\x00\x14\x03\x00\x03\xF4\x00\x20\x1E\x03\x00\x00\x06\xAB\x30\x50\
-7777";
-
-/// The second subset as a plain message of its own: 62 octets.
-pub(super) const MISSING_TEMPERATURE: &[u8] = b"BUFR\x00\x00\x3E\x04\
+/// The next station in month 13.
+pub(super) const NEXT_IN_MONTH_13: &[u8] = b"BUFR\x00\x00\x3E\x04\
 \x00\x00\x16\x00\x00\x62\x00\x00\x00\x00\x00\x02\x00\x25\x00\x07\xE8\x01\x0F\x0C\x00\x00\
 \x00\x00\x0F\x00\x00\x01\x80\xC1\x01\xC1\x0B\xC1\x0C\x0C\x65\
-\x00\x00\x0D\x00\x14\xC0\x3F\x40\x9E\xC0\x3F\xFF\xC0\
+\x00\x00\x0D\x00\x14\xC0\xBF\x46\x9E\xC0\x1A\xAC\xC0\
+7777";
+
+/// The first and the next station as two plain subsets: 70 octets, in two pieces.
+pub(super) const PAIR_FRONT: &[u8] = b"BUFR\x00\x00\x46\x04\
+\x00\x00\x16\x00\x00\x62\x00\x00\x00\x00\x00\x02\x00\x25\x00\x07\xE8\x01\x0F\x0C\x00\x00\
+\x00\x00\x0F\x00\x00\x02\x80\xC1\x01\xC1";
+
+pub(super) const PAIR_BACK: &[u8] = b"\x0B\xC1\x0C\x0C\x65\
+\x00\x00\x15\x00\x14\xC0\x3F\x40\x9E\xC0\x1A\xAC\xC5\x30\x2F\xD0\x27\xB0\x06\xAB\x30\
 7777";
 
 /// The tables of the tests.
@@ -80,11 +78,6 @@ pub(super) fn tables(rt: &impl Abort, alloc: Global) -> Tables {
     let elements = repeated!(rt, TableB::parse(alloc, TABLE_B));
     let sequences = repeated!(rt, TableD::parse(alloc, TABLE_D));
     Tables::new(elements, sequences)
-}
-
-/// An empty vector with room for so many octets.
-pub(super) fn room(rt: &impl Abort, alloc: Global, octets: usize) -> Vec<u8> {
-    repeated!(rt, Vec::with_capacity(alloc, octets))
 }
 
 /// Octets joined in one vector.
@@ -100,4 +93,18 @@ pub(super) fn joined(rt: &impl Abort, alloc: Global, parts: &[&[u8]]) -> Vec<u8>
 pub(super) fn first<'a, T>(rt: &impl Abort, list: &'a [T], count: u128) -> &'a [T] {
     assert!(rt; count <= list.len() as u128);
     &list[..count as usize]
+}
+
+/// An archive holds these messages, in this order: it writes them to a writer with room.
+pub(super) fn assert_holds<S: Shelf>(
+    rt: &impl Abort,
+    alloc: Global,
+    archive: &Archive<S>,
+    wanted: &[&[u8]],
+) {
+    same(rt, archive.len(), wanted.len());
+    let text = joined(rt, alloc, wanted);
+    let mut sink = IntoWrite::new(repeated!(rt, Vec::with_capacity(alloc, 1000)));
+    assert!(rt; archive.write(&mut sink).is_ok());
+    same(rt, sink.into_inner().as_slice(), text.as_slice());
 }
