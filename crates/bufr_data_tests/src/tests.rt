@@ -1,5 +1,5 @@
-//! Subsets in bits and back: asked for one at a time, in any order, and many of them; `tests/rows` has
-//! the rows of plain and of compressed data.
+//! Subsets in bits and back: asked for one at a time, in any order, and many of them; `tests/rows`
+//! has the rows of plain and of compressed data.
 
 mod asked;
 mod index;

@@ -1,6 +1,6 @@
-//! Messages read, viewed and written, their reports, and the order of what refuses to write one. Octets
-//! and texts are typed from the rules of the formats; `tests/rows` has the rows of listings and of
-//! refusals.
+//! Messages read, viewed and written, their reports, and the order of what refuses to write one.
+//! Octets and texts are typed from the rules of the formats; `tests/rows` has the rows of listings
+//! and of refusals.
 
 mod long;
 mod refused;

@@ -182,7 +182,8 @@ fn assert_behind(rt: &impl Abort, alloc: Global, said: &Said<'_>, wanted: &[u8])
     same(rt, out.as_slice().get(2..), Some(wanted));
 }
 
-/// Octets for local use, whether there is a section 2, and the sections that are written with these.
+/// Octets for local use, whether there is a section 2, and the sections that are written with
+/// these.
 const WRITTEN: &[(&str, bool, &str)] = &[
     ("1213", true, EDITION_4),
     ("1213", false, WITHOUT_SECTION_2),

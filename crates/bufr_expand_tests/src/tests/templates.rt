@@ -84,8 +84,8 @@ const ROWS: &[Row<'static>] = &[
     ),
 ];
 
-/// The template of a row is so large, and a walk over it goes so, where it was shared and the first is
-/// gone.
+/// The template of a row is so large, and a walk over it goes so, where it was shared and the first
+/// is gone.
 fn assert_row(rt: &impl Abort, alloc: Global, row: &Row<'_>) {
     let (digits, told, nodes, fields, items) = *row;
     let template = template_of(rt, alloc, digits);

@@ -1,5 +1,5 @@
-//! Long messages that are read and written again, and their reports. Octets and numbers are typed from
-//! the rules of the format.
+//! Long messages that are read and written again, and their reports. Octets and numbers are typed
+//! from the rules of the format.
 
 use super::same;
 use super::samples::{octets, tables};

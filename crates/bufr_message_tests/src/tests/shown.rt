@@ -1,5 +1,6 @@
 //! What messages are read and viewed as: slack, reports with their canonical messages, and the
-//! listing of a view, one subset at a time. Octets and listings are typed from the rules of the format.
+//! listing of a view, one subset at a time. Octets and listings are typed from the rules of the
+//! format.
 
 use super::same;
 use super::samples::*;
@@ -37,11 +38,12 @@ const EDITION_3_CANONICAL: &str = "\
 42554652 00003E 04 | 000016 00 0062 0000 00 00 00 FF 02 0D 00 07E8 01 0F 0C 00 00 |
 00000F 00 0001 80 C101 C10B C10C 0C65 | 00000D 00 14C03F409EC01AACC0 | END";
 
-/// Octets, how many octets of section 4 stand behind their data, and the canonical messages of their
-/// reports.
+/// Octets, how many octets of section 4 stand behind their data, and the canonical messages of
+/// their reports.
 type Row<'a> = (&'a str, u64, &'a [&'a str]);
 
-/// Plain messages, of other heads, under operators, of characters and of edition 3; and compressed ones.
+/// Plain messages, of other heads, under operators, of characters and of edition 3; and compressed
+/// ones.
 const ROWS: &[Row<'static>] = &[
     (ELEMENTS_ONLY, 0, &[ELEMENTS_ONLY]),
     (IGNORED_ONES, 0, &[ELEMENTS_ONLY]),
