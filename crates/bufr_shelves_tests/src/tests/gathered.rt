@@ -57,6 +57,8 @@ fn hundred_thousand_gathered(rt: HostRuntime) {
     let builder = hundred_thousand(&rt, rt.alloc());
     let shelf = builder.into_shelf().expect(&rt, "room");
     assert_numbers(&rt, &shelf);
+    let octets = shelf.into_octets().expect(&rt, "room");
+    same(&rt, octets.len(), 500_000);
 }
 
 /// The octets of entries without key are handed out in order, each once.
