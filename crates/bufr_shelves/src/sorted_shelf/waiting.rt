@@ -1,6 +1,7 @@
 //! Entries that wait to be put in order, with the octets of all in one place.
 ghost use Rattle.std.specs.Prelude.{◌≡◌, ◌+◌, ◌*◌, ◌<◌, ◌≤◌, ◌++◌, ◌∷◌, [], true, false, take, drop, length, map, reverse, OnOk, OnErr, IfSome, MatchOption, vec_len};
 ghost use Rattle.std.specs.Vec.{vec_capacity};
+ghost use Rattle.std.specs.Bool.{OnTrue, OnFalse};
 ghost use Rattle.std.specs.Option.{option_map, option_to_list};
 ghost use Rattle.std.specs.List.Sorted.{IsPermutation};
 ghost use Rattle.bufr_shelves.specs.Entries.{slot_cmp};
@@ -33,6 +34,9 @@ const MOST_AT_ONCE: usize = 64;
 
 /// And so many octets at most.
 const MOST_OCTETS_AT_ONCE: usize = 32_768;
+
+/// Runs in order of so many entries on average are merged, and not sorted anew.
+const LONG_RUN: usize = 16;
 
 /// What is held of an entry that waits beside the octets, of which it has a part.
 #[derive(Drop)]
@@ -135,18 +139,48 @@ fn read_last(octets: &[u8], entries: &[WaitingEntry], ahead: &mut Vec<u8>)
     }
 }
 
-/// Puts entries in order, the greatest slot first. Entries that came in long runs in order take few
-/// comparisons: the runs are merged, in room for as many entries. Where that room is refused they are
-/// sorted without it.
+/// Whether entries come in long runs in order.
+fn come_in_runs(entries: &[WaitingEntry], octets: &[u8]) -> bool {
+    let most = entries.len() / LONG_RUN;
+    let mut ends: usize = 0;
+    for index in 1..entries.len() {
+        if entries[index].slot_cmp(&entries[index - 1], octets).is_lt() {
+            if ends >= most {
+                return false;
+            }
+            ends += 1;
+        }
+    }
+    true
+}
+
+/// Puts entries that come in long runs in order, the greatest slot first, and says whether it did:
+/// the runs are merged, in room for as many entries. It did not where that room was refused.
+fn merge_runs(entries: &mut Vec<WaitingEntry>, octets: &[u8]) -> bool
+    ensures permutation { IsPermutation entries.old.items entries.new.items }
+    ensures len { length entries.new.items ≡ length entries.old.items }
+    ensures rising { OnTrue result
+        (AreRising (reverse (map (waits_in octets.now) entries.new.items))) }
+    ensures same { OnFalse result (entries.new.items ≡ entries.old.items) }
+{
+    if !come_in_runs(entries, octets) {
+        return false;
+    }
+    let Ok(()) = entries.sort_by(|waits, other| other.slot_cmp(waits, octets)) else {
+        return false;
+    };
+    true
+}
+
+/// Puts entries in order, the greatest slot first.
 fn sort_falling(entries: &mut Vec<WaitingEntry>, octets: &[u8])
     ensures permutation { IsPermutation entries.old.items entries.new.items }
     ensures len { length entries.new.items ≡ length entries.old.items }
     ensures rising { AreRising (reverse (map (waits_in octets.now) entries.new.items)) }
 {
-    let Ok(()) = entries.sort_by(|waits, other| other.slot_cmp(waits, octets)) else {
+    if !merge_runs(entries, octets) {
         entries.sort_unstable_by(|waits, other| other.slot_cmp(waits, octets));
-        return;
-    };
+    }
 }
 
 /// Entries in any order. Contracts see the entries.

@@ -1,5 +1,6 @@
 -- For `sort_falling`: the entries are in order from the last on, whichever way they were sorted.
-use Rattle.std.proofs.Common.{rules}
+use Rattle.std.proofs.Common.{rules, subst}
+use Rattle.std.specs.List.Sorted.{IsPermutation}
 use Rattle.std.proofs.lemmas.Fn.{always_returns_same}
 use Rattle.std.proofs.lemmas.List.MinMax.{ranks_by, IsStrictWeakOrder-flip}
 use Rattle.std.specs.Ordering.{is_lt}
@@ -9,22 +10,18 @@ use Rattle.bufr_shelves.specs.Pages.{waits_in}
 use Rattle.bufr_shelves.proofs.PageLemmas.{falls, rising-sorted}
 use Rattle.bufr_shelves.proofs.sorted_shelf.waiting.sort_falling.Goals as goal
 
--- with no memory
-pub returns-in_default-clause-rising : goal.returns-in_default-clause-rising
-returns-in_default-clause-rising c =
+-- where no runs were merged no entry was lost
+pub returns-then-not-merge_runs-clause-permutation : goal.returns-then-not-merge_runs-clause-permutation
+returns-then-not-merge_runs-clause-permutation c =
+    subst (λ es. IsPermutation es c.sort_unstable_by.new.self.items) c.if-not-merge_runs.ensures.same
+    c.sort_unstable_by.ensures.permutation
+
+-- and they are sorted
+pub returns-then-not-merge_runs-clause-rising : goal.returns-then-not-merge_runs-clause-rising
+returns-then-not-merge_runs-clause-rising c =
     let octets = c.args.octets.now in
     rising-sorted (waits_in octets) c.sort_unstable_by.new.self.items
     (c.sort_unstable_by.ensures.sorted (λ d e. falls (waits_in octets d) (waits_in octets e))
-    (IsStrictWeakOrder-flip (λ d e. is_lt (slot_cmp (waits_in octets d) (waits_in octets e)))
-    (ranks_by slots_total (waits_in octets)))
-    (always_returns_same _ _ _ (λ a r q k. search rules)))
-
--- with runs that are kept
-pub returns-clause-rising : goal.returns-clause-rising
-returns-clause-rising c =
-    let octets = c.args.octets.now in
-    rising-sorted (waits_in octets) c.sort_by.new.self.items
-    (c.in-Ok.ensures.sorted (λ d e. falls (waits_in octets d) (waits_in octets e))
     (IsStrictWeakOrder-flip (λ d e. is_lt (slot_cmp (waits_in octets d) (waits_in octets e)))
     (ranks_by slots_total (waits_in octets)))
     (always_returns_same _ _ _ (λ a r q k. search rules)))
