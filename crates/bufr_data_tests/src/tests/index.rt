@@ -1,8 +1,8 @@
 //! Subsets asked for one at a time, and their octets that are lent.
 
 use super::same;
-use super::samples::{DELAYED, Descriptors, TEMPERATURE, Wanted, same_subset, template};
-use bufr_bits::BitReader;
+use super::samples::{DELAYED, Descriptors, TEMPERATURE, Wanted, octets_of, same_subset, template};
+use bufr_bits::{BitReader, BitSink};
 use bufr_data::SubsetIndex;
 use std::alloc::Global;
 use std::process::Abort;
