@@ -7,7 +7,9 @@ use Rattle.bufr_tables.specs.Entries.{Entries}
 use Rattle.bufr_frame.specs.declared.frames.Found.{Found}
 use Rattle.bufr_frame.specs.Streams.{cut}
 use Rattle.bufr_message.specs.declared.Decoded.{Decoded}
+use Rattle.bufr_message.specs.declared.Judged.{Judged}
 use Rattle.bufr_message.specs.declared.Refused.{Refused}
+use Rattle.bufr_message.specs.Judged.{judged}
 use Rattle.bufr_message.specs.Messages.{message_of}
 use Rattle.bufr_message.specs.declared.Field.{Field}
 use Rattle.bufr_message.specs.Listings.{line, field_line, listing}
@@ -32,11 +34,15 @@ shown_as frame (Err why) = codes "# refused " ++ decimal frame.place ++ 32 ∷ r
 abbrev pub place_and_length : Found → List ℕ
 place_and_length frame = decimal frame.place ++ 32 ∷ decimal (length frame.bytes)
 
--- what `check` prints of a frame: how many subsets its message has and how many octets of section 4
--- stand after the data, or why it spells none
+-- what `check` prints of a frame that spells a message: how many subsets it has and how many octets of
+-- section 4 stand after the data
+abbrev pub checked_line : Found → Judged → List ℕ
+checked_line frame said = place_and_length frame ++ codes " ok "
+    ++ decimal said.subsets ++ 32 ∷ decimal said.slack_octets ++ 10 ∷ []
+
+-- what `check` prints of a frame: the line of its message, or why it spells none
 abbrev pub checked_as : Found → Result Decoded Refused → List ℕ
-checked_as frame (Ok found) = place_and_length frame ++ codes " ok "
-    ++ decimal (length found.message.subsets) ++ 32 ∷ decimal found.slack_octets ++ 10 ∷ []
+checked_as frame (Ok found) = checked_line frame (judged found)
 checked_as frame (Err why) = place_and_length frame ++ codes " refused " ++ reason why ++ 10 ∷ []
 
 -- what either prints of a frame

@@ -1,7 +1,7 @@
 //! What is printed of a stream, frame by frame: lines are held, and written where they are many.
 
 ghost use Rattle.std.specs.Prelude.{◌≡◌, ◌≤◌, ◌<◌, ◌+◌, ◌*◌, ◌^◌, ◌++◌, ℕ, List, false, [], length};
-ghost use Rattle.std.specs.Prelude.{Err, IfErr, IfOk, OnOk};
+ghost use Rattle.std.specs.Prelude.{Err, IfErr, IfOk, OnErr, OnOk};
 ghost use Rattle.std.specs.Int.{from_bool};
 ghost use Rattle.bufr_bits.specs.Devices.{Writing};
 ghost use Rattle.bufr_message.specs.Listings.{listing};
@@ -12,12 +12,13 @@ ghost use Rattle.bufr_engines.specs.Lines.{AreWholeLines};
 ghost use Rattle.bufr_io.specs.Refusals.{frame_refused};
 ghost use Rattle.bufr_io.specs.Taking.{frame_at};
 ghost use Rattle.bufr_engines.specs.Output.{fields_text, frame_text};
+ghost use Rattle.bufr_engines.specs.declared.printing.Printing.TheVariants.{Shown, Checked};
 ghost use Rattle.bufr_engines.specs.StreamEngines.{Adds, Fits, Keeps, PrintsFrame};
 ghost use Rattle.bufr_engines.specs.StreamEngines.{Stops, StopsWithin, Tells, WritesAllBut, WritesHeld};
 ghost use Rattle.bufr_engines.specs.StreamEngines.{WritesPart};
 
-use crate::printing::{Printing, hold_checked, hold_refused};
-use bufr_answers::Failure;
+use crate::printing::{Printing, hold_judged, hold_refused};
+use bufr_answers::{Failure, OutOfMemory};
 use bufr_bits::Sink;
 use bufr_io::{ToolFault, write_after};
 use bufr_listing::laws::{listings_are_joined_parts, subsets_are_joined_lines};
@@ -170,9 +171,9 @@ impl<'t> Printer<'t> {
         Ok(())
     }
 
-    /// Prints what the frame of these octets at this place was judged to spell, or why it spells no
-    /// message.
-    fn print_judged<W: Sink>(
+    /// Prints the listing of the message that the frame of these octets at this place was judged to
+    /// spell, or why it spells none.
+    fn show_judged<W: Sink>(
         &mut self,
         alloc: Global,
         place: u64,
@@ -186,31 +187,25 @@ impl<'t> Printer<'t> {
         requires fits { self.old.written + 2 ^ 80 ≤ 2 ^ 128 }
         requires lines { AreWholeLines self.old.held.items }
         ensures prints { Adds
-            (frame_text self.old.printing self.old.templates (frame_at place octets.now))
+            (frame_text Shown self.old.templates (frame_at place octets.now))
             self.old self.new (W.writing writer.old) (W.writing writer.new) result }
         ensures told { OnOk result (Tells judged.now (message_of self.old.templates octets.now)) }
         ensures keeps { Keeps self.old self.new }
         ensures short { self.new.written + 2 ^ 64 ≤ self.old.written + 2 ^ 80 }
     {
         match judged {
-            Ok(found) => match self.printing {
-                Printing::Shown => self.print_listing(alloc, found, writer),
-                Printing::Checked => {
-                    hold_checked(&mut self.held, place, octets, found)?;
-                    Ok(())
-                }
-            },
+            Ok(found) => self.print_listing(alloc, found, writer),
             Err(Failure::Fault(why)) => {
-                hold_refused(alloc, &mut self.held, self.printing, place, octets, why)?;
+                hold_refused(alloc, &mut self.held, Printing::Shown, place, octets, why)?;
                 Ok(())
             }
             Err(Failure::OutOfMemory) => Err(ToolFault::OutOfMemory),
         }
     }
 
-    /// Prints what the frame of these octets at this place was judged to spell, and answers whether
-    /// that is no message.
-    fn print_told<W: Sink>(
+    /// Prints the listing of the message that the frame of these octets at this place was judged to
+    /// spell, and answers whether that is none.
+    fn show_told<W: Sink>(
         &mut self,
         alloc: Global,
         place: u64,
@@ -224,20 +219,63 @@ impl<'t> Printer<'t> {
         requires fits { self.old.written + 2 ^ 80 ≤ 2 ^ 128 }
         requires lines { AreWholeLines self.old.held.items }
         ensures prints { OnOk result (WritesAllBut self.new.held.items (self.old.held.items
-            ++ frame_text self.old.printing self.old.templates (frame_at place octets.now))
+            ++ frame_text Shown self.old.templates (frame_at place octets.now))
             self.old.written self.new.written (W.writing writer.old) (W.writing writer.new)) }
         ensures stops { IfErr result (λ fault. Adds
-            (frame_text self.old.printing self.old.templates (frame_at place octets.now))
+            (frame_text Shown self.old.templates (frame_at place octets.now))
             self.old self.new (W.writing writer.old) (W.writing writer.new) (Err fault)) }
         ensures told { IfOk result (λ refused. from_bool refused
             ≡ frame_refused self.old.templates (frame_at place octets.now)) }
         ensures keeps { Keeps self.old self.new }
         ensures short { self.new.written + 2 ^ 64 ≤ self.old.written + 2 ^ 80 }
     {
-        match self.print_judged(alloc, place, octets, judged, writer) {
+        match self.show_judged(alloc, place, octets, judged, writer) {
             Ok(()) => Ok(judged.is_err()),
             Err(fault) => Err(fault),
         }
+    }
+
+    /// Prints the listing of the frame of these octets at this place, and answers whether it spells
+    /// no message.
+    fn show_frame<W: Sink>(
+        &mut self,
+        alloc: Global,
+        place: u64,
+        octets: &[u8],
+        writer: &mut W,
+    ) -> Result<bool, ToolFault>
+        requires works { (W.writing writer.old).failed ≡ false }
+        requires fits { self.old.written + 2 ^ 80 ≤ 2 ^ 128 }
+        requires lines { AreWholeLines self.old.held.items }
+        ensures prints { OnOk result (WritesAllBut self.new.held.items (self.old.held.items
+            ++ frame_text Shown self.old.templates (frame_at place octets.now))
+            self.old.written self.new.written (W.writing writer.old) (W.writing writer.new)) }
+        ensures stops { IfErr result (λ fault. Adds
+            (frame_text Shown self.old.templates (frame_at place octets.now))
+            self.old self.new (W.writing writer.old) (W.writing writer.new) (Err fault)) }
+        ensures told { IfOk result (λ refused. from_bool refused
+            ≡ frame_refused self.old.templates (frame_at place octets.now)) }
+        ensures keeps { Keeps self.old self.new }
+        ensures short { self.new.written + 2 ^ 64 ≤ self.old.written + 2 ^ 80 }
+    {
+        listings_are_short();
+        let judged = &self.templates.view(alloc, octets);
+        self.show_told(alloc, place, octets, judged, writer)
+    }
+
+    /// Holds the line of `check` of the frame of these octets at this place, for which no view is
+    /// made, and answers whether it spells no message. Where memory runs out no line is held for it.
+    fn check_frame(&mut self, alloc: Global, place: u64, octets: &[u8]) -> Result<bool, OutOfMemory>
+        ensures ok { OnOk result (self.new.held.items ≡ self.old.held.items
+            ++ frame_text Checked self.old.templates (frame_at place octets.now)) }
+        ensures told { IfOk result (λ refused. from_bool refused
+            ≡ frame_refused self.old.templates (frame_at place octets.now)) }
+        ensures err { OnErr result (self.new.held.items ≡ self.old.held.items) }
+        ensures keeps { Keeps self.old self.new }
+        ensures written { self.new.written ≡ self.old.written }
+    {
+        let said = &self.templates.judge(alloc, octets);
+        hold_judged(alloc, &mut self.held, place, octets, said)
     }
 
     /// Prints the frame of these octets at this place, and answers whether it spells no message.
@@ -262,9 +300,10 @@ impl<'t> Printer<'t> {
         ensures keeps { Keeps self.old self.new }
         ensures short { self.new.written + 2 ^ 64 ≤ self.old.written + 2 ^ 80 }
     {
-        listings_are_short();
-        let judged = &self.templates.view(alloc, octets);
-        self.print_told(alloc, place, octets, judged, writer)
+        match self.printing {
+            Printing::Shown => self.show_frame(alloc, place, octets, writer),
+            Printing::Checked => Ok(self.check_frame(alloc, place, octets)?),
+        }
     }
 
     /// Counts the frame of these octets, which spells a message or none.

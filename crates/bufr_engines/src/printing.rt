@@ -1,12 +1,19 @@
 //! The lines that are printed of a frame, and the one behind the last.
 
-ghost use Rattle.std.specs.Prelude.{◌≡◌, ◌++◌, length, take, decimal, Ok, Err, OnOk, OnErr};
+ghost use Rattle.std.specs.Prelude.{◌≡◌, ◌++◌, length, take, decimal, Result, Err, IfOk, OnOk, OnErr};
+ghost use Rattle.std.specs.Int.{from_bool};
+ghost use Rattle.bufr_answers.specs.Answers.{Gives, result_map};
+ghost use Rattle.bufr_message.specs.declared.Decoded.{Decoded};
+ghost use Rattle.bufr_message.specs.declared.Refused.{Refused};
+ghost use Rattle.bufr_message.specs.Judged.{judged};
+ghost use Rattle.bufr_io.specs.Refusals.{refused_as};
 ghost use Rattle.bufr_io.specs.Taking.{frame_at};
-ghost use Rattle.bufr_engines.specs.Output.{checked_as, last_text, printed_as, tally_line};
+ghost use Rattle.bufr_engines.specs.Output.{checked_as, checked_line, last_text, printed_as};
+ghost use Rattle.bufr_engines.specs.Output.{tally_line};
 
-use bufr_answers::OutOfMemory;
+use bufr_answers::{Failure, OutOfMemory};
 use bufr_io::Tally;
-use bufr_message::{Refused, View};
+use bufr_message::{Judged, Refused};
 use itoa::{Buffer, Integer};
 use std::alloc::Global;
 
@@ -19,20 +26,49 @@ pub enum Printing {
     Checked,
 }
 
-/// Adds the line of `check` of the frame of these octets at this place, which spells a message. No
-/// subset is built for it. Where memory runs out the text is as it was.
-pub fn hold_checked(
+/// Adds the line of `check` of the frame of these octets at this place as it was judged, and answers
+/// whether that is no message. Where memory runs out the text is as it was.
+pub fn hold_judged(
+    alloc: Global,
     text: &mut Vec<u8>,
     place: u64,
     octets: &[u8],
-    found: &View<'_>,
+    said: &Result<Judged, Failure<Refused>>,
+) -> Result<bool, OutOfMemory>
+    ensures ok { (found : Result Decoded Refused) → Gives (λ j. j) said.now (result_map judged found)
+        → OnOk result (text.new.items
+        ≡ text.old.items ++ checked_as (frame_at place octets.now) found) }
+    ensures told { (found : Result Decoded Refused) → Gives (λ j. j) said.now (result_map judged found)
+        → IfOk result (λ refused. from_bool refused ≡ refused_as found) }
+    ensures err { OnErr result (text.new.items ≡ text.old.items) }
+{
+    match said {
+        Ok(said) => {
+            hold_checked(text, place, octets, said)?;
+            Ok(false)
+        }
+        Err(Failure::Fault(why)) => {
+            hold_refused(alloc, text, Printing::Checked, place, octets, why)?;
+            Ok(true)
+        }
+        Err(Failure::OutOfMemory) => Err(OutOfMemory),
+    }
+}
+
+/// Adds the line of `check` of the frame of these octets at this place, which spells a message. Where
+/// memory runs out the text is as it was.
+fn hold_checked(
+    text: &mut Vec<u8>,
+    place: u64,
+    octets: &[u8],
+    said: &Judged,
 ) -> Result<(), OutOfMemory>
     ensures ok { OnOk result (text.new.items
-        ≡ text.old.items ++ checked_as (frame_at place octets.now) (Ok found.now)) }
+        ≡ text.old.items ++ checked_line (frame_at place octets.now) said.now) }
     ensures err { OnErr result (text.new.items ≡ text.old.items) }
 {
     let held = text.len();
-    let added = push_checked(text, place, octets, found);
+    let added = push_checked(text, place, octets, said);
     if added.is_err() {
         text.truncate(held);
     }
@@ -109,18 +145,16 @@ fn push_checked(
     text: &mut Vec<u8>,
     place: u64,
     octets: &[u8],
-    found: &View<'_>,
+    said: &Judged,
 ) -> Result<(), OutOfMemory>
     ensures ok { OnOk result (text.new.items
-        ≡ text.old.items ++ checked_as (frame_at place octets.now) (Ok found.now)) }
+        ≡ text.old.items ++ checked_line (frame_at place octets.now) said.now) }
     ensures kept { OnErr result (take (length text.old.items) text.new.items ≡ text.old.items) }
 {
-    let slack = found.slack();
-    let subsets = found.count() as u64;
     push_count(text, b"", place)?;
     push_count(text, b" ", octets.len() as u64)?;
-    push_count(text, b" ok ", subsets)?;
-    push_count(text, b" ", slack)?;
+    push_count(text, b" ok ", said.subsets)?;
+    push_count(text, b" ", said.slack_octets)?;
     text.push(b'\n')?;
     Ok(())
 }

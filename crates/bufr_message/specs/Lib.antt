@@ -18,3 +18,4 @@ pub use Rattle.bufr_sections.specs.SectionLaws
 pub use Rattle.bufr_sections.specs.Reasons
 pub use Rattle.bufr_listing.specs.Listings
 pub mod Kept
+pub mod Judged

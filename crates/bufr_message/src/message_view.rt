@@ -10,6 +10,7 @@ ghost use Rattle.bufr_data.specs.Data.{subsets_in};
 ghost use Rattle.bufr_sections.specs.declared.message.Decoded.{Decoded};
 ghost use Rattle.bufr_sections.specs.Sections.{descriptors_of, envelope_of};
 ghost use Rattle.bufr_sections.specs.SectionsRead.{envelope, message_lent};
+ghost use Rattle.bufr_message.specs.Judged.{judged};
 ghost use Rattle.bufr_message.specs.Kept.{AreOf, message_under};
 ghost use Rattle.bufr_message.specs.Messages.{Spells, data_or, message_of, message_with};
 ghost use Rattle.bufr_message.specs.OwnBits.{HaveRoom, spelt_alone, AddsOwn};
@@ -17,6 +18,7 @@ ghost use Rattle.bufr_message.specs.Reports.{reports_of, IsUnder};
 ghost use Rattle.bufr_message.specs.Views.{AreReadFrom};
 
 use crate::alone::can_be_alone;
+use crate::judged::Judged;
 use crate::kept::{Kept, bring_to_front};
 use crate::laws::{reports_have_canonical_messages, sections_are_spelt};
 use crate::own_bits::put_alone;
@@ -291,6 +293,42 @@ pub(crate) fn view_keeping<'a>(
     let sections = read_sections(alloc, octets)?;
     bring_to_front(alloc, tables, kept, sections.listed)?;
     view_in(alloc, &mut kept[0], octets, sections)
+}
+
+/// What is said of the message that octets spell, with its list of descriptors then kept in front of
+/// the others. No view is made.
+#[tactic(auto, unfolding(crate::specs::Messages::message_of, crate::specs::Messages::message_in))]
+pub(crate) fn judge_keeping(
+    alloc: Global,
+    tables: &Tables,
+    kept: &mut Vec<Kept>,
+    octets: &[u8],
+) -> Result<Judged, Failure<Refused>>
+    requires { AreOf tables.now kept.old.items }
+    ensures are { AreOf tables.now kept.new.items }
+    ensures exact { Gives (λ j. j) result (result_map judged (message_of tables.now octets.now)) }
+{
+    let sections = read_sections(alloc, octets)?;
+    bring_to_front(alloc, tables, kept, sections.listed)?;
+    judge_in(alloc, &mut kept[0], &sections)
+}
+
+/// What is said of the message of sections, whose descriptors are this list with its template.
+fn judge_in(
+    alloc: Global,
+    kept: &mut Kept,
+    sections: &Envelope<'_>,
+) -> Result<Judged, Failure<Refused>>
+    requires list { kept.old.descriptors.value ≡ descriptors_of sections.now.listed.now }
+    ensures exact { Gives (λ j. j) result
+        (result_map judged (message_under kept.old.template (envelope sections.now))) }
+    ensures same { kept.new ≡ kept.old }
+{
+    let (subsets, slack_octets) = subsets_of(alloc, kept, sections)?;
+    Ok(Judged {
+        subsets: subsets.count() as u64,
+        slack_octets,
+    })
 }
 
 /// The message of sections, whose descriptors are this list with its template.

@@ -1,13 +1,15 @@
 //! Views under tables that stay the same for a whole stream.
 
 ghost use Rattle.std.specs.Prelude.{◌≡◌, ℕ, Ok, IfOk};
-ghost use Rattle.bufr_answers.specs.Answers.{Gives};
+ghost use Rattle.bufr_answers.specs.Answers.{Gives, result_map};
 ghost use Rattle.bufr_sections.specs.declared.message.Message.{Message};
+ghost use Rattle.bufr_message.specs.Judged.{judged};
 ghost use Rattle.bufr_message.specs.Messages.{Spells, message_of};
 
+use crate::judged::Judged;
 use crate::kept::Kept;
 use crate::laws::messages_are_spelt;
-use crate::message_view::{View, view_keeping};
+use crate::message_view::{View, judge_keeping, view_keeping};
 use bufr_answers::Failure;
 use bufr_sections::Refused;
 use bufr_tables::Tables;
@@ -71,5 +73,16 @@ impl<'t> Templates<'t> {
     {
         messages_are_spelt();
         view_keeping(alloc, self.tables, &mut self.kept, octets)
+    }
+
+    /// What is said of the message that octets spell, for which no view is made. The octets are
+    /// refused as `view` refuses them. `OutOfMemory` where a growth was refused.
+    pub fn judge(&mut self, alloc: Global, octets: &[u8]) -> Result<Judged, Failure<Refused>>
+        // The tables stay.
+        ensures same { self.new ≡ self.old }
+        // It is said of the message that is viewed, or which fault it is.
+        ensures exact { Gives (λ j. j) result (result_map judged (message_of self.old octets.now)) }
+    {
+        judge_keeping(alloc, self.tables, &mut self.kept, octets)
     }
 }

@@ -1,4 +1,3 @@
--- What the contracts of the command line and of the commands are proved from.
-mod CommandFacts
+-- What the contracts of the commands are proved from.
 mod OpenFacts
 mod OnLiterals

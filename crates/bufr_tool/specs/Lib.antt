@@ -1,2 +1,1 @@
 pub mod ArchiveLines
-pub mod CommandLines

@@ -2,13 +2,10 @@
 #![tactic(auto)]
 
 mod command;
-mod command_line;
 mod late_file;
-mod late_input;
-pub mod laws;
 mod worked_values;
 
 pub use bufr_engines::{load_tables, run_check, run_encode, run_show};
 pub use bufr_io::{Input, MOST_READS, Tally, ToolFault};
+pub use bufr_reading::words_of;
 pub use command::run_command;
-pub use command_line::{CommandLine, Task, line};

@@ -9,8 +9,8 @@ returns-clause-ok c =
     let text = c.args.text.now.items in
     let place = decimal c.args.place in
     let long = decimal (length c.args.octets.now) in
-    let subsets = decimal c.count-subsets.result in
-    let slack = decimal c.slack-slack.result in
+    let subsets = decimal c.args.said.now.subsets in
+    let slack = decimal c.args.said.now.slack_octets in
     let one = c.in_ok-push_count.ensures.ok in
     let two = c.in_ok-push_count-2.ensures.ok
     ∙ ap (λ (z : List ℕ). z ++ (32 ∷ []) ++ long) one in
@@ -18,8 +18,5 @@ returns-clause-ok c =
     ∙ ap (λ (z : List ℕ). z ++ codes " ok " ++ subsets) two in
     let four = c.in_ok-push_count-4.ensures.ok
     ∙ ap (λ (z : List ℕ). z ++ (32 ∷ []) ++ slack) three in
-    rw (
-      ← c.count-subsets.ensures,
-      ← c.slack-slack.ensures,
-    ) (c.in_ok-push.ensures.items ∙ ap (λ (z : List ℕ). z ++ 10 ∷ []) four
-    ∙ checked_joined text place long (codes " ok ") subsets slack (10 ∷ []))
+    c.in_ok-push.ensures.items ∙ ap (λ (z : List ℕ). z ++ 10 ∷ []) four
+    ∙ checked_joined text place long (codes " ok ") subsets slack (10 ∷ [])

@@ -1,62 +1,38 @@
--- For `print_message`: the frame as it was judged, under the tables that stayed.
-use Rattle.std.proofs.Common.{◌≡◌, ◌++◌, List, ℕ, subst, sym, Result, Ok, Err, IfErr, IfOk, OnOk}
-use Rattle.std.specs.Int.{from_bool}
-use Rattle.bufr_answers.specs.declared.failure.Failure.{Failure}
-use Rattle.bufr_answers.specs.Answers.{Gives}
-use Rattle.bufr_tables.specs.Entries.{Entries}
-use Rattle.bufr_message.specs.declared.Decoded.{Decoded}
-use Rattle.bufr_message.specs.declared.Refused.{Refused}
-use Rattle.bufr_message.specs.Messages.{message_of, Spells}
-use Rattle.bufr_message.specs.ShortListings.{HasShortListing, ListingsAreShort}
-use Rattle.bufr_io.specs.Refusals.{frame_refused}
+-- For `print_message`: the line of `check`, which was held or for which there was no memory.
+use Rattle.std.proofs.Common.{◌++◌, ap, sym, subst, ◌∙◌, Err, IfErr}
+use Rattle.bufr_io.specs.declared.fault.ToolFault.TheVariants as faults
 use Rattle.bufr_io.specs.Taking.{frame_at}
 use Rattle.bufr_engines.specs.Output.{frame_text}
 use Rattle.bufr_engines.specs.StreamEngines.{Adds, WritesAllBut}
+use Rattle.bufr_engines.proofs.LineFacts.{frame_whole}
+use Rattle.bufr_engines.proofs.PartFacts.{adds_held, adds_none}
+use Rattle.bufr_engines.proofs.PrintingFacts.{passed}
 use Rattle.bufr_engines.proofs.printer.Printer.print_message.Goals as goal
 
--- the listing of a message that octets spell is short
-short_as_spelt : (tables : Entries) (octets : List ℕ) (r : Result Decoded (Failure Refused))
-    → ListingsAreShort → IfOk r (λ d. Spells tables d.message octets d.slack_octets)
-    → IfOk r (λ d. HasShortListing d.message)
-short_as_spelt tables octets (Ok d) law spelt = law _ _ _ _ spelt
-short_as_spelt tables octets (Err e) law spelt = tt
-
--- the octets were judged under the tables that stayed
-pub print_told-requires-clause-exact : goal.print_told-requires-clause-exact
-print_told-requires-clause-exact g c =
-    subst (λ (t : Entries). Gives (λ d. d) c.view.result (message_of t c.args.octets.now))
-    (sym c.view.ensures.same) c.view.ensures.exact
-
--- and what they spell has a short listing
-pub print_told-requires-clause-listed : goal.print_told-requires-clause-listed
-print_told-requires-clause-listed g c =
-    short_as_spelt c.args.self.now.templates c.args.octets.now c.view.result
-    c.listings_are_short.ensures c.view.ensures.found
-
--- what was printed of the frame as it was judged is its text
-pub returns-clause-prints : goal.returns-clause-prints
-returns-clause-prints g c =
+-- where there is no memory for it, what is held is as it was
+pub returns-in_err-check_frame-in-Checked-clause-stops :
+    goal.returns-in_err-check_frame-in-Checked-clause-stops
+returns-in_err-check_frame-in-Checked-clause-stops g c =
     let p = c.args.self.now in
-    let frame = frame_at c.args.place c.args.octets.now in
-    subst (λ (t : Entries). OnOk c.print_told.result (WritesAllBut c.print_told.new.self.held.items
-    (p.held.items ++ frame_text p.printing t frame) p.written c.print_told.new.self.written
-    (g.W.Sink.writing c.args.writer.now) (g.W.Sink.writing c.print_told.new.writer)))
-    c.view.ensures.same c.print_told.ensures.prints
+    let text = frame_text p.printing p.templates (frame_at c.args.place c.args.octets.now) in
+    let writer = g.W.Sink.writing c.args.writer.now in
+    passed (λ r. IfErr r (λ fault. Adds text p c.check_frame.new.self writer writer (Err fault)))
+    c.from_residual.result faults.OutOfMemory c.from_residual.ensures.1
+    (adds_none text p c.check_frame.new.self writer c.requires.lines c.requires.works
+    c.in_err-check_frame-in-Checked.ensures.err c.check_frame.ensures.written)
 
--- or printing it stopped
-pub returns-clause-stops : goal.returns-clause-stops
-returns-clause-stops g c =
+-- else it is held behind the others
+pub returns-in_ok-check_frame-in-Checked-clause-prints :
+    goal.returns-in_ok-check_frame-in-Checked-clause-prints
+returns-in_ok-check_frame-in-Checked-clause-prints g c =
     let p = c.args.self.now in
+    let q = c.check_frame.new.self in
     let frame = frame_at c.args.place c.args.octets.now in
-    subst (λ (t : Entries). IfErr c.print_told.result (λ fault. Adds (frame_text p.printing t frame)
-    p c.print_told.new.self (g.W.Sink.writing c.args.writer.now)
-    (g.W.Sink.writing c.print_told.new.writer) (Err fault)))
-    c.view.ensures.same c.print_told.ensures.stops
-
--- it is refused where it spells no message under the tables that stayed
-pub returns-clause-told : goal.returns-clause-told
-returns-clause-told g c =
-    let frame = frame_at c.args.place c.args.octets.now in
-    subst (λ (t : Entries). IfOk c.print_told.result (λ refused. from_bool refused
-    ≡ frame_refused t frame))
-    c.view.ensures.same c.print_told.ensures.told
+    let text = frame_text p.printing p.templates frame in
+    let writer = g.W.Sink.writing c.args.writer.now in
+    subst (λ n. WritesAllBut q.held.items (p.held.items ++ text) p.written n writer writer)
+    (sym c.check_frame.ensures.written)
+    (adds_held text q.held.items p writer
+    (c.in_ok-check_frame-in-Checked.ensures.ok
+    ∙ ap (λ r. p.held.items ++ frame_text r p.templates frame) (sym c.in-Checked.is))
+    c.requires.lines (frame_whole p.printing p.templates frame) c.requires.works)
