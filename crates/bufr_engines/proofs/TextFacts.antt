@@ -11,10 +11,10 @@ piece_more text before piece x is =
     ap (λ (z : List ℕ). z ++ piece) is ∙ append_assoc text before piece
 
 -- the line of a frame that spells a message, as it is defined
-checked_line : (place long ok subsets slack end : List ℕ)
+pieces_joined : (place long ok subsets slack end : List ℕ)
     → place ++ (32 ∷ []) ++ long ++ ok ++ subsets ++ (32 ∷ []) ++ slack ++ end
     ≡ ((((place ++ 32 ∷ long) ++ ok) ++ subsets) ++ 32 ∷ slack) ++ end
-checked_line place long ok subsets slack end =
+pieces_joined place long ok subsets slack end =
     ap (λ (z : List ℕ). z ++ ok ++ subsets ++ (32 ∷ []) ++ slack ++ end)
     (append_assoc place (32 ∷ []) long)
     ∙ ap (λ (z : List ℕ). z ++ end)
@@ -33,4 +33,4 @@ checked_joined text place long ok subsets slack end =
     (piece_more text (place ++ (32 ∷ [])) long _
     (piece_more text place (32 ∷ []) _
     (ap (λ (z : List ℕ). z ++ place) (append-nil text))))))))
-    ∙ ap (λ (z : List ℕ). text ++ z) (checked_line place long ok subsets slack end)
+    ∙ ap (λ (z : List ℕ). text ++ z) (pieces_joined place long ok subsets slack end)

@@ -1,3 +1,2 @@
 -- What the contracts of the commands are proved from.
-mod OpenFacts
 mod OnLiterals
