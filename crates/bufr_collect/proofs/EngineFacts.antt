@@ -30,7 +30,7 @@ use Rattle.bufr_io.specs.declared.input.Pieces.{Pieces}
 use Rattle.bufr_io.specs.Limits.{most_reads}
 use Rattle.bufr_collect.specs.declared.counts.Counts.{Counts}
 use Rattle.bufr_archive.specs.StreamsTold.{all_told}
-use Rattle.bufr_io.specs.Refusals.{refused_of}
+use Rattle.bufr_engines.specs.Refusals.{refused_of}
 use Rattle.bufr_collect.specs.Collected.{frames_of, collected_text, collected_tally}
 use Rattle.bufr_collect.specs.Collected.{AreTextsOf, all_of}
 use Rattle.bufr_collect.specs.Readers.{AreFresh, AreReadAtMost, WereReadOut, EndsAt}

@@ -23,7 +23,7 @@ use Rattle.bufr_archive.specs.Archives.{ArchiveView, taken_in, entries_of}
 use Rattle.bufr_collect.specs.declared.counts.Counts.{Counts}
 use Rattle.bufr_archive.specs.ReportEntries.{entry_of, report_entries, kept_of}
 use Rattle.bufr_archive.specs.ReportTexts.{archive_of}
-use Rattle.bufr_io.specs.Refusals.{refused_as, frame_refused, refused_of}
+use Rattle.bufr_engines.specs.Refusals.{refused_as, frame_refused, refused_of}
 use Rattle.bufr_collect.specs.Adds.{reports_of_frames, HasAdded}
 
 -- what is kept of reports and of more

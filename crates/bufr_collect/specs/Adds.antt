@@ -13,7 +13,7 @@ use Rattle.bufr_io.specs.declared.fault.ToolFault.TheVariants as faults
 use Rattle.bufr_io.specs.Engines.{WasReadOut, HasFailed, IsEndless, AreAllOf}
 use Rattle.bufr_collect.specs.declared.counts.Counts.{Counts}
 use Rattle.bufr_archive.specs.ReportTexts.{archive_of, IsArchiveOf}
-use Rattle.bufr_io.specs.Refusals.{refused_of}
+use Rattle.bufr_engines.specs.Refusals.{refused_of}
 use Rattle.bufr_collect.specs.Collected.{frames_of, AreTextsOf, all_of}
 use Rattle.bufr_collect.specs.Readers.{WereReadOut, EndsAt}
 use Rattle.bufr_collect.specs.Collects.{StreamsEndAt, ArchivesEndAt, AllArchives, IsNoArchive}

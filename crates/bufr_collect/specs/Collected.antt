@@ -7,7 +7,7 @@ use Rattle.bufr_frame.specs.declared.frames.Found.{Found}
 use Rattle.bufr_frame.specs.Streams.{cut}
 use Rattle.bufr_message.specs.declared.report.Report.{Report}
 use Rattle.bufr_io.specs.declared.fault.Tally.{Tally}
-use Rattle.bufr_io.specs.Refusals.{refused_of}
+use Rattle.bufr_engines.specs.Refusals.{refused_of}
 use Rattle.bufr_archive.specs.ReportEntries.{AreUnder, kept_of, text_of}
 use Rattle.bufr_archive.specs.StreamsTold.{all_told}
 

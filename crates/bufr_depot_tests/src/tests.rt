@@ -4,7 +4,8 @@ use bufr_answers::Items;
 use bufr_archive::{MapShelf, Shelf, SortedShelf};
 use bufr_bits::device::IntoWrite;
 use bufr_depot::*;
-use bufr_tables::{TableB, TableD, Tables};
+use bufr_table_files::{parse_table_b, parse_table_d};
+use bufr_tables::Tables;
 use std::alloc::Global;
 use std::fmt::Debug;
 use std::process::Abort;
@@ -115,8 +116,8 @@ fn same<T: PartialEq + Debug + Drop>(rt: &impl Abort, found: T, wanted: T) {
 
 /// The tables of the tests.
 fn tables(rt: &impl Abort, alloc: Global) -> Tables {
-    let b = TableB::parse(alloc, TABLE_B.as_bytes()).expect(rt, "table B");
-    let d = TableD::parse(alloc, TABLE_D.as_bytes()).expect(rt, "table D");
+    let b = parse_table_b(alloc, TABLE_B.as_bytes()).expect(rt, "table B");
+    let d = parse_table_d(alloc, TABLE_D.as_bytes()).expect(rt, "table D");
     Tables::new(b, d)
 }
 

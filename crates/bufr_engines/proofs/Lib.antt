@@ -1,6 +1,7 @@
 -- What the contracts of the engines are proved from.
 mod TextFacts
 mod LineFacts
+mod LineLengths
 mod ListingFacts
 mod PartFacts
 mod PrintingFacts

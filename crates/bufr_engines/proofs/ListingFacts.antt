@@ -16,12 +16,12 @@ use Rattle.bufr_listing.specs.Listings.{subset_lines, field_line, end_line, list
 use Rattle.bufr_message.specs.declared.Field.{Field}
 use Rattle.bufr_message.specs.declared.Message.{Message}
 use Rattle.bufr_message.specs.declared.Subset.{Subset}
-use Rattle.bufr_message.specs.ShortListings.{HasShortListing}
 use Rattle.bufr_io.specs.declared.fault.ToolFault.{ToolFault}
 use Rattle.bufr_io.specs.declared.fault.ToolFault.TheVariants as faults
 use Rattle.bufr_engines.specs.declared.printer.Printer.{Printer}
 use Rattle.bufr_engines.specs.Lines.{AreWholeLines}
 use Rattle.bufr_engines.specs.Output.{fields_text}
+use Rattle.bufr_engines.specs.ShortListings.{HasShortListing}
 use Rattle.bufr_engines.specs.StreamEngines.{Adds, WritesAllBut}
 use Rattle.bufr_engines.proofs.LineFacts.{both_whole, fields_whole, joined_whole, line_whole}
 use Rattle.bufr_engines.proofs.PartFacts.{adds_halts, adds_longer, adds_then, but_all, counted_all}

@@ -2,7 +2,7 @@
 use Rattle.std.proofs.Common.{◌≡◌, ℕ, List, Option, Some, None, Result, Ok, Err, IfSome, IsOk, refl}
 use Rattle.std.proofs.Common.{sym, subst}
 use Rattle.bufr_bits.specs.Devices.{Reading}
-use Rattle.bufr_tables.specs.TableFiles.{table_b, table_d}
+use Rattle.bufr_table_files.specs.TableFiles.{table_b, table_d}
 use Rattle.bufr_tables.specs.declared.element.Element.{Element}
 use Rattle.bufr_tables.specs.declared.table_faults.TableFault.{TableFault}
 use Rattle.bufr_io.specs.declared.fault.Input.TheVariants.{TableB, TableD}

@@ -23,7 +23,7 @@ use Rattle.bufr_io.specs.declared.fault.ToolFault.{ToolFault}
 use Rattle.bufr_io.specs.declared.fault.ToolFault.TheVariants as faults
 use Rattle.bufr_engines.specs.declared.printing.Printing.{Printing}
 use Rattle.bufr_io.specs.Engines.{FailsAfter}
-use Rattle.bufr_io.specs.Refusals.{frame_refused, refused_as}
+use Rattle.bufr_engines.specs.Refusals.{frame_refused, refused_as}
 use Rattle.bufr_engines.specs.Output.{frame_text, frames_text}
 use Rattle.bufr_engines.specs.StreamEngines.{Fits, HasPrinted, Keeps, PrintsFrame}
 use Rattle.bufr_engines.specs.StreamEngines.{StopsWithin, Tells, WritesAllBut, WritesHeld, WritesPart}

@@ -1,3 +1,5 @@
+pub mod Refusals
+pub mod ShortListings
 pub mod Output
 pub mod Lines
 pub mod Loads

@@ -3,7 +3,7 @@ use Rattle.std.specs.Prelude.{◌≡◌, ℕ, List, IfSome, Result, Ok, Err, IsO
 use Rattle.bufr_bits.specs.Devices.{Reading}
 use Rattle.bufr_tables.specs.declared.table_faults.TableFault.{TableFault}
 use Rattle.bufr_tables.specs.Entries.{Entries}
-use Rattle.bufr_tables.specs.TableFiles.{table_b, table_d}
+use Rattle.bufr_table_files.specs.TableFiles.{table_b, table_d}
 use Rattle.bufr_io.specs.declared.fault.Input.{Input}
 use Rattle.bufr_io.specs.declared.fault.Input.TheVariants.{TableB, TableD, Number}
 use Rattle.bufr_io.specs.declared.fault.ToolFault.{ToolFault}

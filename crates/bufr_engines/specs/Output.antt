@@ -12,10 +12,10 @@ use Rattle.bufr_message.specs.declared.Refused.{Refused}
 use Rattle.bufr_message.specs.Judged.{judged}
 use Rattle.bufr_message.specs.Messages.{message_of}
 use Rattle.bufr_message.specs.declared.Field.{Field}
-use Rattle.bufr_message.specs.Listings.{line, field_line, listing}
+use Rattle.bufr_listing.specs.Listings.{line, field_line, listing}
 use Rattle.bufr_message.specs.Reasons.{reason}
 use Rattle.bufr_io.specs.declared.fault.Tally.{Tally}
-use Rattle.bufr_io.specs.Refusals.{refused_of}
+use Rattle.bufr_engines.specs.Refusals.{refused_of}
 use Rattle.bufr_engines.specs.declared.printing.Printing.{Printing}
 use Rattle.bufr_engines.specs.declared.printing.Printing.TheVariants.{Shown, Checked}
 

@@ -17,7 +17,7 @@ use Rattle.bufr_io.specs.declared.fault.ToolFault.TheVariants as faults
 use Rattle.bufr_engines.specs.declared.printing.Printing.{Printing}
 use Rattle.bufr_io.specs.Engines.{WasReadOut, HasFailed, IsEndless, HasGiven, AreAllOf}
 use Rattle.bufr_io.specs.Engines.{WritesAll, WritesAfter, FailsAfter}
-use Rattle.bufr_io.specs.Refusals.{frame_refused, refused_of}
+use Rattle.bufr_engines.specs.Refusals.{frame_refused, refused_of}
 use Rattle.bufr_engines.specs.Output.{frame_text, frames_text, octets_of}
 use Rattle.bufr_engines.specs.Output.{stream_text, tally_of}
 use Rattle.bufr_engines.specs.Lines.{AreWholeLines, WritesLines}

@@ -10,7 +10,7 @@ ghost use Rattle.bufr_engines.specs.Encoding.{TellsFault, code_as_asked};
 use bufr_answers::Failure;
 use bufr_bits::{Sink, Source};
 use bufr_io::{Input, Tally, ToolFault, read_all, write_out};
-use bufr_message::listing::Messages;
+use bufr_listing::Messages;
 use bufr_message::{EncodeFault, KeptTemplates, Message, keep_and_encode};
 use bufr_tables::Tables;
 use std::alloc::Global;

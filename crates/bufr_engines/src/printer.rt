@@ -4,12 +4,12 @@ ghost use Rattle.std.specs.Prelude.{◌≡◌, ◌≤◌, ◌<◌, ◌+◌, ◌*
 ghost use Rattle.std.specs.Prelude.{Err, IfErr, IfOk, OnErr, OnOk};
 ghost use Rattle.std.specs.Int.{from_bool};
 ghost use Rattle.bufr_bits.specs.Devices.{Writing};
-ghost use Rattle.bufr_message.specs.Listings.{listing};
+ghost use Rattle.bufr_listing.specs.Listings.{listing};
 ghost use Rattle.bufr_message.specs.Messages.{message_of};
-ghost use Rattle.bufr_message.specs.ShortListings.{HasShortListing};
 ghost use Rattle.bufr_answers.specs.Answers.{Gives};
 ghost use Rattle.bufr_engines.specs.Lines.{AreWholeLines};
-ghost use Rattle.bufr_io.specs.Refusals.{frame_refused};
+ghost use Rattle.bufr_engines.specs.Refusals.{frame_refused};
+ghost use Rattle.bufr_engines.specs.ShortListings.{HasShortListing};
 ghost use Rattle.bufr_io.specs.Taking.{frame_at};
 ghost use Rattle.bufr_engines.specs.Output.{fields_text, frame_text};
 ghost use Rattle.bufr_engines.specs.declared.printing.Printing.TheVariants.{Shown, Checked};
@@ -22,9 +22,9 @@ use bufr_answers::{Failure, OutOfMemory};
 use bufr_bits::Sink;
 use bufr_io::{ToolFault, write_after};
 use bufr_listing::laws::{listings_are_joined_parts, subsets_are_joined_lines};
-use bufr_listing::{push_field, push_subset_line};
-use bufr_message::laws::listings_are_short;
-use bufr_message::{Field, Fields, Refused, Templates, View, listing};
+use bufr_listing::{end_text, heading_text, push_field, push_subset_line};
+use bufr_message::laws::subsets_are_small;
+use bufr_message::{Field, Fields, Refused, Templates, View};
 use bufr_tables::Tables;
 use std::alloc::Global;
 
@@ -159,7 +159,7 @@ impl<'t> Printer<'t> {
     {
         listings_are_joined_parts();
         subsets_are_joined_lines();
-        let heading = listing::heading_of_view(alloc, found)?;
+        let heading = heading_text(alloc, &found.sections())?;
         self.held.extend_from_slice(&heading)?;
         self.write_long(writer)?;
         for index in 0..found.count() {
@@ -167,7 +167,7 @@ impl<'t> Printer<'t> {
             push_subset_line(&mut self.held)?;
             self.print_fields(alloc, fields, writer)?;
         }
-        self.held.extend_from_slice(listing::end_text())?;
+        self.held.extend_from_slice(end_text())?;
         Ok(())
     }
 
@@ -258,7 +258,7 @@ impl<'t> Printer<'t> {
         ensures keeps { Keeps self.old self.new }
         ensures short { self.new.written + 2 ^ 64 ≤ self.old.written + 2 ^ 80 }
     {
-        listings_are_short();
+        subsets_are_small();
         let judged = &self.templates.view(alloc, octets);
         self.show_told(alloc, place, octets, judged, writer)
     }

@@ -6,7 +6,7 @@ ghost use Rattle.bufr_answers.specs.Answers.{Gives, result_map};
 ghost use Rattle.bufr_message.specs.declared.Decoded.{Decoded};
 ghost use Rattle.bufr_message.specs.declared.Refused.{Refused};
 ghost use Rattle.bufr_message.specs.Judged.{judged};
-ghost use Rattle.bufr_io.specs.Refusals.{refused_as};
+ghost use Rattle.bufr_engines.specs.Refusals.{refused_as};
 ghost use Rattle.bufr_io.specs.Taking.{frame_at};
 ghost use Rattle.bufr_engines.specs.Output.{checked_as, checked_line, last_text, printed_as};
 ghost use Rattle.bufr_engines.specs.Output.{tally_line};

@@ -5,12 +5,13 @@ ghost use Rattle.bufr_answers.specs.Answers.{result_map};
 ghost use Rattle.bufr_io.specs.Engines.{IsFresh};
 ghost use Rattle.bufr_io.specs.Limits.{most_reads};
 ghost use Rattle.bufr_io.specs.declared.fault.Input.TheVariants.{TableB as FileB, TableD as FileD};
-ghost use Rattle.bufr_tables.specs.TableFiles.{table_b, table_d};
+ghost use Rattle.bufr_table_files.specs.TableFiles.{table_b, table_d};
 ghost use Rattle.bufr_engines.specs.Loads.{Loads, LoadsTable};
 
 use bufr_answers::Failure;
 use bufr_bits::Source;
 use bufr_io::{Input, ToolFault, read_all};
+use bufr_table_files::{parse_table_b, parse_table_d};
 use bufr_tables::{TableB, TableD, Tables};
 use std::alloc::Global;
 
@@ -44,7 +45,7 @@ fn elements_of<S: Source>(alloc: Global, reads: u64, b: &mut S) -> Result<TableB
         (result_map (λ table. table) result) }
 {
     let text = read_all(alloc, reads, Input::TableB, b)?;
-    match TableB::parse(alloc, &text) {
+    match parse_table_b(alloc, &text) {
         Ok(elements) => Ok(elements),
         Err(Failure::Fault(fault)) => Err(ToolFault::Table(Input::TableB, fault)),
         Err(Failure::OutOfMemory) => Err(ToolFault::OutOfMemory),
@@ -60,7 +61,7 @@ fn sequences_of<S: Source>(alloc: Global, reads: u64, d: &mut S) -> Result<Table
         (result_map (λ table. table) result) }
 {
     let text = read_all(alloc, reads, Input::TableD, d)?;
-    match TableD::parse(alloc, &text) {
+    match parse_table_d(alloc, &text) {
         Ok(sequences) => Ok(sequences),
         Err(Failure::Fault(fault)) => Err(ToolFault::Table(Input::TableD, fault)),
         Err(Failure::OutOfMemory) => Err(ToolFault::OutOfMemory),

@@ -6,6 +6,8 @@ pub mod WorkedTables
 pub mod Expansion
 pub mod FirstFaults
 pub mod Flat
+pub mod Kept
+pub mod KeptLaws
 pub mod Limits
 pub mod OperatorsInForce
 pub mod Parts

@@ -3,6 +3,7 @@
 
 mod asks;
 mod expand;
+mod kept_templates;
 pub mod laws;
 mod limits;
 mod node;
@@ -15,6 +16,7 @@ mod walk;
 mod worked_values;
 
 pub use asks::Asks;
+pub use kept_templates::KeptTemplates;
 pub use limits::{
     MOST_FACTOR_BITS, MOST_ITEMS, MOST_LEVELS, MOST_NODES, MOST_NUMBER_BITS, MOST_REFERENCE,
     MOST_SCALE, MOST_TEXT_BITS,

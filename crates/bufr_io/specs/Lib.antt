@@ -5,4 +5,3 @@ pub mod Faults
 pub mod ReadingLaws
 pub mod WritingLaws
 pub mod Taking
-pub mod Refusals

@@ -5,8 +5,8 @@ ghost use Rattle.bufr_io.specs.Faults.{input_text};
 ghost use Rattle.bufr_io.specs.declared.fault.ToolFault.TheVariants.{OutOfMemory as NoMemory};
 
 use bufr_answers::OutOfMemory;
-use bufr_message::EncodeFault;
-use bufr_message::listing::ListingFault;
+use bufr_listing::ListingFault;
+use bufr_sections::EncodeFault;
 use bufr_tables::TableFault;
 use std::fmt;
 use thiserror::Error;

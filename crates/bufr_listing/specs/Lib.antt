@@ -5,8 +5,6 @@ pub mod Lines
 pub mod FieldLines
 pub mod Cursors
 pub mod Reading
-pub mod Kept
-pub mod KeptLaws
 pub mod Unread
 pub mod UnreadLaws
 pub mod Words

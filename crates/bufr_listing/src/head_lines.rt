@@ -17,11 +17,10 @@ ghost use Rattle.bufr_listing.specs.Reading.{read_octets, read_local, read_secti
 ghost use Rattle.bufr_listing.specs.Reading.{read_descriptors, Described, described};
 
 use crate::fault::{Cause, ListingFault};
-use crate::kept_templates::KeptTemplates;
 use crate::line_words::{Words, begins};
 use crate::lines::{Lines, TextLine};
 use bufr_answers::{Failure, Items};
-use bufr_expand::Template;
+use bufr_expand::{KeptTemplates, Template};
 use bufr_tables::Fxy;
 use bufr_tables::laws::descriptor_texts;
 use std::alloc::Global;

@@ -14,12 +14,12 @@ use crate::fault::ListingFault;
 use crate::head_lines::{
     read_descriptors, read_flags, read_local, read_numbers, read_section2, read_word,
 };
-use crate::kept_templates::KeptTemplates;
 use crate::laws::{faults_of_listings_are_the_first, listings_list_messages};
 use crate::lines::Lines;
 use crate::subsets::read_subsets;
 use crate::unread::Messages;
 use bufr_answers::{Failure, Items};
+use bufr_expand::KeptTemplates;
 use bufr_sections::{Head, Message};
 use bufr_tables::Tables;
 use std::alloc::Global;

@@ -5,10 +5,10 @@ ghost use Rattle.bufr_listing.specs.Reading.{messages_listed};
 ghost use Rattle.bufr_listing.specs.Unread.{HandsOutMessage, all_of, unread_in};
 
 use crate::fault::ListingFault;
-use crate::kept_templates::KeptTemplates;
 use crate::lines::Lines;
 use crate::messages::read_message;
 use bufr_answers::Failure;
+use bufr_expand::KeptTemplates;
 use bufr_sections::Message;
 use bufr_tables::Tables;
 use std::alloc::Global;

@@ -12,8 +12,7 @@ pub mod WrittenFacts
 pub mod UnwrittenFacts
 pub mod ReportFacts
 pub mod AloneFacts
-pub mod LineLengths
-pub mod ShortFacts
+pub mod SmallFacts
 pub mod UnderFacts
 pub mod ViewFacts
 pub mod OwnBitsFacts

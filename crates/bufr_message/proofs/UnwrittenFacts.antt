@@ -18,8 +18,8 @@ use Rattle.bufr_data.specs.Compressed.Best.{CanBePacked}
 use Rattle.bufr_sections.specs.declared.message.Message.{Message}
 use Rattle.bufr_sections.specs.declared.layout.Layout.{Layout}
 use Rattle.bufr_sections.specs.declared.layout.Layout.TheVariants.{Edition4}
-use Rattle.bufr_message.specs.declared.fault.EncodeFault.{EncodeFault}
-use Rattle.bufr_message.specs.declared.fault.EncodeFault.TheVariants.{NoDescriptors, Template, Data}
+use Rattle.bufr_sections.specs.declared.fault.EncodeFault.{EncodeFault}
+use Rattle.bufr_sections.specs.declared.fault.EncodeFault.TheVariants.{NoDescriptors, Template, Data}
 use Rattle.bufr_sections.specs.Sections.{AreOctets, Envelope, Ignored, nothing_ignored, spelling}
 use Rattle.bufr_sections.specs.Spelt.{bare, most_subsets, longest, spelt_or}
 use Rattle.bufr_message.specs.Messages.{envelope_with, Spells}

@@ -22,7 +22,7 @@ use Rattle.bufr_sections.specs.Spelt.{bare, most_subsets, longest, spelt_or}
 use Rattle.bufr_message.specs.Messages.{envelope_with, message_of}
 use Rattle.bufr_message.specs.Encodings.{whole_octets, some_descriptors, template_or, data_or}
 use Rattle.bufr_message.specs.Encodings.{data_bits_or, enclosed_or, SpellsBare, code}
-use Rattle.bufr_message.specs.declared.fault.EncodeFault.TheVariants.{Template, Data}
+use Rattle.bufr_sections.specs.declared.fault.EncodeFault.TheVariants.{Template, Data}
 use Rattle.bufr_message.specs.Laws.{NumbersFit}
 use Rattle.bufr_answers.specs.AnswerLaws.{bind_ok, ok_is}
 use Rattle.bufr_message.specs.Below.{Below}

@@ -12,8 +12,8 @@ use Rattle.bufr_fields.specs.declared.fault.WriteFault.{WriteFault}
 use Rattle.bufr_data.specs.Data.{IsBareDataOf, written_bits}
 use Rattle.bufr_sections.specs.declared.message.Message.{Message}
 use Rattle.bufr_sections.specs.declared.layout.Layout.TheVariants.{Edition4}
-use Rattle.bufr_message.specs.declared.fault.EncodeFault.{EncodeFault}
-use Rattle.bufr_message.specs.declared.fault.EncodeFault.TheVariants as faults
+use Rattle.bufr_sections.specs.declared.fault.EncodeFault.{EncodeFault}
+use Rattle.bufr_sections.specs.declared.fault.EncodeFault.TheVariants as faults
 use Rattle.bufr_sections.specs.Sections.{nothing_ignored}
 use Rattle.bufr_sections.specs.Spelt.{spelt_or}
 use Rattle.bufr_message.specs.Messages.{envelope_with, Spells}

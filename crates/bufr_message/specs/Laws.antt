@@ -9,8 +9,8 @@ use Rattle.bufr_sections.specs.declared.fault.Refused.{Refused}
 use Rattle.bufr_fields.specs.declared.fault.WriteFault.TheVariants.{TooLarge}
 use Rattle.bufr_data.specs.Compressed.{Column}
 use Rattle.bufr_data.specs.Compressed.Best.{CanBePacked}
-use Rattle.bufr_message.specs.declared.fault.EncodeFault.{EncodeFault}
-use Rattle.bufr_message.specs.declared.fault.EncodeFault.TheVariants.{Data}
+use Rattle.bufr_sections.specs.declared.fault.EncodeFault.{EncodeFault}
+use Rattle.bufr_sections.specs.declared.fault.EncodeFault.TheVariants.{Data}
 use Rattle.bufr_message.specs.Refusals.{IsFirstFault, IsFirstEncodeFault}
 use Rattle.bufr_sections.specs.Sections.{AreOctets, HeadFits}
 use Rattle.bufr_message.specs.Messages.{Spells, message_of}

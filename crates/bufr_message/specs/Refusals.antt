@@ -13,8 +13,8 @@ use Rattle.bufr_fields.specs.declared.fault.WriteFault.{WriteFault}
 use Rattle.bufr_fields.specs.declared.fault.WriteFault.TheVariants.{TooLarge}
 use Rattle.bufr_data.specs.Data.{IsBareDataOf, BeginsWithData, IsFirstReadFault, IsFirstWriteFault}
 use Rattle.bufr_sections.specs.declared.message.Message.{Message}
-use Rattle.bufr_message.specs.declared.fault.EncodeFault.{EncodeFault}
-use Rattle.bufr_message.specs.declared.fault.EncodeFault.TheVariants as encode
+use Rattle.bufr_sections.specs.declared.fault.EncodeFault.{EncodeFault}
+use Rattle.bufr_sections.specs.declared.fault.EncodeFault.TheVariants as encode
 use Rattle.bufr_sections.specs.declared.fault.Refused.{Refused}
 use Rattle.bufr_sections.specs.declared.fault.Refused.TheVariants.{Template, Data}
 use Rattle.bufr_sections.specs.Sections.{Envelope}

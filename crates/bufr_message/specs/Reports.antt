@@ -9,7 +9,7 @@ use Rattle.bufr_sections.specs.declared.message.Head.{Head}
 use Rattle.bufr_sections.specs.declared.message.Message.{Message}
 use Rattle.bufr_sections.specs.declared.message.Decoded.{Decoded}
 use Rattle.bufr_sections.specs.declared.fault.Refused.{Refused}
-use Rattle.bufr_message.specs.declared.fault.EncodeFault.{EncodeFault}
+use Rattle.bufr_sections.specs.declared.fault.EncodeFault.{EncodeFault}
 use Rattle.bufr_message.specs.declared.report.Report.{Report}
 use Rattle.bufr_message.specs.declared.report.ReportHead.{ReportHead}
 use Rattle.bufr_message.specs.Messages.{message_of, octets_alone, Spells}

@@ -5,7 +5,7 @@ use Rattle.bufr_sections.specs.declared.message.Head.{Head}
 use Rattle.bufr_sections.specs.declared.message.Decoded.{Decoded}
 use Rattle.bufr_sections.specs.declared.fault.Refused.{Refused}
 use Rattle.bufr_sections.specs.Samples.{hex, framed, plain1}
-use Rattle.bufr_message.specs.declared.fault.EncodeFault.{EncodeFault}
+use Rattle.bufr_sections.specs.declared.fault.EncodeFault.{EncodeFault}
 use Rattle.bufr_message.specs.Messages.{message_of}
 use Rattle.bufr_message.specs.Encodings.{code}
 

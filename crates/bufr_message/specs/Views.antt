@@ -1,6 +1,6 @@
 -- What a view stands on: octets that hold the data of subsets, and those that its sections are read
--- of; and what is listed of it.
-use Rattle.std.specs.Prelude.{◌≡◌, ℕ, Bool, List, ◌++◌, Option, Some, None, Ok, length}
+-- of.
+use Rattle.std.specs.Prelude.{◌≡◌, ℕ, Bool, List, Ok, length}
 use Rattle.bufr_bits.specs.Bits.{bits}
 use Rattle.bufr_expand.specs.Trees.{Tree}
 use Rattle.bufr_fields.specs.declared.field.Subset.{Subset}
@@ -9,7 +9,6 @@ use Rattle.bufr_sections.specs.declared.envelope.Envelope.{Envelope}
 use Rattle.bufr_sections.specs.Sections.{AreOctets, descriptors_of, envelope_of}
 use Rattle.bufr_sections.specs.SectionsRead.{envelope}
 use Rattle.bufr_message.specs.OwnBits.{HaveRoom}
-use Rattle.bufr_listing.specs.Listings.{joined, subset_lines}
 
 -- these subsets are read at the front of the octets, under some template
 abbrev pub AreReadFrom : List ℕ → Bool → List Subset → Type 0
@@ -26,13 +25,3 @@ pub record IsViewOf (octets : List ℕ) (sections : Envelope) (descriptors : Lis
   pub count : length subsets ≡ sections.count
   pub read : envelope_of octets ≡ Ok (envelope sections)
   pub contents : AreOctets sections.contents.now
-
--- the text is the lines of the subset that is there, joined
-abbrev pub ListsSubset : Option Subset → List ℕ → Type 0
-ListsSubset None text = ⊥
-ListsSubset (Some s) text = text ≡ joined (subset_lines s)
-
--- the lines of the subset that is there, joined, were added to a text
-abbrev pub AddsSubset : Option Subset → List ℕ → List ℕ → Type 0
-AddsSubset None text text' = ⊥
-AddsSubset (Some s) text text' = text' ≡ text ++ joined (subset_lines s)

@@ -10,15 +10,13 @@ ghost use Rattle.bufr_sections.specs.SectionsRead.{message_lent};
 ghost use Rattle.bufr_message.specs.Encodings.{template_or, data_or, data_bits_or};
 ghost use Rattle.bufr_message.specs.Encodings.{enclosed_or, code, SpellsBare};
 
-use crate::fault::EncodeFault;
 use crate::laws::written_messages_are_spelt;
 use crate::ranges::numbers_fit;
 use bufr_answers::Failure;
 use bufr_bits::BitSink;
 use bufr_data::{Subset, write_subsets};
-use bufr_expand::Template;
-use bufr_listing::KeptTemplates;
-use bufr_sections::{LentSections, Message, spell};
+use bufr_expand::{KeptTemplates, Template};
+use bufr_sections::{EncodeFault, LentSections, Message, spell};
 use bufr_tables::{Fxy, Tables};
 use std::alloc::Global;
 

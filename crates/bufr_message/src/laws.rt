@@ -10,7 +10,7 @@ ghost use Rattle.bufr_message.specs.Laws.{MessagesWrittenAreBare, BareAreWritten
 ghost use Rattle.bufr_message.specs.Laws.{MessagesWrittenAreRead, UnwrittenForFirstFault};
 ghost use Rattle.bufr_message.specs.Laws.{FirstEncodeFaultIsAnswered, PlainSpeltAreWritten};
 ghost use Rattle.bufr_message.specs.Laws.{PackableSpeltAreWritten};
-ghost use Rattle.bufr_message.specs.ShortListings.{ListingsAreShort};
+ghost use Rattle.bufr_message.specs.SmallSubsets.{SubsetsAreSmall};
 
 use bufr_data::laws::data_hold_subsets;
 use bufr_expand::laws::{courses_are_steady, courses_are_unrollings, templates_are_trees};
@@ -93,10 +93,10 @@ pub fn reports_have_canonical_messages()
     laws_below();
 }
 
-/// A message that octets spell has less than 2 to the 16 subsets, and the lines of each of them, in
-/// the listing of the message, have less than 2 to the 40 octets.
-pub fn listings_are_short()
-    ensures { ListingsAreShort }
+/// A message that octets spell has less than 2 to the 16 subsets, and each of them has 16,777,216
+/// fields at most, each of which has 8,191 octets or 64 bits at most.
+pub fn subsets_are_small()
+    ensures { SubsetsAreSmall }
 {
     courses_are_steady();
     courses_are_unrollings();

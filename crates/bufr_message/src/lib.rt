@@ -5,11 +5,9 @@
 mod alone;
 mod decoding;
 mod encoding;
-mod fault;
 mod judged;
 mod kept;
 pub mod laws;
-pub mod listing;
 mod message_view;
 mod own_bits;
 mod ranges;
@@ -21,13 +19,11 @@ mod worked_values;
 
 pub use bufr_answers::{Failure, Items, OutOfMemory};
 pub use bufr_data::{Decimal, Field, Fields, Raw, ReadFault, Subset, WriteFault};
-pub use bufr_expand::{Spec, TemplateFault};
-pub use bufr_listing::KeptTemplates;
-pub use bufr_sections::{Decoded, Head, LentSections, Message, Refused};
+pub use bufr_expand::{KeptTemplates, Spec, TemplateFault};
+pub use bufr_sections::{Decoded, EncodeFault, Head, LentSections, Message, Refused};
 pub use bufr_tables::{Element, Fxy, Kind, TableB, TableD, TableFault, Tables};
 pub use decoding::decode;
 pub use encoding::{encode, keep_and_encode};
-pub use fault::EncodeFault;
 pub use judged::Judged;
 pub use message_view::View;
 pub use own_bits::canonical_of_read;

@@ -10,12 +10,11 @@ ghost use Rattle.bufr_message.specs.Reports.{reports_of, with_parts, without_loc
 ghost use Rattle.bufr_message.specs.Reports.{alone, IsCanonical, IsUnder};
 
 use crate::encoding::octets_of;
-use crate::fault::EncodeFault;
 use crate::laws::{reports_have_canonical_messages, written_messages_are_spelt};
 use crate::ranges::numbers_fit;
 use bufr_answers::{Failure, Items, OutOfMemory};
 use bufr_data::Subset;
-use bufr_sections::{Head, LentSections, Message};
+use bufr_sections::{EncodeFault, Head, LentSections, Message};
 use bufr_tables::{Fxy, Tables};
 use std::alloc::Global;
 use std::slice;

@@ -3,11 +3,10 @@
 ghost use Rattle.std.specs.Prelude.{◌≤◌};
 ghost use Rattle.bufr_io.specs.Engines.{IsFresh};
 
-use crate::files::file_of;
-use crate::saying::{asked, cannot_open, no_archives, say, status_of};
 use bufr_bits::{IntoWrite, Source};
 use bufr_command_line::{CommandLine, Task};
 use bufr_engines::{load_tables, run_check, run_encode, run_show};
+use bufr_files::{REFUSED, WELL, asked, cannot_open, file_of, no_archives, say};
 use bufr_io::{MOST_READS, Tally, ToolFault};
 use std::alloc::Global;
 use std::io::Write;
@@ -57,7 +56,8 @@ pub fn run_reading<'a, R: Files, O: Write + Drop, E: Write + Drop>(
         return cannot_open(alloc, path, err);
     };
     match run_task(alloc, line, &mut b, &mut d, &mut input, out) {
-        Ok(tally) => status_of(&tally),
+        Ok(tally) if tally.refused == 0 => WELL,
+        Ok(_) => REFUSED,
         Err(fault) => say(alloc, &fault, err),
     }
 }

@@ -4,4 +4,5 @@ pub mod Spelt
 pub mod Causes
 pub mod SectionLaws
 pub mod Reasons
+pub mod EncodeReasons
 pub mod Samples

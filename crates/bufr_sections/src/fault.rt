@@ -1,10 +1,11 @@
-//! Why octets are refused.
+//! Why octets are refused, and why a message has none.
 
 ghost use Rattle.std.specs.Prelude.{Some};
+ghost use Rattle.bufr_sections.specs.EncodeReasons.{encode_reason};
 ghost use Rattle.bufr_sections.specs.Reasons.{reason};
 
 use bufr_expand::TemplateFault;
-use bufr_fields::ReadFault;
+use bufr_fields::{ReadFault, WriteFault};
 use std::error::Error;
 use std::fmt;
 
@@ -59,3 +60,30 @@ impl fmt::Display for Refused {
 }
 
 impl Error for Refused {}
+
+/// The first fault of a message that has no octets. Its text is the fault's number, its name and
+/// its values.
+#[derive(Clone, Copy, Debug, PartialEq, Eq)]
+pub enum EncodeFault {
+    /// There is no descriptor.
+    NoDescriptors,
+    /// The descriptors have no template.
+    Template(TemplateFault),
+    /// The subsets don't fit the descriptors, or are too large.
+    Data(WriteFault),
+}
+
+impl fmt::Display for EncodeFault {
+    ghost output = { λ why. Some (encode_reason why) };
+
+    #[tactic(auto, unfolding(crate::specs::EncodeReasons::encode_reason))]
+    fn fmt<W: fmt::Write>(&self, f: &mut fmt::Formatter<W>) -> fmt::Result {
+        match self {
+            EncodeFault::NoDescriptors => write!(f, "E4 NoDescriptors"),
+            EncodeFault::Template(why) => write!(f, "{why}"),
+            EncodeFault::Data(why) => write!(f, "{why}"),
+        }
+    }
+}
+
+impl Error for EncodeFault {}

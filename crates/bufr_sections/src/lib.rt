@@ -17,7 +17,7 @@ mod worked_values;
 
 pub use bare::are_bare;
 pub use envelope::Envelope;
-pub use fault::Refused;
+pub use fault::{EncodeFault, Refused};
 pub use layout::Layout;
 pub use lent_sections::LentSections;
 pub use listed::{are_listed, descriptors_of};

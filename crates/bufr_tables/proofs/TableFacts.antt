@@ -1,47 +1,22 @@
--- What stands at a descriptor, and tests that are equalities: for `Tables::element`, `sequence` and
--- `same`.
-use Rattle.std.proofs.Common.{◌≡◌, ◌∙◌, ℕ, ◌==◌, ◌&&◌, Bool, List, [], ◌∷◌, refl, ap}
-use Rattle.std.proofs.Common.{arith, ℤ, pos, negsuc}
-use Rattle.std.proofs.lemmas.Bool.Decides.{nat_tests, Decides-and, Decides-eqb, Decides-int_eq}
+-- Tests that are equalities, and what one more element adds: for `TableB::add` and `Tables::same`.
+use Rattle.std.proofs.Common.{◌≡◌, ◌∙◌, ℕ, true, false, List, [], ◌∷◌, Some, None, Ok, Err, refl}
+use Rattle.std.proofs.Common.{sym, inl, inr}
+use Rattle.std.proofs.lemmas.Bool.{cases_order}
+use Rattle.std.proofs.lemmas.Bool.Decides.{Decides-eqb, Decides-int_eq, same_from_decides}
 use Rattle.std.specs.Bool.{Decides}
-use Rattle.std.specs.Ordering.{is_eq, nat_cmp}
-use Rattle.std.specs.BTreeMap.{is_at}
-use Rattle.std.specs.Map.{lookup}
-use Rattle.bufr_tables.specs.Entries.{at}
-use Rattle.bufr_tables.specs.Elements.{same_kind, same_integer, same_element}
+use Rattle.std.specs.Ordering.{nat_cmp}
+use Rattle.std.specs.BTreeMap.{insert_entry}
 use Rattle.bufr_tables.specs.declared.element.Element.{Element}
 use Rattle.bufr_tables.specs.declared.element.Kind.{Kind}
 use Rattle.bufr_tables.specs.declared.element.Kind.TheVariants as kinds
+use Rattle.bufr_tables.specs.declared.table_faults.TableFault.TheVariants.{Conflict}
 use Rattle.bufr_tables.specs.contracts.element.KindPartialEq.TheImpl as kind_eq
 use Rattle.bufr_tables.specs.contracts.element.ElementPartialEq.TheImpl as element_eq
-
--- an order's answer `Equal` is equality
-pub is_eq-nat_cmp : (d k : ℕ) → is_eq (nat_cmp d k) ≡ (k == d)
-is_eq-nat_cmp d k = grind (arith, nat_tests)
-
--- what a list of pairs has at a descriptor is what a map of these entries has there
-pub at-lookup : {X : Type 0} (d : ℕ) (es : List (ℕ × X)) → at d es ≡ lookup (is_at (nat_cmp d)) es
-unfolding at
-at-lookup d [] = refl
-at-lookup d (e ∷ es) = rw (is_eq-nat_cmp d e.0, at-lookup d es)
-
--- the same kind is an equal kind
-pub same_kind-Decides : (a b : Kind) → Decides (same_kind a b) (a ≡ b)
-same_kind-Decides kinds.Text kinds.Text = (λ _. refl, λ _. refl)
-same_kind-Decides kinds.Code kinds.Code = (λ _. refl, λ _. refl)
-same_kind-Decides kinds.Flag kinds.Flag = (λ _. refl, λ _. refl)
-same_kind-Decides kinds.Quantity kinds.Quantity = (λ _. refl, λ _. refl)
-same_kind-Decides kinds.Count kinds.Count = (λ _. refl, λ _. refl)
-same_kind-Decides _ _ = (λ h. cc, λ h. cc)
-
--- the same whole number is an equal one
-pub same_integer-Decides : (a b : ℤ) → Decides (same_integer a b) (a ≡ b)
-same_integer-Decides (pos a) (pos b) =
-    (λ h. ap pos ((Decides-eqb a b).0 h), λ h. (Decides-eqb a b).1 (cc))
-same_integer-Decides (negsuc a) (negsuc b) =
-    (λ h. ap negsuc ((Decides-eqb a b).0 h), λ h. (Decides-eqb a b).1 (cc))
-same_integer-Decides (pos a) (negsuc b) = (λ h. cc, λ h. cc)
-same_integer-Decides (negsuc a) (pos b) = (λ h. cc, λ h. cc)
+use Rattle.bufr_tables.specs.ElementJoins.{with_element}
+use Rattle.bufr_tables.specs.ElementLaws.{parts-Decides, same_element-Decides}
+use Rattle.bufr_tables.specs.Elements.{same_kind, same_element}
+use Rattle.bufr_tables.specs.Entries.{at, NoCounts}
+use Rattle.bufr_tables.specs.EntryLaws.{less, equal, greater}
 
 -- the program's `==` of kinds
 pub kind_eq-Decides : (a b : Kind) → Decides (kind_eq.ghosts.eq a b) (a ≡ b)
@@ -52,45 +27,44 @@ kind_eq-Decides kinds.Quantity kinds.Quantity = (λ _. refl, λ _. refl)
 kind_eq-Decides kinds.Count kinds.Count = (λ _. refl, λ _. refl)
 kind_eq-Decides _ _ = (λ h. cc, λ h. cc)
 
--- elements are equal where their parts are
-of_parts : (a b : Element) → a.kind ≡ b.kind → a.scale ≡ b.scale → a.reference ≡ b.reference
-    → a.width ≡ b.width → a ≡ b
-of_parts a b k s r w =
-    ap {B = Element}
-    (λ (x : Kind).
-    record { kind = x; scale = a.scale; reference = a.reference; width = a.width }) k
-    ∙ ap {B = Element}
-    (λ (x : ℤ). record { kind = b.kind; scale = x; reference = a.reference; width = a.width }) s
-    ∙ ap {B = Element}
-    (λ (x : ℤ). record { kind = b.kind; scale = b.scale; reference = x; width = a.width }) r
-    ∙ ap {B = Element}
-    (λ (x : ℕ). record { kind = b.kind; scale = b.scale; reference = b.reference; width = x }) w
-
--- the test of four parts decides whether elements are equal
-parts-Decides : (a b : Element) (x y z w : Bool) → Decides x (a.kind ≡ b.kind)
-    → Decides y (a.scale ≡ b.scale) → Decides z (a.reference ≡ b.reference)
-    → Decides w (a.width ≡ b.width) → Decides (x && (y && (z && w))) (a ≡ b)
-parts-Decides a b x y z w p q r s =
-    let all = Decides-and x (y && (z && w)) p (Decides-and y (z && w) q (Decides-and z w r s)) in (
-      λ h. of_parts a b (all.0 h).0 (all.0 h).1.0 (all.0 h).1.1.0 (all.0 h).1.1.1,
-      λ h. all.1 (
-        ap (λ (e : Element). e.kind) h,
-        (
-          ap (λ (e : Element). e.scale) h,
-          (ap (λ (e : Element). e.reference) h, ap (λ (e : Element). e.width) h),
-        ),
-      ),
-    )
-
 -- the program's `==` of elements
 pub element_eq-Decides : (a b : Element) → Decides (element_eq.ghosts.eq a b) (a ≡ b)
 element_eq-Decides a b =
     parts-Decides a b _ _ _ _ (kind_eq-Decides a.kind b.kind) (Decides-int_eq a.scale b.scale)
     (Decides-int_eq a.reference b.reference) (Decides-eqb a.width b.width)
 
--- the same element is an equal one
-pub same_element-Decides : (a b : Element) → Decides (same_element a b) (a ≡ b)
-same_element-Decides a b =
-    parts-Decides a b _ _ _ _ (same_kind-Decides a.kind b.kind)
-    (same_integer-Decides a.scale b.scale) (same_integer-Decides a.reference b.reference)
-    (Decides-eqb a.width b.width)
+-- an insertion brings no count
+pub NoCounts-insert : (d : ℕ) (v : Element) (es : List (ℕ × Element))
+    → same_kind v.kind kinds.Count ≡ false → NoCounts es → NoCounts (insert_entry nat_cmp es d v)
+NoCounts-insert d v [] k n = (k, tt)
+NoCounts-insert d v (e ∷ es) k n =
+    let more = NoCounts-insert d v es k n.1 in
+    elim (cases_order d e.0) [
+      | inl s ↦ rw (equal d e.0 s) (k, n.1)
+      | inr s ↦
+          elim s [ inl l ↦ rw (less d e.0 l) (k, n) | inr g ↦ rw (greater d e.0 g) (n.0, more) ]
+    ]
+
+-- what an element adds, by cases
+same_test : (a b : Element) → element_eq.ghosts.eq a b ≡ same_element a b
+same_test a b =
+    same_from_decides (element_eq.ghosts.eq a b) (same_element a b) (element_eq-Decides a b)
+    (same_element-Decides a b)
+
+-- an equal row adds nothing
+pub with_element-same : (rows : List (ℕ × Element)) (d : ℕ) (e old : Element) → at d rows ≡ Some old
+    → element_eq.ghosts.eq old e ≡ true → with_element rows (d, e) ≡ Ok rows
+with_element-same rows d e old f s =
+    let t : same_element old e ≡ true = sym (same_test old e) ∙ s in rw (f, t)
+
+-- a differing row is a conflict
+pub with_element-other : (rows : List (ℕ × Element)) (d : ℕ) (e old : Element)
+    → at d rows ≡ Some old → element_eq.ghosts.eq old e ≡ false
+    → with_element rows (d, e) ≡ Err (Conflict d)
+with_element-other rows d e old f s =
+    let t : same_element old e ≡ false = sym (same_test old e) ∙ s in rw (f, t)
+
+-- a row of a new descriptor is added
+pub with_element-new : (rows : List (ℕ × Element)) (d : ℕ) (e : Element) → at d rows ≡ None
+    → with_element rows (d, e) ≡ Ok (insert_entry nat_cmp rows d e)
+with_element-new rows d e f = rw f

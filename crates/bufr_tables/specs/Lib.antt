@@ -1,11 +1,8 @@
-pub mod CsvRecords
 pub mod DescriptorLaws
 pub mod Descriptors
+pub mod ElementJoins
+pub mod ElementLaws
 pub mod Elements
 pub mod Entries
-pub mod Fields
-pub mod Numbers
-pub mod Rows
-pub mod Samples
-pub mod Sheets
-pub mod TableFiles
+pub mod EntryLaws
+pub mod Titles

@@ -111,8 +111,8 @@ fn digit(number: u8) -> u8
     b'0' + number % 10
 }
 
-/// Whether each octet is an ASCII digit.
-pub(crate) fn are_digits(text: &[u8]) -> bool
+// Whether each octet is an ASCII digit.
+fn are_digits(text: &[u8]) -> bool
     ensures { result ≡ list_all is_ascii_digit text.now }
 {
     text.iter().all(|c| c.is_ascii_digit())

@@ -1,15 +1,9 @@
 //! Descriptors, and the tables that explain them: Table B has the elements, Table D the sequences.
 #![tactic(auto)]
 
-mod columns;
-mod csv_records;
 mod element;
-mod fields;
 mod fxy;
 pub mod laws;
-mod numbers;
-mod rows;
-mod sequence_rows;
 mod table_b;
 mod table_d;
 mod table_faults;

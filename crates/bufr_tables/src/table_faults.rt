@@ -1,7 +1,7 @@
 //! Faults of table files.
 
 ghost use Rattle.std.specs.Prelude.{Some};
-ghost use Rattle.bufr_tables.specs.TableFiles.{title};
+ghost use Rattle.bufr_tables.specs.Titles.{title};
 
 use crate::fxy::Fxy;
 use std::fmt;

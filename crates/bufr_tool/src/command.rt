@@ -11,10 +11,11 @@ use bufr_bits::{IntoWrite, Source};
 use bufr_collect::{run_add, run_merge};
 use bufr_command_line::{CommandLine, Task};
 use bufr_engines::load_tables;
-use bufr_io::{MOST_READS, Tally, ToolFault, write_out};
-use bufr_reading::{
-    Unopened, asked, cannot_open, file_of, inputs_of, run_reading, say, status_of, unopened_path,
+use bufr_files::{
+    REFUSED, Unopened, WELL, asked, cannot_open, file_of, inputs_of, say, unopened_path,
 };
+use bufr_io::{MOST_READS, Tally, ToolFault, write_out};
+use bufr_reading::run_reading;
 use bufr_tables::Tables;
 use std::alloc::Global;
 use std::fmt;
@@ -71,7 +72,8 @@ fn run_collecting<R: Files, O: Write + Drop, E: Write + Drop>(
         Err(Unopened::OutOfMemory) => return say(alloc, &ToolFault::OutOfMemory, err),
     };
     match collect_under(rt, alloc, line, &mut b, &mut d, &mut inputs, out) {
-        Ok(tally) => status_of(&tally),
+        Ok(tally) if tally.refused == 0 => WELL,
+        Ok(_) => REFUSED,
         Err(fault) => match unopened_path(&inputs, &fault) {
             Some(path) => cannot_open(alloc, path, err),
             None => say(alloc, &fault, err),

@@ -9,7 +9,7 @@ mod streams;
 mod table_files;
 
 use bufr_io::{Input, Tally, ToolFault};
-use bufr_message::listing::ListingFault;
+use bufr_listing::ListingFault;
 use bufr_message::{EncodeFault, WriteFault};
 use bufr_tables::{Column, TableFault};
 use bufr_tool::{MOST_READS, run_check, run_encode, run_show};

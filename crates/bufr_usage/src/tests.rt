@@ -5,7 +5,8 @@ use bufr_answers::Failure;
 use bufr_archive::NotAnArchive;
 use bufr_frame::Found;
 use bufr_message::Refused;
-use bufr_tables::{TableB, TableD, Tables};
+use bufr_table_files::{parse_table_b, parse_table_d};
+use bufr_tables::Tables;
 use std::alloc::Global;
 use std::process::Abort;
 
@@ -108,8 +109,8 @@ const EMPTY: &[u8] = b"BUFR\x00\x00\x2F\x04\
 
 /// The tables of the tests.
 fn tables(rt: &impl Abort, alloc: Global) -> Tables {
-    let elements = TableB::parse(alloc, TABLE_B).expect(rt, "a table");
-    let sequences = TableD::parse(alloc, b"FXY1,FXY2\n".as_slice()).expect(rt, "a table");
+    let elements = parse_table_b(alloc, TABLE_B).expect(rt, "a table");
+    let sequences = parse_table_d(alloc, b"FXY1,FXY2\n".as_slice()).expect(rt, "a table");
     Tables::new(elements, sequences)
 }
 

@@ -2,8 +2,9 @@
 #![tactic(auto)]
 
 use bufr_message::{
-    Failure, Field, Message, OutOfMemory, Raw, Refused, TableB, TableD, TableFault, Tables, decode,
+    Failure, Field, Message, OutOfMemory, Raw, Refused, TableFault, Tables, decode,
 };
+use bufr_table_files::{parse_table_b, parse_table_d};
 use std::process::ExitCode;
 use std::{env, fs, io};
 use thiserror::Error;
@@ -75,9 +76,9 @@ fn print_field(rt: &HostRuntime, field: &Field) -> Result<(), Problem> {
 /// The tables of two files.
 fn tables_of(rt: &HostRuntime, b: &str, d: &str) -> Result<Tables, Problem> {
     let text = fs::read(rt, b)?;
-    let elements = TableB::parse(rt.alloc(), text.as_slice())?;
+    let elements = parse_table_b(rt.alloc(), text.as_slice())?;
     let text = fs::read(rt, d)?;
-    let sequences = TableD::parse(rt.alloc(), text.as_slice())?;
+    let sequences = parse_table_d(rt.alloc(), text.as_slice())?;
     Ok(Tables::new(elements, sequences))
 }
 

@@ -4,7 +4,8 @@ use crate::tests::refusals::repeated;
 use crate::tests::same;
 use bufr_archive::{Archive, Shelf};
 use bufr_bits::IntoWrite;
-use bufr_tables::{TableB, TableD, Tables};
+use bufr_table_files::{parse_table_b, parse_table_d};
+use bufr_tables::Tables;
 use std::alloc::Global;
 use std::process::Abort;
 
@@ -75,8 +76,8 @@ pub(super) const PAIR_BACK: &[u8] = b"\x0B\xC1\x0C\x0C\x65\
 
 /// The tables of the tests.
 pub(super) fn tables(rt: &impl Abort, alloc: Global) -> Tables {
-    let elements = repeated!(rt, TableB::parse(alloc, TABLE_B));
-    let sequences = repeated!(rt, TableD::parse(alloc, TABLE_D));
+    let elements = repeated!(rt, parse_table_b(alloc, TABLE_B));
+    let sequences = repeated!(rt, parse_table_d(alloc, TABLE_D));
     Tables::new(elements, sequences)
 }
 

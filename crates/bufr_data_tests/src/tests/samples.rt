@@ -5,7 +5,8 @@ use bufr_answers::Items;
 use bufr_bits::{BitReader, BitSink};
 use bufr_data::{Field, Raw, Subset, read_subsets};
 use bufr_expand::Template;
-use bufr_tables::{Fxy, TableB, TableD, Tables};
+use bufr_table_files::{parse_table_b, parse_table_d};
+use bufr_tables::{Fxy, Tables};
 use std::alloc::Global;
 use std::process::Abort;
 
@@ -48,8 +49,8 @@ const TABLE_D: &[u8] = b"FXY1,FXY2
 
 /// The template of descriptors.
 pub(crate) fn template(rt: &impl Abort, alloc: Global, list: Descriptors) -> Template {
-    let elements = TableB::parse(alloc, TABLE_B).expect(rt, "a table");
-    let sequences = TableD::parse(alloc, TABLE_D).expect(rt, "a table");
+    let elements = parse_table_b(alloc, TABLE_B).expect(rt, "a table");
+    let sequences = parse_table_d(alloc, TABLE_D).expect(rt, "a table");
     let tables = Tables::new(elements, sequences);
     let mut descriptors = Vec::new(alloc);
     for (f, x, y) in list {

@@ -6,7 +6,8 @@ ghost use Rattle.bufr_expand_tests.specs.StepAnswers.{asked_width};
 
 use super::same;
 use bufr_expand::{Spec, Step, Template, Walk, WalkFault};
-use bufr_tables::{Fxy, Kind, TableB, TableD, Tables};
+use bufr_table_files::{parse_table_b, parse_table_d};
+use bufr_tables::{Fxy, Kind, Tables};
 use std::alloc::Global;
 use std::process::Abort;
 
@@ -49,8 +50,8 @@ pub(crate) fn tables_of(
     elements: &[u8],
     sequences: &[u8],
 ) -> Tables {
-    let b = TableB::parse(alloc, elements).expect(rt, "a table");
-    let d = TableD::parse(alloc, sequences).expect(rt, "a table");
+    let b = parse_table_b(alloc, elements).expect(rt, "a table");
+    let d = parse_table_d(alloc, sequences).expect(rt, "a table");
     Tables::new(b, d)
 }
 

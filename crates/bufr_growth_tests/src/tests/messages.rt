@@ -7,7 +7,7 @@ use crate::tests::samples::{
     SEQUENCES, TEXTS_LISTED, UNEQUAL_COUNTS, room, tables,
 };
 use bufr_bits::IntoWrite;
-use bufr_message::listing::{ListingWriteFault, text_of, write_message};
+use bufr_listing::{ListingWriteFault, text_of, write_message};
 use bufr_message::{Decoded, Message, Report, canonical, decode, encode, reports};
 use bufr_tables::Tables;
 use std::alloc::Global;

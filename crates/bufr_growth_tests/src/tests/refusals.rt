@@ -1,7 +1,7 @@
 //! Want of memory told from faults.
 
 use bufr_answers::{Failure, OutOfMemory};
-use bufr_message::listing::ListingWriteFault;
+use bufr_listing::ListingWriteFault;
 use std::fmt::Debug;
 use std::process::Abort;
 

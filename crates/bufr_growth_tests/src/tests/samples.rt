@@ -1,7 +1,8 @@
 //! Tables and messages.
 
 use crate::tests::refusals::repeated;
-use bufr_tables::{TableB, TableD, Tables};
+use bufr_table_files::{parse_table_b, parse_table_d};
+use bufr_tables::Tables;
 use std::alloc::Global;
 use std::process::Abort;
 
@@ -99,8 +100,8 @@ pub(super) const LOCAL_OCTETS: &[u8] = b"BUFR\x00\x00\x3D\x04\
 
 /// The tables of the tests.
 pub(super) fn tables(rt: &impl Abort, alloc: Global) -> Tables {
-    let elements = repeated!(rt, TableB::parse(alloc, TABLE_B));
-    let sequences = repeated!(rt, TableD::parse(alloc, TABLE_D));
+    let elements = repeated!(rt, parse_table_b(alloc, TABLE_B));
+    let sequences = repeated!(rt, parse_table_d(alloc, TABLE_D));
     Tables::new(elements, sequences)
 }
 

@@ -2,7 +2,8 @@
 
 use bufr_listing::read;
 use bufr_sections::Message;
-use bufr_tables::{TableB, TableD, Tables};
+use bufr_table_files::{parse_table_b, parse_table_d};
+use bufr_tables::Tables;
 use std::alloc::Global;
 use std::process::Abort;
 
@@ -33,8 +34,8 @@ FXY1,FXY2
 
 /// The first message that a text lists.
 pub(super) fn first_message(rt: &impl Abort, alloc: Global, text: &str) -> Message {
-    let b = TableB::parse(alloc, ELEMENTS.as_bytes()).expect(rt, "an answer");
-    let d = TableD::parse(alloc, SEQUENCES.as_bytes()).expect(rt, "an answer");
+    let b = parse_table_b(alloc, ELEMENTS.as_bytes()).expect(rt, "an answer");
+    let d = parse_table_d(alloc, SEQUENCES.as_bytes()).expect(rt, "an answer");
     let tables = Tables::new(b, d);
     let messages = read(alloc, &tables, text.as_bytes()).expect(rt, "an answer");
     messages.into_iter().next().expect(rt, "a message")

@@ -1,6 +1,7 @@
 //! The tables and octets of the tests.
 
-use bufr_tables::{TableB, TableD, Tables};
+use bufr_table_files::{parse_table_b, parse_table_d};
+use bufr_tables::Tables;
 use std::alloc::Global;
 use std::process::Abort;
 
@@ -35,8 +36,8 @@ FXY1,FXY2
 
 /// The tables of the tests.
 pub(crate) fn tables(rt: &impl Abort, alloc: Global) -> Tables {
-    let b = TableB::parse(alloc, TABLE_B.as_bytes()).expect(rt, "a table");
-    let d = TableD::parse(alloc, TABLE_D.as_bytes()).expect(rt, "a table");
+    let b = parse_table_b(alloc, TABLE_B.as_bytes()).expect(rt, "a table");
+    let d = parse_table_d(alloc, TABLE_D.as_bytes()).expect(rt, "a table");
     Tables::new(b, d)
 }
 

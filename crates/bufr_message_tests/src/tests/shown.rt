@@ -4,7 +4,7 @@
 
 use super::same;
 use super::samples::*;
-use bufr_message::listing::{end_text, heading_of_view, push_subset_of_view, subset_of_view};
+use bufr_listing::{end_text, heading_text, push_subset, subset_text};
 use bufr_message::{Report, View, canonical, canonical_of_read, decode, reports, view};
 use std::alloc::Global;
 use std::process::Abort;
@@ -190,8 +190,9 @@ fn add_subset(
     listing: &mut Vec<u8>,
 ) {
     assert!(rt; 1 <= number && number <= found.count());
-    push_subset_of_view(alloc, found, number, listing).expect(rt, "room");
-    let alone = subset_of_view(alloc, found, number).expect(rt, "room");
+    let subset = found.subset(alloc, number).expect(rt, "room");
+    push_subset(alloc, listing, &subset).expect(rt, "room");
+    let alone = subset_text(alloc, &subset).expect(rt, "room");
     same(rt, "a subset", listing.ends_with(alone.as_slice()), true);
 }
 
@@ -199,7 +200,7 @@ fn add_subset(
 fn listed_part_by_part(rt: HostRuntime) {
     let all = octets(&rt, rt.alloc(), COMPRESSED_TEXTS);
     let found = viewed(&rt, rt.alloc(), all.as_slice());
-    let mut listing = heading_of_view(rt.alloc(), &found).expect(&rt, "room");
+    let mut listing = heading_text(rt.alloc(), &found.sections()).expect(&rt, "room");
     for number in 1..3 {
         add_subset(&rt, rt.alloc(), &found, number, &mut listing);
     }

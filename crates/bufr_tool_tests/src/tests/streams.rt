@@ -5,7 +5,7 @@ use super::samples::{
 };
 use super::{Counted, Engine, Run, assert_run, same, same_in};
 use bufr_io::{Input, ToolFault};
-use bufr_message::listing::ListingFault;
+use bufr_listing::ListingFault;
 use std::alloc::Global;
 use std::process::Abort;
 

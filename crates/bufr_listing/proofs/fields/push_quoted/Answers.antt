@@ -1,6 +1,6 @@
 -- For `push_quoted`: octets that are all printed as themselves, those that are printed one by one,
 -- and what stays where memory runs out.
-use Rattle.std.proofs.Common.{◌≡◌, ◌++◌, ◌∙◌, ap, sym, refl, rules, tests}
+use Rattle.std.proofs.Common.{◌≡◌, ◌++◌, ◌∙◌, sym, refl, rules, tests}
 use Rattle.std.specs.List.{list_all, flat_map}
 use Rattle.std.proofs.lemmas.List.{take_all}
 use Rattle.std.proofs.lemmas.Result.{MatchResult-from_err}

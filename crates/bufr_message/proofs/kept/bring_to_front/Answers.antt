@@ -1,6 +1,6 @@
 -- For `bring_to_front`: what is kept in front is of its list, as the others are.
 use Rattle.bufr_message.specs.Kept.{IsOf}
-use Rattle.bufr_listing.specs.KeptLaws.{all_behind}
+use Rattle.bufr_expand.specs.KeptLaws.{all_behind}
 use Rattle.bufr_message.proofs.KeptFacts.{own_is}
 use Rattle.bufr_message.proofs.kept.bring_to_front.Goals as goal
 

@@ -3,7 +3,7 @@ use Rattle.std.proofs.Common.{◌≡◌, sym, subst, refl, arith}
 use Rattle.std.proofs.lemmas.Grind.{common_steps}
 use Rattle.bufr_sections.specs.Sections.{descriptors_of}
 use Rattle.bufr_message.specs.Kept.{IsOf}
-use Rattle.bufr_listing.specs.KeptLaws.{all_left, all_at}
+use Rattle.bufr_expand.specs.KeptLaws.{all_left, all_at}
 use Rattle.bufr_message.proofs.kept.taken.Goals as goal
 
 -- the others are still of their lists

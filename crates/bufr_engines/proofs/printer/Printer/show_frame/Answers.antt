@@ -7,9 +7,11 @@ use Rattle.bufr_tables.specs.Entries.{Entries}
 use Rattle.bufr_message.specs.declared.Decoded.{Decoded}
 use Rattle.bufr_message.specs.declared.Refused.{Refused}
 use Rattle.bufr_message.specs.Messages.{message_of, Spells}
-use Rattle.bufr_message.specs.ShortListings.{HasShortListing, ListingsAreShort}
+use Rattle.bufr_message.specs.SmallSubsets.{SubsetsAreSmall}
 use Rattle.bufr_engines.specs.declared.printing.Printing.TheVariants.{Shown}
-use Rattle.bufr_io.specs.Refusals.{frame_refused}
+use Rattle.bufr_engines.specs.Refusals.{frame_refused}
+use Rattle.bufr_engines.specs.ShortListings.{HasShortListing}
+use Rattle.bufr_engines.proofs.LineLengths.{listing_short}
 use Rattle.bufr_io.specs.Taking.{frame_at}
 use Rattle.bufr_engines.specs.Output.{frame_text}
 use Rattle.bufr_engines.specs.StreamEngines.{Adds, WritesAllBut}
@@ -17,9 +19,9 @@ use Rattle.bufr_engines.proofs.printer.Printer.show_frame.Goals as goal
 
 -- the listing of a message that octets spell is short
 short_as_spelt : (tables : Entries) (octets : List ℕ) (r : Result Decoded (Failure Refused))
-    → ListingsAreShort → IfOk r (λ d. Spells tables d.message octets d.slack_octets)
+    → SubsetsAreSmall → IfOk r (λ d. Spells tables d.message octets d.slack_octets)
     → IfOk r (λ d. HasShortListing d.message)
-short_as_spelt tables octets (Ok d) law spelt = law _ _ _ _ spelt
+short_as_spelt tables octets (Ok d) law spelt = listing_short d.message (law _ _ _ _ spelt)
 short_as_spelt tables octets (Err e) law spelt = tt
 
 -- the octets were judged under the tables that stayed
@@ -32,7 +34,7 @@ show_told-requires-clause-exact g c =
 pub show_told-requires-clause-listed : goal.show_told-requires-clause-listed
 show_told-requires-clause-listed g c =
     short_as_spelt c.args.self.now.templates c.args.octets.now c.view.result
-    c.listings_are_short.ensures c.view.ensures.found
+    c.subsets_are_small.ensures c.view.ensures.found
 
 -- what was printed of the frame as it was judged is its text
 pub returns-clause-prints : goal.returns-clause-prints

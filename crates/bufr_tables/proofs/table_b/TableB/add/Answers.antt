@@ -2,9 +2,10 @@
 use Rattle.std.proofs.Common.{◌∙◌, sym, ap, Ok, Result, List, ℕ}
 use Rattle.bufr_tables.specs.declared.element.Element.{Element}
 use Rattle.bufr_tables.specs.declared.table_faults.TableFault.{TableFault}
-use Rattle.bufr_tables.proofs.TableFacts.{at-lookup}
-use Rattle.bufr_tables.proofs.RowFacts.{with_element-same, with_element-other, with_element-new}
-use Rattle.bufr_tables.proofs.RowFacts.{Rising-insert, NoCounts-insert}
+use Rattle.bufr_tables.specs.EntryLaws.{at-lookup}
+use Rattle.bufr_tables.proofs.TableFacts.{with_element-same, with_element-other, with_element-new}
+use Rattle.bufr_tables.specs.EntryLaws.{Rising-insert}
+use Rattle.bufr_tables.proofs.TableFacts.{NoCounts-insert}
 use Rattle.bufr_tables.proofs.table_b.TableB.add.Goals as goal
 
 -- an element that is there already leaves the table as it is

@@ -1,6 +1,6 @@
 -- For `TableB::element`: the clause `value`.
 use Rattle.std.proofs.Common.{◌∙◌, sym}
-use Rattle.bufr_tables.proofs.TableFacts.{at-lookup}
+use Rattle.bufr_tables.specs.EntryLaws.{at-lookup}
 use Rattle.bufr_tables.proofs.table_b.TableB.element.Goals as goal
 
 -- the element that the map holds of a descriptor is the one of the table

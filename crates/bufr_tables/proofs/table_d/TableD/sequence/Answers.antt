@@ -1,6 +1,6 @@
 -- For `TableD::sequence`: the clause `value`.
 use Rattle.std.proofs.Common.{◌∙◌, sym, ap, Some}
-use Rattle.bufr_tables.proofs.TableFacts.{at-lookup}
+use Rattle.bufr_tables.specs.EntryLaws.{at-lookup}
 use Rattle.bufr_tables.proofs.table_d.TableD.sequence.Goals as goal
 
 -- the descriptors that the map holds of a sequence are those of the table

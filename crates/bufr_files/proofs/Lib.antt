@@ -1,0 +1,2 @@
+-- What the contract of `inputs_of` is proved from.
+mod OpenFacts

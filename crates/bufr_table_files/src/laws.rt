@@ -1,0 +1,32 @@
+//! Laws of table files, each the contract of a function that does nothing.
+
+ghost use Rattle.std.specs.Prelude.{◌≡◌, ◌↔◌, ℕ, List, Ok, Err};
+ghost use Rattle.bufr_tables.specs.declared.element.Element.{Element};
+ghost use Rattle.bufr_tables.specs.declared.table_faults.TableFault.{TableFault};
+ghost use Rattle.bufr_table_files.specs.Sheets.{AreElementRows, AreSequenceRows};
+ghost use Rattle.bufr_table_files.specs.Sheets.{IsFirstElementFault, IsFirstSequenceFault};
+ghost use Rattle.bufr_table_files.specs.TableFiles.{records_of, table_b, table_d};
+
+/// A file is read as Table B exactly where these elements are its rows.
+pub fn element_files()
+    ensures { (text : List ℕ) (elements : List (ℕ × Element))
+        → ((table_b text ≡ Ok elements) ↔ AreElementRows (records_of text) elements) }
+{}
+
+/// A file is refused as Table B exactly with its first fault.
+pub fn element_faults()
+    ensures { (text : List ℕ) (fault : TableFault)
+        → ((table_b text ≡ Err fault) ↔ IsFirstElementFault (records_of text) fault) }
+{}
+
+/// A file is read as Table D exactly where its rows are these sequences, one behind another.
+pub fn sequence_files()
+    ensures { (text : List ℕ) (sequences : List (ℕ × List ℕ))
+        → ((table_d text ≡ Ok sequences) ↔ AreSequenceRows (records_of text) sequences) }
+{}
+
+/// A file is refused as Table D exactly with its first fault.
+pub fn sequence_faults()
+    ensures { (text : List ℕ) (fault : TableFault)
+        → ((table_d text ≡ Err fault) ↔ IsFirstSequenceFault (records_of text) fault) }
+{}
