@@ -1,6 +1,7 @@
 //! A file that is opened when it is first read, and closed at its end.
 
-ghost use Rattle.std.specs.Prelude.{◌≡◌, ◌≤◌, None, false, length, IfSome};
+ghost use Rattle.std.specs.Prelude.{◌≡◌, ◌≤◌, ◌↔◌, None, false, length, IfSome, IsTrue};
+ghost use Rattle.bufr_files.specs.declared.late_input.Stage.TheVariants as stages;
 ghost use Rattle.bufr_bits.specs.Devices.{Reading};
 
 use bufr_bits::{Failed, Source};
@@ -51,12 +52,16 @@ impl<'a, R: Files> LateInput<'a, R> {
     }
 
     /// The path of the file.
-    pub fn path(&self) -> &'a str {
+    pub fn path(&self) -> &'a str
+        ensures { result ≡ self.now.path }
+    {
         self.path
     }
 
     /// Whether the file was to be opened and could not.
-    pub fn is_unopened(&self) -> bool {
+    pub fn is_unopened(&self) -> bool
+        ensures { IsTrue result ↔ (self.now.stage ≡ stages.Unopened) }
+    {
         matches!(&self.stage, Stage::Unopened)
     }
 

@@ -1,13 +1,13 @@
 //! The commands of the program, over a runtime with files and any two writers.
 
-ghost use Rattle.std.specs.Prelude.{◌≡◌, ◌≤◌, ◌++◌, map, string_bytes, OnOk};
+ghost use Rattle.std.specs.Prelude.{◌≡◌, ◌≤◌, ◌++◌, false, map, string_bytes, OnOk};
 ghost use Rattle.bufr_collect.specs.Readers.{AreFresh};
 ghost use Rattle.bufr_io.specs.Engines.{IsFresh};
 ghost use Rattle.bufr_tool.specs.ArchiveLines.{added_line, merged_line};
 
 use crate::late_file::LateFile;
 use bufr_answers::OutOfMemory;
-use bufr_bits::{IntoWrite, Source};
+use bufr_bits::{IntoWrite, Sink, Source};
 use bufr_collect::{run_add, run_merge};
 use bufr_command_line::{CommandLine, Task};
 use bufr_engines::load_tables;
@@ -112,8 +112,9 @@ fn collect<R: Files, S: Source, O: Write + Drop>(
 {
     // No memory is asked for once the archive is written: then only writing can fail.
     let mut text = String::with_capacity(alloc, LONGEST_LINE)?;
+    let mut writer = IntoWrite::new(&mut *out);
     let tally = write_archive(rt, alloc, tables, line, inputs)?;
-    print_collected(line.task, &mut text, tally, out)
+    print_collected(line.task, &mut text, tally, &mut writer)
 }
 
 /// Writes an archive of the inputs to the file of a line, which is closed again at the end.
@@ -134,17 +135,19 @@ fn write_archive<R: Files, S: Source>(
 }
 
 /// Prints what was counted of an archive, by way of some text that has room for it, and answers it.
-fn print_collected<O: Write + Drop>(
+fn print_collected<W: Sink>(
     task: Task,
     text: &mut String,
     tally: Tally,
-    out: &mut O,
-) -> Result<Tally, ToolFault> {
+    writer: &mut W,
+) -> Result<Tally, ToolFault>
+    requires { (W.writing writer.old).failed ≡ false }
+{
     match task {
         Task::Merge => push_merged(text, &tally)?,
         _ => push_added(text, &tally)?,
     }
-    write_out(&mut IntoWrite::new(&mut *out), 0, text.as_bytes())?;
+    write_out(writer, 0, text.as_bytes())?;
     Ok(tally)
 }
 
