@@ -7,6 +7,5 @@ mod PartFacts
 mod PrintingFacts
 mod StreamFacts
 mod EngineFacts
-mod EncodingFacts
 mod LoadFacts
 mod OnLiterals

@@ -4,5 +4,4 @@ pub mod Output
 pub mod Lines
 pub mod Loads
 pub mod StreamEngines
-pub mod Encoding
 pub mod Samples

@@ -1,8 +1,7 @@
-//! The engines of `bufr` that read one input, over any readers and writers.
+//! The engines of `show` and `check`, and the tables of two files, over any readers and writers.
 #![tactic(auto)]
 
 mod check;
-mod encode;
 mod frames;
 mod printer;
 mod printing;
@@ -11,6 +10,5 @@ mod tables;
 mod worked_values;
 
 pub use check::run_check;
-pub use encode::run_encode;
 pub use show::run_show;
 pub use tables::load_tables;

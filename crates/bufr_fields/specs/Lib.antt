@@ -3,8 +3,7 @@ pub mod Fits
 pub mod Asked
 pub mod Values
 pub mod Digits
-pub mod DecimalTexts
-pub mod DecimalTextFacts
+pub mod DigitFacts
 pub mod Laws
 pub mod Limits
 pub mod Steady

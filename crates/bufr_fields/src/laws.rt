@@ -1,8 +1,7 @@
-//! Laws of fields that fit a template, and of the texts of decimals.
+//! Laws of fields that fit a template.
 
 ghost use Rattle.bufr_fields.specs.Laws.{CountedFit, FittingAreCounted, AllCountedFit};
 ghost use Rattle.bufr_fields.specs.Laws.{AllFittingAreCounted};
-ghost use Rattle.bufr_fields.specs.DecimalTexts.{UnitsOfTexts};
 
 use bufr_expand::laws::courses_are_unrollings;
 
@@ -17,9 +16,3 @@ pub fn counted_subsets_fit()
 {
     courses_are_unrollings();
 }
-
-/// The units of a decimal are the only ones that its text can have at its scale: so a decimal is
-/// read of its text by one candidate.
-pub fn texts_have_one_decimal()
-    ensures { UnitsOfTexts }
-{}

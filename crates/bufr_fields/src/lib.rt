@@ -1,14 +1,12 @@
 //! Fields and their values, and which of them a template allows.
 #![tactic(auto)]
 
-mod digits;
 mod fault;
 mod field;
 mod fit;
 mod form;
 pub mod laws;
 mod limits;
-mod parse;
 mod text;
 mod worked_values;
 

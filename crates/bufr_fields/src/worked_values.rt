@@ -4,7 +4,6 @@
 ghost use Rattle.std.specs.Prelude.{◌≡◌, ◌∷◌, ◌-◌, ◌+◌, ◌^◌, [], pos, negsuc, codes, map, Some, None};
 ghost use Rattle.std.specs.Prelude.{true, false, replicate};
 ghost use Rattle.bufr_tables.specs.Descriptors.{descriptor};
-ghost use Rattle.bufr_fields.specs.DecimalTexts.{decimal_of, units_by};
 ghost use Rattle.bufr_fields.specs.Forms.{has_form_by, number_of, same_spec};
 ghost use Rattle.bufr_fields.specs.Limits.{most_raw_bits, most_increment_bits, most_decimal_scale};
 ghost use Rattle.bufr_fields.specs.Reasons.{read_reason, write_reason};
@@ -15,7 +14,7 @@ use crate::fault::{ReadFault, WriteFault};
 use crate::field::Raw;
 use bufr_tables::Kind;
 
-/// The texts of values.
+/// The texts of values, and which scales a value can have.
 #[tactic(auto, unfolding(crate::proofs::OnLiterals::decimals_on_literals))]
 pub fn texts_of_values()
     ensures point { text_of (record { units = pos 27315; scale = pos 2 }) ≡ codes "273.15" }
@@ -33,44 +32,10 @@ pub fn texts_of_values()
         (9 ∷ 10 ∷ 99 ∷ 100 ∷ 999 ∷ 1000 ∷ [])
         ≡ codes "0.09" ∷ codes "0.10" ∷ codes "0.99" ∷ codes "1.00" ∷ codes "9.99"
         ∷ codes "10.00" ∷ [] }
-{}
-
-/// The decimals that texts are read as: each text of a decimal, and no other spelling.
-#[tactic(auto, unfolding(crate::proofs::OnLiterals::decimals_on_literals))]
-pub fn decimals_of_texts()
-    ensures hundredths { map (λ t. decimal_of (pos 2) t) (codes "273.15" ∷ codes "-0.01"
-        ∷ codes "0.00" ∷ codes "-180.00" ∷ [])
-        ≡ Some (record { units = pos 27315; scale = pos 2 })
-        ∷ Some (record { units = negsuc 0; scale = pos 2 })
-        ∷ Some (record { units = pos 0; scale = pos 2 })
-        ∷ Some (record { units = negsuc 17999; scale = pos 2 }) ∷ [] }
-    ensures no_hundredths { map (λ t. decimal_of (pos 2) t) (codes "273.1" ∷ codes "273.150"
-        ∷ codes "0273.15" ∷ codes ".15" ∷ codes "273" ∷ codes "-0.00" ∷ codes "+1.00"
-        ∷ codes "1,00" ∷ codes " 1.00" ∷ codes "1.00 " ∷ codes "-" ∷ [] ∷ [])
-        ≡ replicate 12 None }
-    ensures whole { map (λ t. decimal_of (pos 0) t) (codes "5" ∷ codes "0" ∷ codes "-400" ∷ [])
-        ≡ Some (record { units = pos 5; scale = pos 0 })
-        ∷ Some (record { units = pos 0; scale = pos 0 })
-        ∷ Some (record { units = negsuc 399; scale = pos 0 }) ∷ [] }
-    ensures not_whole { map (λ t. decimal_of (pos 0) t) (codes "05" ∷ codes "-0" ∷ codes "+5"
-        ∷ codes "5." ∷ codes "--5" ∷ []) ≡ replicate 5 None }
-    ensures tens { map (λ t. decimal_of (negsuc 0) t)
-        (codes "101320" ∷ codes "0" ∷ codes "-10" ∷ [])
-        ≡ Some (record { units = pos 10132; scale = negsuc 0 })
-        ∷ Some (record { units = pos 0; scale = negsuc 0 })
-        ∷ Some (record { units = negsuc 0; scale = negsuc 0 }) ∷ [] }
-    ensures no_tens { map (λ t. decimal_of (negsuc 0) t) (codes "101325" ∷ codes "00" ∷ codes "5"
-        ∷ codes "-0" ∷ []) ≡ replicate 4 None }
-    ensures positive { map (λ n. units_by false n) (0 ∷ 5 ∷ (2 ^ 127 - 1) ∷ 2 ^ 127 ∷ [])
-        ≡ Some (pos 0) ∷ Some (pos 5) ∷ Some (pos (2 ^ 127 - 1)) ∷ None ∷ [] }
-    ensures negative { map (λ n. units_by true n) (0 ∷ 1 ∷ 2 ^ 127 ∷ (2 ^ 127 + 1) ∷ [])
-        ≡ None ∷ Some (negsuc 0) ∷ Some (negsuc (2 ^ 127 - 1)) ∷ None ∷ [] }
     ensures scales { map (λ s. decimal_within (pos 5) s)
         (pos 600 ∷ pos 601 ∷ negsuc 599 ∷ negsuc 600 ∷ [])
         ≡ Some (record { units = pos 5; scale = pos 600 }) ∷ None
         ∷ Some (record { units = pos 5; scale = negsuc 599 }) ∷ None ∷ [] }
-    ensures scales_read { map (λ s. decimal_of s (codes "0")) (negsuc 599 ∷ negsuc 600 ∷ [])
-        ≡ Some (record { units = pos 0; scale = negsuc 599 }) ∷ None ∷ [] }
 {}
 
 /// Raw values that have a form, by kind: numbers of code tables, flag tables, quantities and factors,

@@ -7,4 +7,4 @@ mod saying;
 
 pub use files::{Unopened, file_of, inputs_of, unopened_path};
 pub use late_input::LateInput;
-pub use saying::{REFUSED, WELL, asked, cannot_open, no_archives, say, words_of};
+pub use saying::{REFUSED, WELL, asked, cannot_open, reads_alone, say, words_of};

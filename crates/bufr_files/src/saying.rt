@@ -117,12 +117,12 @@ pub fn cannot_open<E: Write + Drop>(alloc: Global, path: &str, err: &mut E) -> u
     tell(format!(in alloc; "bufr: cannot open {path}\n"), err)
 }
 
-/// Says on `err` that the program that reads alone makes no archives.
-pub fn no_archives<E: Write + Drop>(alloc: Global, err: &mut E) -> u8
+/// Says on `err` that this program has `show` and `check` alone, and answers the exit status.
+pub fn reads_alone<E: Write + Drop>(alloc: Global, err: &mut E) -> u8
     ensures { result ≡ 2 }
 {
     tell(
-        format!(in alloc; "bufr: this program makes no archives\n"),
+        format!(in alloc; "bufr: this program has show and check alone\n"),
         err,
     )
 }

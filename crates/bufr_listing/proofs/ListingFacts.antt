@@ -1,6 +1,6 @@
 -- Lines with their ends, joined: the parts of a listing as the writers write them, one behind the
 -- other. For `heading_text`, `push_descriptors` and `push_subset`, for `text_of` and for the laws
--- `listings_are_joined_parts`, `subsets_are_joined_lines` and `listings_are_read_back`.
+-- `listings_are_joined_parts` and `subsets_are_joined_lines`.
 use Rattle.std.proofs.Common.{◌≡◌, ℕ, List, [], ◌∷◌, ◌++◌, map, codes, refl, sym, ap}
 use Rattle.std.proofs.Common.{◌∙◌, append_assoc}
 use Rattle.std.specs.List.{flat_map}
@@ -18,7 +18,7 @@ use Rattle.bufr_listing.specs.Listings.{heading_lines, field_line}
 use Rattle.bufr_listing.specs.Listings.{subset_line, subset_lines, end_line, lines_of, listing}
 
 -- lines behind lines are joined one behind the other
-pub joined_append : (xs ys : List (List ℕ)) → joined (xs ++ ys) ≡ joined xs ++ joined ys
+joined_append : (xs ys : List (List ℕ)) → joined (xs ++ ys) ≡ joined xs ++ joined ys
 joined_append [] ys = refl
 joined_append (x ∷ xs) ys = ap (λ zs. line x ++ zs) (joined_append xs ys)
     ∙ sym (append_assoc (line x) (joined xs) (joined ys))
@@ -150,11 +150,3 @@ listing_in_parts m =
     joined_append (heading ++ subsets) (end_line ∷ [])
     ∙ (λ i. joined_append heading subsets i ++ line end_line)
     ∙ (λ i. (joined heading ++ subsets_joined m.subsets i) ++ line end_line)
-
--- the listings of messages are their joined lines
-pub listings_joined : (messages : List Message) → flat_map listing messages ≡ joined
-    (flat_map lines_of messages)
-unfolding listing
-listings_joined [] = refl
-listings_joined (m ∷ messages) = ap (λ zs. joined (lines_of m) ++ zs) (listings_joined messages)
-    ∙ sym (joined_append (lines_of m) (flat_map lines_of messages))

@@ -1,4 +1,4 @@
-//! The program `bufr` without `add` and `merge`, which is built sooner.
+//! The program `bufr` with `show` and `check` alone, which is built sooner.
 #![tactic(auto)]
 
 use bufr_reading::{run_reader, words_of};

@@ -1,4 +1,4 @@
-//! The commands of `bufr` that read one input, on files.
+//! The commands `show` and `check` of `bufr`, on files.
 #![tactic(auto)]
 
 mod reading;

@@ -1,19 +1,19 @@
-//! The commands that read one input and make no archive, over a runtime with files and two writers.
+//! The commands that read one stream and write no file, over a runtime with files and two writers.
 
 ghost use Rattle.std.specs.Prelude.{◌≤◌};
 ghost use Rattle.bufr_io.specs.Engines.{IsFresh};
 
 use bufr_bits::{IntoWrite, Source};
 use bufr_command_line::{CommandLine, Task};
-use bufr_engines::{load_tables, run_check, run_encode, run_show};
-use bufr_files::{REFUSED, WELL, asked, cannot_open, file_of, no_archives, say};
+use bufr_engines::{load_tables, run_check, run_show};
+use bufr_files::{REFUSED, WELL, asked, cannot_open, file_of, reads_alone, say};
 use bufr_io::{MOST_READS, Tally, ToolFault};
 use std::alloc::Global;
 use std::io::Write;
 use std::rt::Files;
 
 /// Carries out the command that words ask for, without the program's name, as `run_command` of
-/// bufr_tool does, but for `add` and `merge`, which it refuses.
+/// bufr_tool does, but for `encode`, `add` and `merge`, which it refuses.
 pub fn run_reader<R: Files, O: Write + Drop, E: Write + Drop>(
     rt: &R,
     alloc: Global,
@@ -28,14 +28,14 @@ pub fn run_reader<R: Files, O: Write + Drop, E: Write + Drop>(
         Err(status) => return status,
     };
     match line.task {
-        Task::Add | Task::Merge => no_archives(alloc, err),
-        _ => run_reading(rt, alloc, &line, out, err),
+        Task::Show | Task::Check => run_reading(rt, alloc, &line, out, err),
+        _ => reads_alone(alloc, err),
     }
 }
 
-/// Opens the tables and the input of a line that makes no archive, runs its engine, and answers the
-/// exit status: 0 where all is well, 1 where a message was refused, 2 on a fault of a file, a table,
-/// a listing or memory. A fault is one line on `err`.
+/// Opens the tables and the stream of a line, runs `check` or else `show`, and answers the exit
+/// status: 0 where all is well, 1 where a message was refused, 2 on a fault of a file, a table or
+/// memory. A fault is one line on `err`.
 pub fn run_reading<'a, R: Files, O: Write + Drop, E: Write + Drop>(
     rt: &'a R,
     alloc: Global,
@@ -79,14 +79,6 @@ fn run_task<S: Source, O: Write + Drop>(
     let mut writer = IntoWrite::new(&mut *out);
     match line.task {
         Task::Check => run_check(alloc, MOST_READS, &tables, input, &mut writer),
-        Task::Encode => run_encode(
-            alloc,
-            MOST_READS,
-            &tables,
-            line.compressed,
-            input,
-            &mut writer,
-        ),
         _ => run_show(alloc, MOST_READS, &tables, input, &mut writer),
     }
 }

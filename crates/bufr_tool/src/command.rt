@@ -5,6 +5,7 @@ ghost use Rattle.bufr_collect.specs.Readers.{AreFresh};
 ghost use Rattle.bufr_io.specs.Engines.{IsFresh};
 ghost use Rattle.bufr_tool.specs.ArchiveLines.{added_line, merged_line};
 
+use crate::encoding::run_encoding;
 use crate::late_file::LateFile;
 use bufr_answers::OutOfMemory;
 use bufr_bits::{IntoWrite, Sink, Source};
@@ -45,6 +46,7 @@ pub fn run_command<R: Files, O: Write + Drop, E: Write + Drop>(
     };
     match line.task {
         Task::Add | Task::Merge => run_collecting(rt, alloc, &line, out, err),
+        Task::Encode => run_encoding(rt, alloc, &line, out, err),
         _ => run_reading(rt, alloc, &line, out, err),
     }
 }

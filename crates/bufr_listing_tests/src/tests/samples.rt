@@ -1,6 +1,6 @@
 //! The tables and listings of the tests.
 
-use bufr_listing::read;
+use bufr_listing_reader::read;
 use bufr_sections::Message;
 use bufr_table_files::{parse_table_b, parse_table_d};
 use bufr_tables::Tables;

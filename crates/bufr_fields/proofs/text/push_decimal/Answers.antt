@@ -2,7 +2,7 @@
 use Rattle.std.proofs.Common.{FitsSigned, ap, append_assoc, replicate, ◌≡◌, ◌++◌, ◌∙◌, rules}
 use Rattle.std.specs.Int.{w32, w128}
 use Rattle.std.proofs.lemmas.Int.{to_z-of_z}
-use Rattle.bufr_fields.proofs.DigitFacts.{text_behind}
+use Rattle.bufr_fields.specs.DigitFacts.{text_behind}
 use Rattle.bufr_fields.proofs.text.push_decimal.Goals as goal
 
 -- the sign and the digits are added

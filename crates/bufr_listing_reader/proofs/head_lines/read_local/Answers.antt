@@ -1,0 +1,39 @@
+-- For the clause `read` of `read_local`: octets, or nothing where their line is absent.
+use Rattle.std.proofs.Common.{◌∙◌, sym, codes}
+use Rattle.std.proofs.lemmas.Result.{err_from_is_err_and}
+use Rattle.bufr_listing_reader.specs.Cursors.{left}
+use Rattle.bufr_listing_reader.specs.Reading.{read_local}
+use Rattle.bufr_listing_reader.proofs.CallFacts.{found_ok, found_err, not_found, none_found}
+use Rattle.bufr_listing_reader.proofs.head_lines.read_local.Goals.{in_default-via-in-Some+else-begins}
+use Rattle.bufr_listing_reader.proofs.head_lines.read_local.Goals.{in_default-via-in_default}
+use Rattle.bufr_listing_reader.proofs.head_lines.read_local.Goals as goal
+
+-- a fault of the octets is the answer
+pub returns-in_err-octets_of-in-Some-clause-read : goal.returns-in_err-octets_of-in-Some-clause-read
+returns-in_err-octets_of-in-Some-clause-read c =
+    let p = err_from_is_err_and c.from_residual.result c.from_residual.ensures.1 in
+    let next = c.in-Some.ensures in
+    rw (p.1, p.2) (found_err (codes "local1") read_local (left c.args.lines.now)
+    c.in-Some.line next.0 c.in_err-octets_of-in-Some.field-0.0 next.1
+    (sym c.begins.ensures ∙ c.if-begins.true)
+    c.in_err-octets_of-in-Some.ensures)
+
+-- octets that were read are those for local use
+pub returns-in_ok-octets_of-in-Some-clause-read : goal.returns-in_ok-octets_of-in-Some-clause-read
+returns-in_ok-octets_of-in-Some-clause-read c =
+    let next = c.in-Some.ensures in
+    found_ok (codes "local1") read_local (left c.args.lines.now) c.in-Some.line next.0
+    (left c.pass.new.self) c.in_ok-octets_of-in-Some.field-0.items next.1 c.pass.ensures.lines
+    (sym c.begins.ensures ∙ c.if-begins.true) c.in_ok-octets_of-in-Some.ensures
+
+-- where the next line has another first word or none is left, there are none
+pub returns-in_default-clause-read : goal.returns-in_default-clause-read
+returns-in_default-clause-read c =
+    elim c.in_default.branch [
+      | in_default-via-in-Some+else-begins w ↦
+          let next = w.in-Some.ensures in
+          not_found (codes "local1") read_local (left c.args.lines.now) w.in-Some.line
+          next.0 next.1 (sym w.begins.ensures ∙ w.if-begins.false)
+      | in_default-via-in_default w ↦
+          none_found (codes "local1") read_local (left c.args.lines.now) w.in_default.ensures
+    ]

@@ -1,0 +1,14 @@
+pub mod DecimalTexts
+pub mod Limits
+pub mod Lines
+pub mod FieldLines
+pub mod Cursors
+pub mod Reading
+pub mod Unread
+pub mod UnreadLaws
+pub mod Words
+pub mod RawWords
+pub mod Steps
+pub mod Laws
+pub mod FirstFaults
+pub mod Samples

@@ -1,0 +1,191 @@
+//! The raw values that words print.
+
+ghost use Rattle.bufr_listing_reader.specs.Words.{below};
+ghost use Rattle.std.specs.Prelude.{◌≡◌, ◌≤◌, ◌^◌, ◌-◌, ◌-ℤ◌, IfOk, option_map};
+ghost use Rattle.bufr_listing_reader.specs.RawWords as words;
+ghost use Rattle.bufr_listing_reader.specs.RawWords.{raw_of, number_of, text_of, octets_of, first_octet};
+ghost use Rattle.bufr_listing_reader.specs.RawWords.{lower_value};
+ghost use Rattle.bufr_fields.specs.Limits.{most_raw_bits};
+
+use crate::decimals::parse_decimal;
+use crate::line_words::natural;
+use bufr_answers::{Items, OutOfMemory};
+use bufr_expand::Spec;
+use bufr_fields::{MOST_DECIMAL_SCALE, MOST_RAW_BITS, Raw};
+use bufr_listing::stands_for_itself;
+use bufr_tables::Kind;
+use std::alloc::Global;
+
+/// What stands for a missing value.
+const MISSING: &[u8] = b"missing";
+
+/// The raw value of a field of this spec that prints this word, or `None` where there is none.
+pub fn raw_of(alloc: Global, spec: Spec, word: &[u8]) -> Result<Option<Raw>, OutOfMemory>
+    ensures { IfOk result (λ o. o ≡ raw_of spec word.now) }
+{
+    if spec.scale < -MOST_DECIMAL_SCALE || spec.scale > MOST_DECIMAL_SCALE {
+        return Ok(None);
+    }
+    match spec.kind {
+        Kind::Text => match text_of(alloc, spec.width, word)? {
+            None => Ok(None),
+            Some(octets) => Ok(Some(Raw::Text(Items::from_vec(octets)))),
+        },
+        _ => match number_of(spec, word) {
+            None => Ok(None),
+            Some(number) => Ok(Some(Raw::Number(number))),
+        },
+    }
+}
+
+/// The number of a field of this spec, of another kind than text, that prints this word.
+fn number_of(spec: Spec, word: &[u8]) -> Option<u64>
+    ensures { result ≡ number_of spec word.now }
+{
+    if spec.width > MOST_RAW_BITS {
+        return None;
+    }
+    if word == MISSING {
+        return if may_be_missing(spec) {
+            Some(greatest(spec.width))
+        } else {
+            None
+        };
+    }
+    let value = parse_decimal(word, spec.scale)?;
+    let number = above(value.units, spec.reference)?;
+    unless_missing(spec, number)
+}
+
+/// Whether a number of this spec may be missing.
+fn may_be_missing(spec: Spec) -> bool
+    ensures { result ≡ words.may_be_missing spec }
+{
+    spec.width != 1 && !matches!(spec.kind, Kind::Count)
+}
+
+/// A number, where it fits this spec and is not that of a missing value.
+fn unless_missing(spec: Spec, number: u64) -> Option<u64>
+    requires { spec.width ≤ most_raw_bits }
+    ensures { result ≡ words.unless_missing spec number }
+{
+    let greatest = greatest(spec.width);
+    if number > greatest || (number == greatest && may_be_missing(spec)) {
+        None
+    } else {
+        Some(number)
+    }
+}
+
+/// How far units are above a reference value, which fits 64 bits.
+fn above(units: i128, reference: i64) -> Option<u64>
+    ensures { result ≡ below (2 ^ 64) (units -ℤ reference) }
+{
+    natural(units.checked_sub(i128::from(reference))?)
+}
+
+/// The greatest number of so many bits.
+fn greatest(width: u32) -> u64
+    requires { width ≤ most_raw_bits }
+    ensures { result ≡ 2 ^ width - 1 }
+{
+    if width == MOST_RAW_BITS {
+        u64::MAX
+    } else {
+        (1 << width) - 1
+    }
+}
+
+/// The octets of a text field of so many bits that print this word.
+fn text_of(alloc: Global, width: u32, word: &[u8]) -> Result<Option<Vec<u8>>, OutOfMemory>
+    ensures { IfOk result (λ o. option_map (λ v. v.items) o ≡ text_of width word.now) }
+{
+    let count = (width / 8) as usize;
+    let may_be_missing = width != 1;
+    if word == MISSING {
+        return if may_be_missing {
+            Ok(Some(Vec::from_elem(alloc, 255, count)?))
+        } else {
+            Ok(None)
+        };
+    }
+    match octets_of(alloc, count, word)? {
+        None => Ok(None),
+        Some(octets) => {
+            if may_be_missing && are_ones(&octets) {
+                Ok(None)
+            } else {
+                Ok(Some(octets))
+            }
+        }
+    }
+}
+
+/// Whether all octets are 255.
+fn are_ones(octets: &[u8]) -> bool
+    ensures { result ≡ words.are_ones octets.now }
+{
+    octets.iter().all(|octet| *octet == 255)
+}
+
+/// The octets, so many, that stand between quotes as this word.
+fn octets_of(alloc: Global, count: usize, word: &[u8]) -> Result<Option<Vec<u8>>, OutOfMemory>
+    ensures { IfOk result (λ o. option_map (λ v. v.items) o ≡ octets_of count word.now) }
+{
+    match word {
+        [b'"', behind @ ..] => octets_before(alloc, count, behind),
+        _ => Ok(None),
+    }
+}
+
+/// The octets, so many, that stand before the quote at the end of a text.
+fn octets_before(alloc: Global, count: usize, text: &[u8]) -> Result<Option<Vec<u8>>, OutOfMemory>
+    ensures { IfOk result (λ o. option_map (λ v. v.items) o
+        ≡ words.octets_before count text.now) }
+{
+    let mut rest = text;
+    let mut octets = Vec::new(alloc);
+    for _i in 0..count {
+        match first_octet(rest) {
+            None => return Ok(None),
+            Some((octet, behind)) => {
+                octets.push(octet)?;
+                rest = behind;
+            }
+        }
+    }
+    Ok(if rest == b"\"".as_slice() {
+        Some(octets)
+    } else {
+        None
+    })
+}
+
+/// The octet that stands at the front of a text between quotes, and what stands behind it.
+fn first_octet(text: &[u8]) -> Option<(u8, &[u8])>
+    ensures { option_map (λ x. (x.0, x.1.now)) result ≡ first_octet text.now }
+{
+    match text {
+        [b'\\', high, low, behind @ ..] => {
+            let octet = 16 * lower_value(*high)? + lower_value(*low)?;
+            if stands_for_itself(octet) {
+                None
+            } else {
+                Some((octet, behind))
+            }
+        }
+        [octet, behind @ ..] if stands_for_itself(*octet) => Some((*octet, behind)),
+        _ => None,
+    }
+}
+
+/// The value of a hexadecimal digit as it is printed.
+fn lower_value(digit: u8) -> Option<u8>
+    ensures { result ≡ lower_value digit }
+{
+    match digit {
+        b'0'..=b'9' => Some(digit - b'0'),
+        b'a'..=b'f' => Some(digit - b'a' + 10),
+        _ => None,
+    }
+}
