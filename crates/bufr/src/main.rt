@@ -6,7 +6,7 @@ use std::process::ExitCode;
 
 fn main(rt: HostRuntime) -> ExitCode {
     let alloc = rt.alloc();
-    match words_of(&rt, alloc, &mut rt.stderr()) {
+    match words_of(&rt, alloc, "bufr", &mut rt.stderr()) {
         Ok(words) => {
             ExitCode::from(run_command(&rt, alloc, &words, &mut rt.stdout(), &mut rt.stderr()))
         }

@@ -9,3 +9,4 @@ mod StreamFacts
 mod EngineFacts
 mod LoadFacts
 mod OnLiterals
+pub mod EncodingFacts

@@ -5,3 +5,4 @@ pub mod Lines
 pub mod Loads
 pub mod StreamEngines
 pub mod Samples
+pub mod Encoding

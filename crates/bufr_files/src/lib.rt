@@ -1,4 +1,4 @@
-//! The files and the words of a command: how files are opened, and what is said of faults.
+//! What a program does around its engine: its words, its files, what it says of faults, its exit statuses.
 #![tactic(auto)]
 
 mod files;
@@ -7,4 +7,4 @@ mod saying;
 
 pub use files::{Unopened, file_of, inputs_of, unopened_path};
 pub use late_input::LateInput;
-pub use saying::{REFUSED, WELL, asked, cannot_open, reads_alone, say, words_of};
+pub use saying::{REFUSED, WELL, cannot_open, explain, say, words_of};

@@ -1,2 +1,3 @@
--- What the contracts of the commands are proved from.
+-- What the contracts of the commands and of the command line are proved from.
 mod OnLiterals
+mod CommandFacts

@@ -1,1 +1,2 @@
 pub mod ArchiveLines
+pub mod CommandLines

@@ -5,18 +5,16 @@ ghost use Rattle.bufr_collect.specs.Readers.{AreFresh};
 ghost use Rattle.bufr_io.specs.Engines.{IsFresh};
 ghost use Rattle.bufr_tool.specs.ArchiveLines.{added_line, merged_line};
 
-use crate::encoding::run_encoding;
+use crate::asking::asked;
+use crate::command_line::{CommandLine, NAME, Task};
 use crate::late_file::LateFile;
+use crate::reading::run_reading;
 use bufr_answers::OutOfMemory;
 use bufr_bits::{IntoWrite, Sink, Source};
 use bufr_collect::{run_add, run_merge};
-use bufr_command_line::{CommandLine, Task};
 use bufr_engines::load_tables;
-use bufr_files::{
-    REFUSED, Unopened, WELL, asked, cannot_open, file_of, inputs_of, say, unopened_path,
-};
+use bufr_files::{REFUSED, Unopened, WELL, cannot_open, file_of, inputs_of, say, unopened_path};
 use bufr_io::{MOST_READS, Tally, ToolFault, write_out};
-use bufr_reading::run_reading;
 use bufr_tables::Tables;
 use std::alloc::Global;
 use std::fmt;
@@ -45,9 +43,8 @@ pub fn run_command<R: Files, O: Write + Drop, E: Write + Drop>(
         Err(status) => return status,
     };
     match line.task {
+        Task::Show | Task::Check | Task::Encode => run_reading(rt, alloc, &line, out, err),
         Task::Add | Task::Merge => run_collecting(rt, alloc, &line, out, err),
-        Task::Encode => run_encoding(rt, alloc, &line, out, err),
-        _ => run_reading(rt, alloc, &line, out, err),
     }
 }
 
@@ -63,22 +60,22 @@ fn run_collecting<R: Files, O: Write + Drop, E: Write + Drop>(
     ensures { result ≤ 2 }
 {
     let Some(mut b) = file_of(rt, line.b, true) else {
-        return cannot_open(alloc, line.b, err);
+        return cannot_open(alloc, NAME, line.b, err);
     };
     let Some(mut d) = file_of(rt, line.d, true) else {
-        return cannot_open(alloc, line.d, err);
+        return cannot_open(alloc, NAME, line.d, err);
     };
     let mut inputs = match inputs_of(rt, alloc, &line.inputs) {
         Ok(inputs) => inputs,
-        Err(Unopened::Path(path)) => return cannot_open(alloc, path, err),
-        Err(Unopened::OutOfMemory) => return say(alloc, &ToolFault::OutOfMemory, err),
+        Err(Unopened::Path(path)) => return cannot_open(alloc, NAME, path, err),
+        Err(Unopened::OutOfMemory) => return say(alloc, NAME, &ToolFault::OutOfMemory, err),
     };
     match collect_under(rt, alloc, line, &mut b, &mut d, &mut inputs, out) {
         Ok(tally) if tally.refused == 0 => WELL,
         Ok(_) => REFUSED,
         Err(fault) => match unopened_path(&inputs, &fault) {
-            Some(path) => cannot_open(alloc, path, err),
-            None => say(alloc, &fault, err),
+            Some(path) => cannot_open(alloc, NAME, path, err),
+            None => say(alloc, NAME, &fault, err),
         },
     }
 }

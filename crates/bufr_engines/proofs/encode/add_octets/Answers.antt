@@ -1,0 +1,12 @@
+-- The clauses of `add_octets`: the encoding of the message, behind the others.
+use Rattle.std.proofs.Common.{ℕ, List, ◌++◌, ◌∙◌, ap}
+use Rattle.bufr_engines.proofs.encode.add_octets.Goals as goal
+
+-- it was added
+pub returns-clause-ok : goal.returns-clause-ok
+returns-clause-ok c = (
+  c.in_ok-more.more.items,
+  c.in_ok-more.ensures.exact,
+  c.in_ok-extend_from_slice.ensures.items
+      ∙ ap (λ (more : List ℕ). c.args.octets.now.items ++ more) c.deref.ensures.value,
+)

@@ -1,0 +1,141 @@
+-- What `encode` answers and does.
+use Rattle.std.specs.Prelude.{◌≡◌, ℕ, ◌+◌, Bool, ◌||◌, List, ◌∷◌, ◌++◌, length, map}
+use Rattle.std.specs.Prelude.{Option, Some, None, Result, Ok, Err}
+use Rattle.std.specs.List.{flat_map}
+use Rattle.bufr_answers.specs.declared.failure.Failure.{Failure}
+use Rattle.bufr_answers.specs.declared.failure.Failure.TheVariants.{Fault}
+use Rattle.bufr_bits.specs.Devices.{Reading, Writing}
+use Rattle.bufr_tables.specs.Entries.{Entries}
+use Rattle.bufr_message.specs.Encodings.{code}
+use Rattle.bufr_message.specs.declared.EncodeFault.{EncodeFault}
+use Rattle.bufr_message.specs.declared.Message.{Message}
+use Rattle.bufr_listing_reader.specs.Reading.{messages_listed}
+use Rattle.bufr_listing_reader.specs.Unread.{Unread, HandsOutMessage}
+use Rattle.bufr_listing.specs.declared.ListingFault.{ListingFault}
+use Rattle.bufr_io.specs.declared.fault.Input.TheVariants.{Number}
+use Rattle.bufr_io.specs.declared.fault.Tally.{Tally}
+use Rattle.bufr_io.specs.declared.fault.ToolFault.{ToolFault}
+use Rattle.bufr_io.specs.declared.fault.ToolFault.TheVariants as faults
+use Rattle.bufr_io.specs.Engines.{WasReadOut, HasFailed, IsEndless, AreAllOf, WritesAll}
+use Rattle.bufr_io.specs.Engines.{FailsAfter}
+use Rattle.bufr_engines.specs.declared.encode.Encoded.{Encoded}
+
+-- ---- messages
+
+-- a message as it is asked for: compressed too where that is asked
+abbrev pub as_asked : Bool → Message → Message
+as_asked compressed m = record m { compressed = m.compressed || compressed }
+
+-- the octets of a message as it is asked for, or its first fault
+abbrev pub code_as_asked : Entries → Bool → Message → Result (List ℕ) EncodeFault
+code_as_asked tables compressed m = code tables (as_asked compressed m)
+
+-- octets are the encodings of messages, one behind another
+pub record AreEncodings (tables : Entries) (compressed : Bool) (messages : List Message)
+    (octets : List ℕ) : Type 0 where
+  pub codes : List (List ℕ)
+  pub each : map (code_as_asked tables compressed) messages ≡ map Ok codes
+  pub joined : octets ≡ flat_map (λ c. c) codes
+
+-- of messages that of this number, counted from 1, is the first that has no encoding, and this is
+-- its fault
+pub record IsFirstNotEncoded (tables : Entries) (compressed : Bool) (messages : List Message)
+    (number : ℕ) (fault : EncodeFault) : Type 0 where
+  pub before : List Message
+  pub message : Message
+  pub after : List Message
+  pub parted : messages ≡ before ++ message ∷ after
+  pub counted : number ≡ length before + 1
+  pub octets : List ℕ
+  pub encoded : AreEncodings tables compressed before octets
+  pub refused : code_as_asked tables compressed message ≡ Err fault
+
+-- ---- the engine
+
+-- the reader was read to its end, and its octets list these messages
+pub record ListsMessages (tables : Entries) (reader reader' : Reading) (messages : List Message)
+    : Type 0 where
+  pub ended : WasReadOut reader'
+  pub text : List ℕ
+  pub all : AreAllOf reader text
+  pub listed : messages_listed tables text ≡ Ok messages
+
+-- the reader was read to its end, and this is the first fault of its octets as a listing
+pub record HasListingFault (tables : Entries) (reader reader' : Reading) (fault : ListingFault)
+    : Type 0 where
+  pub ended : WasReadOut reader'
+  pub text : List ℕ
+  pub all : AreAllOf reader text
+  pub refused : messages_listed tables text ≡ Err fault
+
+-- what is counted of so many messages that were written
+abbrev pub tally_written : ℕ → Tally
+tally_written count = record { frames = count; refused = 0; skipped = 0; reports = 0 }
+
+-- What `run_encode` answers and does, from a reader and a writer that work to what they leave of
+-- them. Without a fault: the whole listing was read, and the encodings of its messages were
+-- written, one behind another. A fault of the listing comes before that of a message, and the
+-- first of either is told. Where the writer failed: a front, so many octets long, of these
+-- encodings. On every other fault nothing was written.
+abbrev pub Encodes : Bool → Entries → ℕ → Reading → Reading → Writing → Writing
+    → Result Tally ToolFault → Type 0
+Encodes compressed tables reads reader reader' writer writer' (Ok tally) =
+    (messages : List Message) × ListsMessages tables reader reader' messages
+    × (octets : List ℕ) × AreEncodings tables compressed messages octets
+    × WritesAll writer writer' octets × (tally ≡ tally_written (length messages))
+Encodes compressed tables reads reader reader' writer writer' (Err (faults.WriteFailed written)) =
+    (messages : List Message) × ListsMessages tables reader reader' messages
+    × (octets : List ℕ) × AreEncodings tables compressed messages octets
+    × FailsAfter written writer writer' octets
+Encodes compressed tables reads reader reader' writer writer' (Err (faults.Listing why)) =
+    HasListingFault tables reader reader' why × (writer' ≡ writer)
+Encodes compressed tables reads reader reader' writer writer' (Err (faults.Encode number why)) =
+    (messages : List Message) × ListsMessages tables reader reader' messages
+    × IsFirstNotEncoded tables compressed messages number why × (writer' ≡ writer)
+Encodes compressed tables reads reader reader' writer writer' (Err (faults.ReadFailed source)) =
+    (source ≡ Number 1) × HasFailed reader' × (writer' ≡ writer)
+Encodes compressed tables reads reader reader' writer writer' (Err (faults.EndlessInput source)) =
+    (source ≡ Number 1) × IsEndless reads reader' × (writer' ≡ writer)
+Encodes compressed tables reads reader reader' writer writer' (Err faults.OutOfMemory) =
+    writer' ≡ writer
+Encodes compressed tables reads reader reader' writer writer' (Err fault) = ⊥
+
+-- ---- message by message
+
+-- the encodings of the messages that a text lists and how many these are; or the first fault of the
+-- listing; or else that of a message
+abbrev pub EncodesListing : Entries → Bool → List ℕ → Result Encoded ToolFault → Type 0
+EncodesListing tables compressed text (Ok encoded) =
+    (messages : List Message) × (messages_listed tables text ≡ Ok messages)
+    × AreEncodings tables compressed messages encoded.octets.items
+    × (encoded.count ≡ length messages)
+EncodesListing tables compressed text (Err (faults.Listing why)) =
+    messages_listed tables text ≡ Err why
+EncodesListing tables compressed text (Err (faults.Encode number why)) =
+    (messages : List Message) × (messages_listed tables text ≡ Ok messages)
+    × IsFirstNotEncoded tables compressed messages number why
+EncodesListing tables compressed text (Err faults.OutOfMemory) = Unit {0}
+EncodesListing tables compressed text (Err fault) = ⊥
+
+-- what was handed out of the messages that were left, or the fault of the listing
+abbrev pub ReadsMessage : Unread → Unread → Result (Option Message) ToolFault → Type 0
+ReadsMessage old new (Ok found) = HandsOutMessage old (Ok found) new
+ReadsMessage old new (Err (faults.Listing why)) = HandsOutMessage old (Err (Fault why)) new
+ReadsMessage old new (Err faults.OutOfMemory) = Unit {0}
+ReadsMessage old new (Err fault) = ⊥
+
+-- no fault is behind the messages that are left, or it is told
+abbrev pub PassesAll : Unread → Result (Unit {0}) ToolFault → Type 0
+PassesAll u (Ok done) = u.fault ≡ None
+PassesAll u (Err (faults.Listing why)) = u.fault ≡ Some why
+PassesAll u (Err faults.OutOfMemory) = Unit {0}
+PassesAll u (Err fault) = ⊥
+
+-- the fault behind the messages that are left, or else why the message of this number before them
+-- has no encoding
+abbrev pub TellsFault : Unread → ℕ → Failure EncodeFault → ToolFault → Type 0
+TellsFault u number failure (faults.Listing why) = u.fault ≡ Some why
+TellsFault u number failure (faults.Encode which why) =
+    (u.fault ≡ None) × (which ≡ number) × (failure ≡ Fault why)
+TellsFault u number failure faults.OutOfMemory = Unit {0}
+TellsFault u number failure fault = ⊥

@@ -1,0 +1,14 @@
+-- The clause of `collecting`: the shape of the command, argument by argument.
+use Rattle.std.proofs.Common.{ap, ap₂, ◌∙◌}
+use Rattle.std.proofs.lemmas.Result.{IfOk-weaker}
+use Rattle.clap.specs.Words.{App, with_rule}
+use Rattle.bufr_tool.proofs.command_line.collecting.Goals as goal
+
+-- a command of this name under tables, with the option of the archive and the inputs
+pub returns : goal.returns
+returns c =
+    let one = c.in_ok-arg.ensures.shape c.path.ensures.local
+    ∙ ap₂ with_rule c.in_ok-under_tables.ensures c.path.ensures.rule in
+    IfOk-weaker c.arg-2.result _ _
+    (λ r a. ap (λ (x : App). x.top)
+    (a.shape c.input.ensures.local ∙ ap₂ with_rule one c.input.ensures.rule)) c.arg-2.ensures
