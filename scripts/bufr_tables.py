@@ -1,6 +1,5 @@
 """What the scripts of this folder share: Tables B and D, the fields that descriptors ask for, and the
 lines of a listing. Python 3 with its standard library alone."""
-import csv
 import os
 import sys
 from collections import namedtuple
@@ -20,6 +19,14 @@ Field = namedtuple("Field", "descriptor name unit scale width is_factor")
 
 class Fault(Exception):
     """What is wrong with the call, a table or a listing, in one line."""
+
+
+class Ended(Exception):
+    """The end of a call with a status, of which a line on standard error was said before."""
+
+    def __init__(self, status):
+        super().__init__(status)
+        self.status = status
 
 
 def version_of(octet):
@@ -55,14 +62,16 @@ def chosen_paths(arguments):
             raise Fault("-b and -d go together")
         return [arguments.b, arguments.d]
     version = arguments.tables or os.environ.get("BUFR_TABLES") or "46"
-    if not version.isdigit() or int(version) not in VERSIONS:
-        raise Fault(f"there are no tables of version {version}")
-    return table_paths(int(version))
+    chosen = version_of(int(version)) if version.isdigit() else None
+    if chosen is None:
+        raise Fault(f"no table here reads version {version}")
+    return table_paths(chosen)
 
 
 def records(path, needed):
     """The records of a table file by the names of their columns, as `bufr` reads them: headers that come
     again and records whose needed fields are empty are passed over."""
+    import csv
     try:
         with open(path, encoding="utf-8-sig", errors="replace", newline="") as file:
             rows = csv.reader(file)
@@ -235,6 +244,8 @@ def run(name, main):
     except Fault as fault:
         sys.stderr.write(f"{name}: {fault}\n")
         status = 2
+    except Ended as ended:
+        status = ended.status
     except BrokenPipeError:
         os.dup2(os.open(os.devnull, os.O_WRONLY), sys.stdout.fileno())
         status = 2

@@ -1,4 +1,4 @@
-# Completion of the command `bufr` in bash.
+# Completion of the commands `bufr` and `bufr-ls` in bash.
 _bufr() {
     local word=${COMP_WORDS[COMP_CWORD]} before=${COMP_WORDS[COMP_CWORD-1]} choices=
     COMPREPLY=()
@@ -23,4 +23,21 @@ _bufr() {
         mapfile -t COMPREPLY < <(compgen -f -- "$word")
     fi
 }
+# Completes the last of the columns after -c that were typed, or a file.
+_bufr_ls() {
+    local word=${COMP_WORDS[COMP_CWORD]} before=${COMP_WORDS[COMP_CWORD-1]} typed=
+    COMPREPLY=()
+    if [ "$before" = -c ]; then
+        case "$word" in *,*) typed=${word%,*}, ;; esac
+        mapfile -t COMPREPLY < <(compgen -P "$typed" -W "input message place length edition centre sub_centre update category \
+            international local_category master_table master_version local_version year month day hour minute second subsets \
+            observed compressed descriptors reason" -- "${word##*,}")
+        compopt -o nospace 2>/dev/null
+    elif [ "${word#-}" != "$word" ]; then
+        mapfile -t COMPREPLY < <(compgen -W "-c --help --version" -- "$word")
+    else
+        mapfile -t COMPREPLY < <(compgen -f -- "$word")
+    fi
+}
 complete -o filenames -F _bufr bufr
+complete -o filenames -F _bufr_ls bufr-ls

@@ -1,0 +1,18 @@
+-- A column more is added to those that a text names (private contracts).
+use Rattle.std.specs.Prelude.{◌≡◌, ℕ, true, false, List, [], ◌∷◌, ◌++◌, Result, Ok, Err}
+use Rattle.std.specs.List.{list_any}
+use Rattle.std.specs.Str.{bytes_eq}
+use Rattle.bufr_ls_engine.specs.Columns.{IsNoColumn, word}
+use Rattle.bufr_ls_engine.specs.declared.column.Column.{Column}
+use Rattle.bufr_ls_engine.specs.declared.columns.ColumnsFault.{ColumnsFault}
+use Rattle.bufr_ls_engine.specs.declared.columns.ColumnsFault.TheVariants as faults
+
+-- the column of a word, which none of those before it has, stands after them; or no column has the
+-- word, or one of them has
+abbrev pub AddsColumn : List Column → List Column → List ℕ → Result (Unit {0}) ColumnsFault → Type 0
+AddsColumn old new here (Ok done) = (column : Column) × (new ≡ old ++ column ∷ [])
+    × (word column ≡ here) × (list_any (λ c. bytes_eq (word c) here) old ≡ false)
+AddsColumn old new here (Err (faults.NoColumn said)) = (said.now ≡ here) × IsNoColumn here
+AddsColumn old new here (Err (faults.Twice said)) = (said.now ≡ here)
+    × (list_any (λ c. bytes_eq (word c) here) old ≡ true)
+AddsColumn old new here (Err faults.OutOfMemory) = Unit {0}

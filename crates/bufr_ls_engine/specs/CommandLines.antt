@@ -1,0 +1,44 @@
+-- The command line of the program, by the words of `clap`.
+use Rattle.std.specs.Prelude.{ℕ, true, List, [], ◌∷◌, codes, Option, Some, unwrap_or}
+use Rattle.clap.specs.Words.{App, Row, Rule, all_of, first_of, matches_of, new_app, new_rule}
+use Rattle.clap.specs.Words.{with_rule}
+use Rattle.clap.specs.Simple.{on_top}
+use Rattle.clap.specs.declared.builder.action.ArgAction.TheVariants.{Set, Append}
+
+-- the option of the columns: `-c COLUMNS`
+abbrev pub columns_option : Rule
+columns_option = record
+    (new_rule (codes "columns")) { short = Some 99; action = Some Set; value_names = 1 }
+
+-- the files: one has to be there
+abbrev pub files_argument : Rule
+files_argument = record
+    (new_rule (codes "file")) { action = Some Append; value_names = 1; required = true }
+
+-- the program: the words come without its name, and a version is told
+abbrev pub program : App
+program = with_rule
+    (with_rule
+    (on_top (λ s. record s { has_version = true; no_binary_name = true })
+    (new_app (codes "bufr-ls"))) columns_option)
+    files_argument
+
+-- all values that an argument has there, in order
+abbrev pub values_in : List ℕ → List Row → List (List ℕ)
+values_in id rows = unwrap_or (all_of id rows) []
+
+-- the value of an argument, by the parse that `clap` defines for words
+abbrev pub value_of : List ℕ → List (List ℕ) → Option (List ℕ)
+value_of id words = first_of id (matches_of program words)
+
+-- all values of an argument
+abbrev pub values_of : List ℕ → List (List ℕ) → List (List ℕ)
+values_of id words = values_in id (matches_of program words)
+
+-- a line with columns, written out: the option stands anywhere
+abbrev pub words_with_columns : List (List ℕ)
+words_with_columns = codes "06.bufr" ∷ codes "-c" ∷ codes "centre,category" ∷ codes "12.bufr" ∷ []
+
+-- a line without
+abbrev pub words_alone : List (List ℕ)
+words_alone = codes "06.bufr" ∷ codes "12.bufr" ∷ codes "18.bufr" ∷ []

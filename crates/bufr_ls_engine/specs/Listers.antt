@@ -1,0 +1,154 @@
+-- What a writer of rows does with the frames of an input (private contracts).
+use Rattle.std.specs.Prelude.{◌≡◌, ℕ, ◌+◌, ◌≤◌, ◌^◌, ◌⊎◌, List, [], ◌++◌, length}
+use Rattle.std.specs.Prelude.{Result, Ok, Err}
+use Rattle.bufr_bits.specs.Devices.{Reading, Writing}
+use Rattle.bufr_frame.specs.declared.frames.Found.{Found}
+use Rattle.bufr_frame.specs.Streams.{cut, sure}
+use Rattle.bufr_io.specs.declared.fault.Input.TheVariants.{Number}
+use Rattle.bufr_io.specs.declared.fault.ToolFault.{ToolFault}
+use Rattle.bufr_io.specs.declared.fault.ToolFault.TheVariants as faults
+use Rattle.bufr_io.specs.Engines.{WasReadOut, HasFailed, IsEndless, HasGiven, AreAllOf}
+use Rattle.bufr_io.specs.Engines.{WritesAll, WritesAfter}
+use Rattle.bufr_io.specs.declared.fault.Tally.{Tally}
+use Rattle.bufr_ls_engine.specs.Lists.{GivesFrames, Lists}
+use Rattle.bufr_ls_engine.specs.Readers.{WereReadOut}
+use Rattle.bufr_ls_engine.specs.Rows.{counted, header, listed_heads, row, rows, rows_from}
+use Rattle.bufr_ls_engine.specs.Rows.{frame_refused, refused_of}
+use Rattle.bufr_ls_engine.specs.declared.column.Column.{Column}
+use Rattle.bufr_ls_engine.specs.declared.lister.Lister.{Lister}
+
+-- ---- what is held
+
+-- the columns, the number of the input and the counts of its frames stay
+pub record Keeps (p p' : Lister) : Type 0 where
+  pub columns : p'.columns.now ≡ p.columns.now
+  pub input : p'.input ≡ p.input
+  pub frames : p'.frames ≡ p.frames
+  pub refused : p'.refused ≡ p.refused
+
+-- so do the rows that are held and the count of octets
+pub record IsUnchanged (p p' : Lister) : Type 0 where
+  pub keeps : Keeps p p'
+  pub held : p'.held.items ≡ p.held.items
+  pub written : p'.written ≡ p.written
+
+-- what is held was written, and nothing is held; or the writer failed after a front of it; or there
+-- are more octets than can be counted, and nothing was written
+abbrev pub WritesHeld : Lister → Lister → Writing → Writing → Result (Unit {0}) ToolFault → Type 0
+WritesHeld p p' writer writer' (Ok done) =
+    WritesAll writer writer' p.held.items × (p'.held.items ≡ [])
+    × (p'.written ≡ p.written + length p.held.items)
+WritesHeld p p' writer writer' (Err faults.OutOfMemory) = writer' ≡ writer
+WritesHeld p p' writer writer' (Err fault) =
+    WritesAfter p.written p.held.items writer writer' (Err fault)
+
+-- the header line was written, and nothing is held; or the writer failed after a front of it; or
+-- memory ran out, and nothing was written
+abbrev pub WritesHeader : Lister → Lister → Writing → Writing → Result (Unit {0}) ToolFault → Type 0
+WritesHeader p p' writer writer' (Ok done) =
+    WritesAll writer writer' (header p.columns.now) × (p'.held.items ≡ [])
+    × (p'.written ≡ p.written + length (header p.columns.now))
+WritesHeader p p' writer writer' (Err faults.OutOfMemory) = writer' ≡ writer
+WritesHeader p p' writer writer' (Err fault) =
+    WritesAfter p.written (header p.columns.now) writer writer' (Err fault)
+
+-- the row of a frame is held after the others, and the frame is counted
+pub record HoldsRow (p p' : Lister) (frame : Found) : Type 0 where
+  pub held : p'.held.items ≡ p.held.items ++ row p.columns.now p.input (p.frames + 1) frame
+  pub frames : p'.frames ≡ p.frames + 1
+  pub refused : p'.refused ≡ p.refused + frame_refused frame
+  pub columns : p'.columns.now ≡ p.columns.now
+  pub input : p'.input ≡ p.input
+  pub written : p'.written ≡ p.written
+
+-- when memory ran out what was held was written, or nothing; or the writer failed then
+abbrev pub Stops : Lister → Writing → Writing → ToolFault → Type 0
+Stops p writer writer' faults.OutOfMemory =
+    WritesAll writer writer' p.held.items ⊎ (writer' ≡ writer)
+Stops p writer writer' fault = WritesAfter p.written p.held.items writer writer' (Err fault)
+
+-- ---- the frames of an input
+
+-- since the first of these two states of a lister and its writer these frames of an input were taken
+-- in: the rows of the first of them were written, and those of the others are held
+pub record HasListed (first : Lister) (begin : Writing) (p : Lister) (now : Writing)
+    (frames : List Found) : Type 0 where
+  pub started : first.frames ≡ 0
+  pub counts : p.frames ≡ first.frames + length frames
+  pub columns_are : p.columns.now ≡ first.columns.now
+  pub input_is : p.input ≡ first.input
+  pub frames_are : p.frames ≡ length frames
+  pub refused_are : p.refused ≡ refused_of frames
+  pub done : List Found
+  pub waiting : List Found
+  pub parted : frames ≡ done ++ waiting
+  pub written : WritesAll begin now (rows first.columns.now first.input done)
+  pub held : p.held.items ≡ rows_from first.columns.now first.input (1 + length done) waiting
+  pub counted : p.written ≡ first.written + length (rows first.columns.now first.input done)
+
+-- the rows of the first of these frames were written, and nothing else
+pub record WritesRows (columns : List Column) (input : ℕ) (frames : List Found)
+    (writer writer' : Writing) : Type 0 where
+  pub done : List Found
+  pub rest : List Found
+  pub parted : frames ≡ done ++ rest
+  pub written : WritesAll writer writer' (rows columns input done)
+
+-- listing frames stopped: the writer failed after a front of their rows; or memory ran out when the
+-- rows of the first of them were written
+abbrev pub StopsListing : List Column → ℕ → ℕ → List Found → Writing → Writing → ToolFault → Type 0
+StopsListing columns input before frames writer writer' faults.OutOfMemory =
+    WritesRows columns input frames writer writer'
+StopsListing columns input before frames writer writer' fault =
+    WritesAfter before (rows columns input frames) writer writer' (Err fault)
+
+-- ---- an input
+
+-- the rows of all frames of a stream were written and these are counted; nothing is held
+pub record HasListedAll (p p' : Lister) (stream : List ℕ) (writer writer' : Writing) : Type 0 where
+  pub written : WritesAll writer writer' (rows p.columns.now p.input (cut stream))
+  pub counted : p'.written ≡ p.written + length (rows p.columns.now p.input (cut stream))
+  pub held : p'.held.items ≡ []
+  pub columns : p'.columns.now ≡ p.columns.now
+  pub frames : p'.frames ≡ length (cut stream)
+  pub refused : p'.refused ≡ refused_of (cut stream)
+  pub few : length (cut stream) ≤ 2 ^ 48
+
+-- an input was read out, and its rows were written; or a read failed, or it is endless, and the rows
+-- of the frames that were sure were written; or the writer failed after a front of the rows of the
+-- frames that were found; or memory ran out, and the first of these rows were written
+abbrev pub ListsInput : ℕ → Lister → Lister → Reading → Reading → Writing → Writing
+    → Result (Unit {0}) ToolFault → Type 0
+ListsInput reads p p' reader reader' writer writer' (Ok done) =
+    WasReadOut reader' × (stream : List ℕ) × AreAllOf reader stream
+    × HasListedAll p p' stream writer writer'
+ListsInput reads p p' reader reader' writer writer' (Err (faults.ReadFailed source)) =
+    (source ≡ Number p.input) × HasFailed reader' × (read : List ℕ) × HasGiven reader reader' read
+    × WritesAll writer writer' (rows p.columns.now p.input (sure read))
+ListsInput reads p p' reader reader' writer writer' (Err (faults.EndlessInput source)) =
+    (source ≡ Number p.input) × IsEndless reads reader' × (read : List ℕ)
+    × HasGiven reader reader' read
+    × WritesAll writer writer' (rows p.columns.now p.input (sure read))
+ListsInput reads p p' reader reader' writer writer' (Err fault) =
+    (frames : List Found) × GivesFrames reader reader' frames
+    × StopsListing p.columns.now p.input p.written frames writer writer' fault
+
+-- ---- all inputs
+
+-- the header line was written, and the rows of the first inputs, which had these streams; nothing is
+-- held
+pub record HasListedInputs (columns : List Column) (streams : List (List ℕ)) (p : Lister)
+    (writer writer' : Writing) : Type 0 where
+  pub columns_are : p.columns.now ≡ columns
+  pub written : WritesAll writer writer' (listed_heads columns streams)
+  pub counted : p.written ≡ length (listed_heads columns streams)
+  pub held : p.held.items ≡ []
+
+-- all inputs were read out, and their rows were written; or listing them ended early
+abbrev pub ListsInputs : List Column → ℕ → List Reading → List Reading → Writing → Writing → Lister
+    → Result Tally ToolFault → Type 0
+ListsInputs columns reads readers readers' writer writer' p (Ok tally) =
+    (streams : List (List ℕ)) × WereReadOut readers readers' streams
+    × HasListedInputs columns streams p writer writer' × (tally ≡ counted streams)
+ListsInputs columns reads readers readers' writer writer' p (Err fault) =
+    Lists columns reads readers readers' writer writer' (Err fault)

@@ -1,0 +1,154 @@
+-- The rows of frames, as functions of the streams (this project's own). What they say of a message
+-- is what the octets of its sections say (`envelope_of` of bufr_sections).
+use Rattle.std.specs.Prelude.{ℕ, ◌+◌, List, [], ◌∷◌, ◌++◌, length, get_or, decimal, sum_by}
+use Rattle.std.specs.Prelude.{Result, Ok, Err}
+use Rattle.std.specs.List.{join_by, flat_map}
+use Rattle.std.specs.Int.{from_bool}
+use Rattle.bufr_tables.specs.Descriptors.{six_digits}
+use Rattle.bufr_sections.specs.declared.fault.Refused.{Refused}
+use Rattle.bufr_sections.specs.declared.fault.Refused.TheVariants as faults
+use Rattle.bufr_sections.specs.Reasons.{reason}
+use Rattle.bufr_sections.specs.Sections.{Envelope, envelope_of}
+use Rattle.bufr_frame.specs.declared.frames.Found.{Found}
+use Rattle.bufr_frame.specs.Streams.{cut}
+use Rattle.bufr_io.specs.declared.fault.Tally.{Tally}
+use Rattle.bufr_ls_engine.specs.Columns.{word}
+use Rattle.bufr_ls_engine.specs.declared.column.Column.{Column}
+use Rattle.bufr_ls_engine.specs.declared.column.Column.TheVariants.{Input, Message, Place, Length}
+use Rattle.bufr_ls_engine.specs.declared.column.Column.TheVariants.{Edition, Centre, SubCentre}
+use Rattle.bufr_ls_engine.specs.declared.column.Column.TheVariants.{Update, Category, International}
+use Rattle.bufr_ls_engine.specs.declared.column.Column.TheVariants.{LocalCategory, MasterTable}
+use Rattle.bufr_ls_engine.specs.declared.column.Column.TheVariants.{MasterVersion, LocalVersion}
+use Rattle.bufr_ls_engine.specs.declared.column.Column.TheVariants.{Year, Month, Day, Hour, Minute}
+use Rattle.bufr_ls_engine.specs.declared.column.Column.TheVariants.{Second, Subsets, Observed}
+use Rattle.bufr_ls_engine.specs.declared.column.Column.TheVariants.{Compressed, Descriptors, Reason}
+
+-- ---- a field
+
+-- the edition of a frame, which its octet 8 has
+abbrev pub edition_of : List ℕ → ℕ
+edition_of octets = get_or octets 7 0
+
+-- what the sections of a message say in a column; the master table of those that are read is 0
+unfoldable pub said_in : Column → Envelope → List ℕ
+said_in Centre e = decimal e.head.centre
+said_in SubCentre e = decimal e.head.sub_centre
+said_in Update e = decimal e.head.update
+said_in Category e = decimal e.head.category
+said_in International e = decimal e.head.international
+said_in LocalCategory e = decimal e.head.local_category
+said_in MasterTable e = decimal 0
+said_in MasterVersion e = decimal e.head.master_version
+said_in LocalVersion e = decimal e.head.local_version
+said_in Year e = decimal e.head.year
+said_in Month e = decimal e.head.month
+said_in Day e = decimal e.head.day
+said_in Hour e = decimal e.head.hour
+said_in Minute e = decimal e.head.minute
+said_in Second e = decimal e.head.second
+said_in Subsets e = decimal e.count
+said_in Observed e = decimal (from_bool e.observed)
+said_in Compressed e = decimal (from_bool e.compressed)
+said_in Descriptors e = join_by six_digits (32 ∷ []) e.descriptors
+said_in _ e = []
+
+-- the master table that a refusal names
+abbrev pub master_table_of : Refused → List ℕ
+master_table_of (faults.MasterTable number) = decimal number
+master_table_of why = []
+
+-- what the refusal of a frame says in a column
+unfoldable pub refused_in : Column → Refused → List ℕ
+refused_in MasterTable why = master_table_of why
+refused_in Reason why = reason why
+refused_in _ why = []
+
+-- what either says in a column
+abbrev pub told_in : Column → Result Envelope Refused → List ℕ
+told_in column (Ok e) = said_in column e
+told_in column (Err why) = refused_in column why
+
+-- the field of a column in the row of a frame that has these numbers, given what its octets say
+unfoldable pub field_as : Column → ℕ → ℕ → Found → Result Envelope Refused → List ℕ
+field_as Input input message frame said = decimal input
+field_as Message input message frame said = decimal message
+field_as Place input message frame said = decimal frame.place
+field_as Length input message frame said = decimal (length frame.bytes)
+field_as Edition input message frame said = decimal (edition_of frame.bytes)
+field_as column input message frame said = told_in column said
+
+-- ---- a line
+
+-- the fields of a frame's row, parted by commas, given what its octets say
+abbrev pub fields_as : List Column → ℕ → ℕ → Found → Result Envelope Refused → List ℕ
+fields_as columns input message frame said =
+    join_by (λ column. field_as column input message frame said) (44 ∷ []) columns
+
+-- the row of a frame, given what its octets say
+abbrev pub row_as : List Column → ℕ → ℕ → Found → Result Envelope Refused → List ℕ
+row_as columns input message frame said = fields_as columns input message frame said ++ 10 ∷ []
+
+-- the row of a frame, which has this number in the input of this number
+abbrev pub row : List Column → ℕ → ℕ → Found → List ℕ
+row columns input message frame =
+    row_as columns input message frame (envelope_of frame.bytes)
+
+-- the header line: the words of the columns, parted by commas
+abbrev pub header : List Column → List ℕ
+header columns = join_by word (44 ∷ []) columns ++ 10 ∷ []
+
+-- ---- all lines
+
+-- the rows of frames of an input, the first of which has this number
+abbrev pub rows_from : List Column → ℕ → ℕ → List Found → List ℕ
+rows_from columns input message [] = []
+rows_from columns input message (frame ∷ frames) =
+    row columns input message frame ++ rows_from columns input (message + 1) frames
+
+-- the rows of the first frames of an input
+abbrev pub rows : List Column → ℕ → List Found → List ℕ
+rows columns input frames = rows_from columns input 1 frames
+
+-- the rows of inputs that have these streams, the first of which has this number
+abbrev pub inputs_from : List Column → ℕ → List (List ℕ) → List ℕ
+inputs_from columns input [] = []
+inputs_from columns input (stream ∷ streams) =
+    rows columns input (cut stream) ++ inputs_from columns (input + 1) streams
+
+-- what `bufr-ls` prints of inputs that have these streams: the header line, and a row for each frame
+abbrev pub listed_heads : List Column → List (List ℕ) → List ℕ
+listed_heads columns streams = header columns ++ inputs_from columns 1 streams
+
+-- what it has printed when it has read out inputs that have these streams, and has found these frames
+-- in the next
+abbrev pub listed_to : List Column → List (List ℕ) → List Found → List ℕ
+listed_to columns streams frames =
+    listed_heads columns streams ++ rows columns (length streams + 1) frames
+
+-- ---- counts
+
+-- how many messages of a frame are refused: one or none
+abbrev pub refused_as : Result Envelope Refused → ℕ
+refused_as (Ok said) = 0
+refused_as (Err why) = 1
+
+-- how many messages of a frame have sections that are refused
+abbrev pub frame_refused : Found → ℕ
+frame_refused frame = refused_as (envelope_of frame.bytes)
+
+-- how many of the frames are refused
+abbrev pub refused_of : List Found → ℕ
+refused_of frames = sum_by frame_refused frames
+
+-- the frames of streams, one stream after another
+abbrev pub frames_of : List (List ℕ) → List Found
+frames_of streams = flat_map cut streams
+
+-- what is counted of streams
+abbrev pub counted : List (List ℕ) → Tally
+counted streams = record {
+  frames = length (frames_of streams);
+  refused = refused_of (frames_of streams);
+  skipped = 0;
+  reports = 0;
+}

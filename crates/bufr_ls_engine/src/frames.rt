@@ -1,0 +1,75 @@
+//! The frames of an input, listed as they are found.
+
+ghost use Rattle.std.specs.Prelude.{◌≡◌, ◌≤◌, ◌<◌, false, [], length};
+ghost use Rattle.bufr_io.specs.Engines.{IsFresh};
+ghost use Rattle.bufr_io.specs.Limits.{longest_piece, most_reads};
+ghost use Rattle.bufr_ls_engine.specs.Listers.{HasListed, ListsInput, StopsListing};
+
+use crate::lister::Lister;
+use bufr_bits::{Sink, Source};
+use bufr_io::{Input, TakesFrames, ToolFault, take_stream};
+use std::alloc::Global;
+
+/// A lister holds the row of each frame that it takes in, and writes the rows of a piece after it.
+/// If memory runs out, it writes them too, and the fault is the writer's if it fails then.
+impl<'c, W: Sink> TakesFrames<W> for Lister<'c> {
+    ghost count = { λ lister writer. lister.frames };
+
+    ghost HasTaken = { λ first begin lister writer frames.
+        HasListed first (W.writing begin) lister (W.writing writer) frames };
+
+    ghost HoldsNone = { λ lister writer. lister.held.items ≡ [] };
+
+    ghost HasStopped = { λ first begin lister writer frames fault.
+        StopsListing first.columns.now first.input first.written frames (W.writing begin)
+        (W.writing writer) fault };
+
+    fn take_frame(
+        &mut self,
+        alloc: Global,
+        place: u64,
+        octets: &[u8],
+        out: &mut W,
+    ) -> Result<(), ToolFault> {
+        match self.hold_frame(alloc, place, octets) {
+            Ok(()) => Ok(()),
+            Err(_) => Err(self.stop(out)),
+        }
+    }
+
+    fn end_piece(&mut self, out: &mut W) -> Result<(), ToolFault> {
+        self.write_held(out)
+    }
+
+    fn halt(&mut self, out: &mut W) -> ToolFault {
+        self.stop(out)
+    }
+
+    ghost counts_each = { λ first self begin out frames h. h.counts };
+}
+
+/// Lists the frames of an input, each as soon as it is sure, and writes all their rows.
+pub(crate) fn list_input<S: Source, W: Sink>(
+    alloc: Global,
+    reads: u64,
+    reader: &mut S,
+    room: &mut [u8],
+    lister: &mut Lister<'_>,
+    writer: &mut W,
+) -> Result<(), ToolFault>
+    requires few { reads ≤ most_reads }
+    requires fresh { IsFresh (S.reading reader.old) }
+    requires some { 0 < length room.old }
+    requires short { length room.old ≤ longest_piece }
+    requires works { (W.writing writer.old).failed ≡ false }
+    requires frames { lister.old.frames ≡ 0 }
+    requires refused { lister.old.refused ≡ 0 }
+    requires none { lister.old.held.items ≡ [] }
+    ensures bounded { (S.reading reader.new).reads ≤ reads }
+    ensures lists { ListsInput reads lister.old lister.new (S.reading reader.old)
+        (S.reading reader.new) (W.writing writer.old) (W.writing writer.new) result }
+{
+    let source = Input::Number(lister.input);
+    take_stream(alloc, reads, source, reader, room, lister, writer)?;
+    lister.write_held(writer)
+}

@@ -1,0 +1,20 @@
+//! The heads of the messages of streams, a row for each frame, over any readers and writers.
+#![tactic(auto)]
+
+mod column;
+mod columns;
+mod command;
+mod command_line;
+mod frames;
+pub mod laws;
+mod lister;
+mod ls;
+mod row;
+mod worked_values;
+
+pub use bufr_files::words_of;
+pub use column::Column;
+pub use columns::{ColumnsFault, columns_of};
+pub use command::run_command;
+pub use command_line::{CommandLine, line};
+pub use ls::run_ls;

@@ -1,0 +1,135 @@
+//! What lists the frames of an input: rows are held, and written after each piece.
+
+ghost use Rattle.std.specs.Prelude.{◌≡◌, ◌<◌, ◌+◌, ◌^◌, false, [], OnErr, OnOk};
+ghost use Rattle.bufr_io.specs.Engines.{WritesAfter};
+ghost use Rattle.bufr_io.specs.Taking.{frame_at};
+ghost use Rattle.bufr_ls_engine.specs.Listers.{HoldsRow, Keeps, Stops, WritesHeader, WritesHeld};
+ghost use Rattle.bufr_ls_engine.specs.Listers.{IsUnchanged};
+
+use crate::column::Column;
+use crate::row::{Numbered, hold_row, push_header};
+use bufr_answers::OutOfMemory;
+use bufr_bits::Sink;
+use bufr_io::{ToolFault, write_after, write_out};
+use std::alloc::Global;
+
+/// A writer of rows: it holds the rows of the frames of a piece, and writes them together.
+#[derive(Debug, Drop)]
+pub struct Lister<'c> {
+    /// The columns of the rows.
+    pub columns: &'c [Column],
+    /// The number of the input, counted from 1.
+    pub input: u128,
+    /// How many frames of the input were taken in.
+    pub frames: u128,
+    /// How many of them are refused.
+    pub refused: u128,
+    /// How many octets were written.
+    pub written: u128,
+    /// The rows that are not written yet.
+    pub held: Vec<u8>,
+}
+
+impl<'c> Lister<'c> {
+    /// Makes a writer of rows before the first input. It takes no memory.
+    pub fn new(alloc: Global, columns: &'c [Column]) -> Lister<'c>
+        ensures columns { result.columns.now ≡ columns.now }
+        ensures written { result.written ≡ 0 }
+        ensures held { result.held.items ≡ [] }
+    {
+        Lister {
+            columns,
+            input: 0,
+            frames: 0,
+            refused: 0,
+            written: 0,
+            held: Vec::new(alloc),
+        }
+    }
+
+    /// Begins an input.
+    pub fn begin(&mut self, input: u128)
+        ensures { self.new ≡ record self.old { input = input; frames = 0; refused = 0 } }
+    {
+        self.input = input;
+        self.frames = 0;
+        self.refused = 0;
+    }
+
+    /// Writes what is held, and holds nothing then. It reports want of memory if the octets are more
+    /// than can be counted.
+    pub fn write_held<W: Sink>(&mut self, writer: &mut W) -> Result<(), ToolFault>
+        requires works { (W.writing writer.old).failed ≡ false }
+        ensures writes { WritesHeld self.old self.new (W.writing writer.old) (W.writing writer.new)
+            result }
+        ensures keeps { Keeps self.old self.new }
+    {
+        if self.held.is_empty() {
+            return Ok(());
+        }
+        let Some(written) = self.written.checked_add(self.held.len() as u128) else {
+            return Err(ToolFault::OutOfMemory);
+        };
+        write_after(writer, self.written, &self.held)?;
+        self.written = written;
+        self.held.clear();
+        Ok(())
+    }
+
+    /// Writes the header line.
+    pub fn write_header<W: Sink>(&mut self, writer: &mut W) -> Result<(), ToolFault>
+        requires works { (W.writing writer.old).failed ≡ false }
+        requires none { self.old.held.items ≡ [] }
+        ensures writes { WritesHeader self.old self.new (W.writing writer.old)
+            (W.writing writer.new) result }
+        ensures keeps { Keeps self.old self.new }
+    {
+        push_header(&mut self.held, self.columns)?;
+        self.write_held(writer)
+    }
+
+    /// Hands on what was written.
+    pub fn hand_on<W: Sink>(&self, writer: &mut W) -> Result<(), ToolFault>
+        requires works { (W.writing writer.old).failed ≡ false }
+        ensures { WritesAfter self.now.written [] (W.writing writer.old) (W.writing writer.new) result }
+    {
+        write_out(writer, self.written, b"")
+    }
+
+    /// Holds the row of the frame of these octets at this place, and counts the frame. If memory runs
+    /// out, nothing changes.
+    pub fn hold_frame(
+        &mut self,
+        alloc: Global,
+        place: u64,
+        octets: &[u8],
+    ) -> Result<(), OutOfMemory>
+        requires frames { self.old.frames + 1 < 2 ^ 128 }
+        requires refused { self.old.refused + 1 < 2 ^ 128 }
+        ensures ok { OnOk result (HoldsRow self.old self.new (frame_at place octets.now)) }
+        ensures err { OnErr result (IsUnchanged self.old self.new) }
+    {
+        let frame = Numbered {
+            input: self.input,
+            message: self.frames + 1,
+            place,
+            octets,
+        };
+        let refused = hold_row(alloc, &mut self.held, self.columns, &frame)?;
+        self.frames += 1;
+        self.refused += u128::from(refused);
+        Ok(())
+    }
+
+    /// Writes the rows that are held when memory ran out, and returns the fault: that of the writer
+    /// if it fails now.
+    pub fn stop<W: Sink>(&mut self, writer: &mut W) -> ToolFault
+        requires works { (W.writing writer.old).failed ≡ false }
+        ensures { Stops self.old (W.writing writer.old) (W.writing writer.new) result }
+    {
+        match self.write_held(writer) {
+            Ok(()) => ToolFault::OutOfMemory,
+            Err(fault) => fault,
+        }
+    }
+}
