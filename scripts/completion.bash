@@ -1,4 +1,4 @@
-# Completion of the commands `bufr` and `bufr-ls` in bash.
+# Completion of the commands `bufr`, `bufr-ls` and those of the Python package in bash.
 _bufr() {
     local word=${COMP_WORDS[COMP_CWORD]} before=${COMP_WORDS[COMP_CWORD-1]} choices=
     COMPREPLY=()
@@ -39,5 +39,25 @@ _bufr_ls() {
         mapfile -t COMPREPLY < <(compgen -f -- "$word")
     fi
 }
+# Completes an option of a command of the Python package, or a file. COMP_WORDS begins with its name.
+_bufr_commands() {
+    local word=${COMP_WORDS[COMP_CWORD]} choices="--help --version"
+    COMPREPLY=()
+    case "${COMP_WORDS[0]##*/}" in
+        bufr-annotate) choices="-b -d --tables --quiet $choices" ;;
+        bufr-by-version) choices="--into --run $choices" ;;
+        bufr-collect-slurm) choices="-b -d --tables -o --folder --fan --steps --tries --wait --sbatch $choices" ;;
+        bufr-lint) choices="-b -d --tables --set-time --quiet $choices" ;;
+        bufr-skeleton) choices="-b -d --tables --counts --subsets --compressed --centre --category --time --notes $choices" ;;
+        bufr-to-json) choices="-b -d --tables --lines --nested --compact --quiet $choices" ;;
+    esac
+    if [ "${word#-}" != "$word" ]; then
+        mapfile -t COMPREPLY < <(compgen -W "$choices" -- "$word")
+    else
+        mapfile -t COMPREPLY < <(compgen -f -- "$word")
+    fi
+}
 complete -o filenames -F _bufr bufr
 complete -o filenames -F _bufr_ls bufr-ls
+complete -o filenames -F _bufr_commands bufr-annotate bufr-by-version bufr-collect-slurm bufr-from-json bufr-lint bufr-skeleton \
+    bufr-to-json

@@ -1,316 +1,383 @@
--- Texts that are held: for `read_marks`, `ArchiveText::read`, `ArchiveText::merge` and
--- `ArchiveText::origins_with`.
-use Rattle.std.proofs.Common.{◌≡◌, ℕ, ◌+◌, ◌<◌, ◌≤◌, List, [], ◌∷◌, ◌++◌, length, drop, Option}
-use Rattle.std.proofs.Common.{IsErrAnd, Some, None, Result, Ok, Err, refl, sym, ap, subst, ◌∙◌, arith}
-use Rattle.std.specs.Prelude.{option_map}
-use Rattle.std.specs.Option.{option_to_list}
-use Rattle.std.proofs.lemmas.List.{length-drop, length-map, map-append, append-nil}
-use Rattle.std.specs.List.{AllByRecursion, flat_map}
-use Rattle.std.specs.List.Sorted.{IsStrictlySortedBy}
+-- What a step does to a depot and to its slots: for `Depot::step`.
+use Rattle.std.proofs.Common.{◌≡◌, ℕ, zero, suc, ◌+◌, ◌-◌, ◌<◌, ◌≤◌, ◌^◌, true, false, Some, None}
+use Rattle.std.proofs.Common.{Result, Ok, Err, List, [], ◌∷◌, ◌++◌, length, take, set, get_or, refl}
+use Rattle.std.proofs.Common.{sym, ap, ◌∙◌, subst, arith}
+use Rattle.std.specs.Prelude.{slice_get, option_to_list}
+use Rattle.std.specs.List.{AllZip}
+use Rattle.std.proofs.lemmas.List.{map-append, length-map, take-map, set-get_or}
+use Rattle.std.proofs.lemmas.Option.{get_or_from_slice_get, slice_get_past, slice_get_read}
+use Rattle.std.proofs.lemmas.List.Elements.{All-append, All-nil}
+use Rattle.std.proofs.lemmas.Bool.{le-ltb, lt-ltb}
+use Rattle.std.proofs.lemmas.Grind.{flat_map-append}
 use Rattle.bufr_tables.specs.Entries.{Entries}
+use Rattle.bufr_frame.specs.declared.frames.Found.{Found}
+use Rattle.bufr_frame.specs.Framings.{Framing}
+use Rattle.bufr_frame.specs.Looks.{new_framing}
+use Rattle.bufr_frame.specs.Streams.{sure, cut, Stands}
+use Rattle.bufr_frame.specs.StreamLaws.{cut-end, sure-piece}
 use Rattle.bufr_sections.specs.Sections.{AreOctets}
-use Rattle.bufr_shelves.specs.declared.entry.Entry.{Entry}
-use Rattle.bufr_shelves.specs.Entries.{slot_cmp, kept}
-use Rattle.bufr_shelves.specs.Marks.{MarkView}
-use Rattle.bufr_shelves.specs.Orders.{kept-are, kept-kept}
-use Rattle.bufr_archive.specs.declared.merged_octets.Origin.{Origin}
-use Rattle.bufr_archive.specs.declared.merging_texts.Unmerged.{Unmerged}
-use Rattle.bufr_archive.specs.declared.reading.ReadEntry.{ReadEntry}
-use Rattle.bufr_archive.specs.Archives.{ArchiveView, merged}
-use Rattle.bufr_archive.specs.ArchiveTexts.{entries_or_none, entries_in, IsTextOf, marks_or}
-use Rattle.bufr_archive.specs.ArchiveTexts.{AreInOrder, AreLeft, AreMerged}
-use Rattle.bufr_archive.specs.MergedOctets.{handed_out, marks_out, HandOutMerged}
-use Rattle.bufr_archive.specs.Reading.{read, archive_or, archive_read}
-use Rattle.bufr_archive.specs.declared.reading.NotAnArchive.{NotAnArchive}
-use Rattle.bufr_answers.specs.Answers.{Fails, Gives}
-use Rattle.bufr_answers.specs.declared.failure.Failure.{Failure}
-use Rattle.bufr_answers.specs.declared.failure.Failure.TheVariants.{Fault, OutOfMemory}
-use Rattle.bufr_archive.specs.ReportEntries.{IsReportEntry, entry_in}
-use Rattle.bufr_archive.specs.ReportLaws.{ReportsAreEntries}
-use Rattle.bufr_archive.specs.Texts.{text, mark_of, marks_of, right_entry, judged, entries_read}
-use Rattle.bufr_archive.proofs.ReadFacts.{ReadSoFar, read_more, read_all, read_stops}
-use Rattle.bufr_archive.proofs.TextFacts.{kept_each, read_are_texts, texts_are_read}
-use Rattle.bufr_archive.proofs.TextMergeFacts.{merged_are}
+use Rattle.bufr_message.specs.declared.report.Report.{Report}
+use Rattle.bufr_message.specs.Reports.{IsUnder}
+use Rattle.bufr_entries.specs.declared.entry.Entry.{Entry}
+use Rattle.bufr_entries.specs.Entries.{kept}
+use Rattle.bufr_entries.specs.Orders.{kept-early, kept-late}
+use Rattle.bufr_gather.specs.Archives.{ArchiveView, taken_in, merged, entries_of}
+use Rattle.bufr_archive.proofs.ChangeCounts.{count_kept}
+use Rattle.bufr_gather.specs.ReportEntries.{AreUnder, entry_of, report_entries, kept_of}
+use Rattle.bufr_gather.specs.ReportTexts.{archive_of}
+use Rattle.bufr_gather.specs.StreamsTold.{reports_among, ReportsToldAreUnder}
+use Rattle.bufr_archive.specs.Slots.{count_messages, count_refused, Slot, changed_at}
+use Rattle.bufr_archive.specs.Slots.{gains}
+use Rattle.bufr_archive.specs.Runs.{frames_of_piece, frames_of_end, is_too_long, new_reports}
+use Rattle.bufr_archive.specs.Runs.{changes_of, fed_answer, ended_answer, after, feed_answer}
+use Rattle.bufr_archive.specs.Runs.{end_answer, IsAnswer}
+use Rattle.bufr_archive.specs.Holdings.{Holding, DepotView, HoldsSlot, StandsFor}
+use Rattle.bufr_archive.specs.HeldSteps.{AddsFrames, AddsSome, Feeds, Ends, StepDoes}
+use Rattle.bufr_archive.specs.declared.counts.Counts.{Counts}
+use Rattle.bufr_archive.specs.declared.steps.Step.{Step}
+use Rattle.bufr_archive.specs.declared.steps.Step.TheVariants.{Feed, End}
+use Rattle.bufr_archive.specs.declared.steps.Answer.{Answer}
+use Rattle.bufr_archive.specs.declared.steps.Answer.TheVariants.{Fed, Ended}
+use Rattle.bufr_archive.specs.declared.steps.StepFault.{StepFault}
+use Rattle.bufr_archive.specs.declared.steps.StepFault.TheVariants.{NoSlot, StreamTooLong}
+use Rattle.bufr_archive.specs.declared.steps.StepFault.TheVariants.{OutOfMemory}
+use Rattle.bufr_archive.proofs.ListFacts.{both, each_of, front_of}
+use Rattle.bufr_archive.proofs.RunFacts.{among-append}
 
--- what contracts see of entries under tables
-abbrev seen : Entries → List Entry → ArchiveView
-seen tables es = record { tables = tables; entries = es }
+-- ---- two lists, member by member
 
--- ---- entries whose marks are read
+module _ {A B : Type 0} (R : A → B → Type 0) where
+  pub zip_at : (xs : List A) (ys : List B) (i : ℕ) (x : A) → AllZip R xs ys
+      → slice_get xs i ≡ Some x → (y : B) × (slice_get ys i ≡ Some y) × R x y
+  zip_at [] ys i x z h = absurd cc
+  zip_at (a ∷ xs) [] i x z h = absurd z
+  zip_at (a ∷ xs) (b ∷ ys) zero x z h =
+      let e : a ≡ x = cc in (b, refl, subst (λ k. R k b) e z.0)
+  zip_at (a ∷ xs) (b ∷ ys) (suc i) x z h = zip_at xs ys i x z.1 h
 
--- the mark of the last entry, if there is one
-abbrev last_mark : Option Entry → List MarkView
-last_mark before = option_to_list (option_map mark_of before)
+  pub zip_none : (xs : List A) (ys : List B) (i : ℕ) → AllZip R xs ys → slice_get xs i ≡ None
+      → slice_get ys i ≡ None
+  zip_none [] [] i z h = refl
+  zip_none [] (b ∷ ys) i z h = absurd z
+  zip_none (a ∷ xs) [] i z h = absurd z
+  zip_none (a ∷ xs) (b ∷ ys) zero z h = absurd cc
+  zip_none (a ∷ xs) (b ∷ ys) (suc i) z h = zip_none xs ys i z.1 h
 
--- these marks and that of the last entry are those of the entries that were read, and these octets
--- are left
-pub record MarkedSoFar (tables : Entries) (octets : List ℕ) (before : Option Entry) (place : ℕ)
-    (rest : List ℕ) (marks : List MarkView) : Type 0 where
-  pub entries : List Entry
-  pub read_so_far : ReadSoFar (IsReportEntry tables) octets entries before place rest
-  pub marked : marks ++ last_mark before ≡ marks_of entries
-  pub left : place + length rest ≡ length octets
+pub zip_set : (tables : Entries) (hs : List Holding) (ss : List Slot) (i : ℕ) (k : Holding)
+    (s : Slot) (change : Slot → Slot) → AllZip (HoldsSlot tables) hs ss → slice_get ss i ≡ Some s
+    → HoldsSlot tables k (change s)
+    → AllZip (HoldsSlot tables) (set hs i k) (changed_at ss i change)
+zip_set tables [] [] i k s change z h r = tt
+zip_set tables [] (b ∷ ss) i k s change z h r = absurd z
+zip_set tables (a ∷ hs) [] i k s change z h r = absurd z
+zip_set tables (a ∷ hs) (b ∷ ss) zero k s change z h r =
+    let e : b ≡ s = cc in (subst (λ t. HoldsSlot tables k (change t)) (sym e) r, z.1)
+zip_set tables (a ∷ hs) (b ∷ ss) (suc i) k s change z h r =
+    (z.0, zip_set tables hs ss i k s change z.1 h r)
 
--- at first none was read
-pub marked_none : (tables : Entries) (octets : List ℕ) (marks : List MarkView) → AreOctets octets
-    → marks ≡ [] → MarkedSoFar tables octets None 0 octets marks
-marked_none tables octets marks all none = record {
-  entries = [];
-  read_so_far = record { run = tt; last = refl; parts = refl; there = refl; some = all };
-  marked = append-nil marks ∙ none;
-  left = omega arith;
-}
+pub set_same : {A : Type 0} (xs : List A) (i : ℕ) (x : A) → slice_get xs i ≡ Some x
+    → set xs i x ≡ xs
+set_same xs i x e =
+    ap (set xs i) (sym (get_or_from_slice_get xs i x x e)) ∙ set-get_or xs i x
 
-module _ (laws : ReportsAreEntries) (tables : Entries) where
-  -- the next entry has some octets, and no more than are left, and with it one more is marked
-  pub marked_more : (octets : List ℕ) (before : Option ReadEntry) (place : ℕ) (rest : List ℕ)
-      (marks marks' : List MarkView) (found : Option ReadEntry) (entry : ReadEntry)
-      → MarkedSoFar tables octets (option_map read before) place rest marks
-      → option_map read found ≡ right_entry (entry_in tables) (option_map read before) rest
-      → found ≡ Some entry → marks' ≡ marks ++ last_mark (option_map read before)
-      → (12 ≤ length (read entry).bytes) × (length (read entry).bytes ≤ length rest)
-      × MarkedSoFar tables octets (Some (read entry)) (place + length (read entry).bytes)
-      (drop (length (read entry).bytes) rest) marks'
-  marked_more octets before place rest marks marks' found entry s answered is more =
-      let e = read entry in
-      let m = read_more (IsReportEntry tables) (entry_in tables) (laws tables) octets s.entries
-      before place rest found entry s.read_so_far answered is in
-      let within = m.1 in
-      let left = s.left in
-      let behind = length-drop (length e.bytes) rest in (
-        m.0,
-        m.1,
+-- ---- archives of reports
+
+entries-append : (tables : Entries) (rs qs : List Report)
+    → entries_of (report_entries tables (rs ++ qs))
+    ≡ entries_of (report_entries tables rs) ++ entries_of (report_entries tables qs)
+entries-append tables rs qs =
+    ap entries_of (map-append (entry_of tables) rs qs)
+    ∙ flat_map-append option_to_list (report_entries tables rs) (report_entries tables qs)
+
+archive_more : (tables : Entries) (rs qs : List Report)
+    → taken_in (archive_of tables rs) (report_entries tables qs) ≡ archive_of tables (rs ++ qs)
+archive_more tables rs qs =
+    ap (λ (es : List Entry). record { tables = tables; entries = es })
+    (kept-early (entries_of (report_entries tables rs)) (entries_of (report_entries tables qs))
+    ∙ ap kept (sym (entries-append tables rs qs)))
+
+pub archive_joined : (tables : Entries) (rs qs : List Report)
+    → merged (archive_of tables rs) (archive_of tables qs) ≡ archive_of tables (rs ++ qs)
+archive_joined tables rs qs =
+    ap (λ (es : List Entry). record { tables = tables; entries = es })
+    (kept-early (entries_of (report_entries tables rs)) (kept_of tables qs)
+    ∙ kept-late (entries_of (report_entries tables rs)) (entries_of (report_entries tables qs))
+    ∙ ap kept (sym (entries-append tables rs qs)))
+
+-- ---- the reports of frames
+
+parted_under : (tables : Entries) (all fs gs : List Found) → all ≡ fs ++ gs
+    → AreUnder tables (reports_among tables all)
+    → AreUnder tables (reports_among tables fs) × AreUnder tables (reports_among tables gs)
+parted_under tables all fs gs parts under =
+    each_of (IsUnder tables) (reports_among tables fs) (reports_among tables gs)
+    (subst (AreUnder tables) (ap (reports_among tables) parts ∙ among-append tables fs gs) under)
+
+end_under : ReportsToldAreUnder → (tables : Entries) (s : List ℕ) → AreOctets s
+    → AreUnder tables (reports_among tables (sure s))
+    × AreUnder tables (reports_among tables (frames_of_end s))
+end_under told_under tables s all =
+    parted_under tables (cut s) (sure s) (frames_of_end s) (cut-end s) (told_under tables s all)
+
+piece_under : ReportsToldAreUnder → (tables : Entries) (s piece : List ℕ)
+    → AreOctets (s ++ piece) → AreUnder tables (reports_among tables (frames_of_piece s piece))
+piece_under told_under tables s piece all =
+    (parted_under tables (sure (s ++ piece)) (sure s) (frames_of_piece s piece)
+    (sure-piece s piece) (end_under told_under tables (s ++ piece) all).0).1
+
+-- ---- one slot
+
+archive_all : (tables : Entries) (h k : ArchiveView) (rs : List Report) (frames : List Found)
+    (counts : Counts) → h ≡ archive_of tables rs → AddsFrames h k frames counts
+    → k ≡ archive_of tables (rs ++ reports_among tables frames)
+archive_all tables h k rs frames counts is adds =
+    subst (λ (a : ArchiveView). k
+    ≡ taken_in a (report_entries a.tables (reports_among a.tables frames))) is adds.archive
+    ∙ archive_more tables rs (reports_among tables frames)
+
+archive_some : (tables : Entries) (h k : ArchiveView) (rs : List Report) (frames : List Found)
+    (n : ℕ) → h ≡ archive_of tables rs → AddsSome h k frames n
+    → (n ≤ length (reports_among tables frames))
+    × (k ≡ archive_of tables (rs ++ take n (reports_among tables frames)))
+archive_some tables h k rs frames n is adds =
+    let told = reports_among tables frames in
+    let same : AddsSome (archive_of tables rs) k frames n =
+    subst (λ a. AddsSome a k frames n) is adds in
+    let few : n ≤ length (report_entries tables told) = same.few in
+    let long = length-map told (entry_of tables) in (
+      omega (arith, few, long),
+      same.archive ∙ ap (taken_in (archive_of tables rs)) (take-map (entry_of tables) n told)
+          ∙ archive_more tables rs (take n told),
+    )
+
+counts_are : (tables : Entries) (h k : ArchiveView) (slot : Slot) (frames : List Found)
+    (counts : Counts) (answer : ℕ → ℕ → ℕ → Answer) → h ≡ archive_of tables slot.reports
+    → AddsFrames h k frames counts
+    → answer counts.messages counts.refused counts.changed
+    ≡ answer (count_messages tables frames) (count_refused tables frames)
+    (changes_of tables frames slot)
+counts_are tables h k slot frames counts answer is adds =
+    let old = entries_of (report_entries tables slot.reports) in
+    let new = entries_of (report_entries tables (reports_among tables frames)) in
+    let same : AddsFrames (archive_of tables slot.reports) k frames counts =
+    subst (λ a. AddsFrames a k frames counts) is adds in
+    let changed : counts.changed ≡ changes_of tables frames slot =
+    same.changed ∙ count_kept old new in
+    let m = count_messages tables frames in
+    let r = count_refused tables frames in
+    ap (λ x. answer x counts.refused counts.changed) same.messages
+    ∙ ap (λ x. answer m x counts.changed) same.refused ∙ ap (answer m r) changed
+
+pub none_taken : Stands new_framing [] 0
+none_taken = record { fed = refl; out_of_sure = omega arith; held = refl }
+
+fits : (framer : Framing) (s piece : List ℕ) (out : ℕ) → Stands framer s out
+    → framer.fed + length piece < 2 ^ 64 → is_too_long s piece ≡ false
+fits framer s piece out st room =
+    let fed = st.fed in
+    let most = 2 ^ 64 - 1 in
+    le-ltb (2 ^ 64 - 1) (length s + length piece) (omega (arith, fed, room))
+
+too_long : (framer : Framing) (s piece : List ℕ) (out : ℕ) → Stands framer s out
+    → 2 ^ 64 - 1 < framer.fed + length piece → is_too_long s piece ≡ true
+too_long framer s piece out st room =
+    let fed = st.fed in
+    lt-ltb (2 ^ 64 - 1) (length s + length piece) (omega (arith, fed, room))
+
+-- ---- steps with one slot
+
+pub none_there : (d e : DepotView) (i n : ℕ) (piece : List ℕ) → e ≡ d → n ≡ length e.slots → n ≤ i
+    → StepDoes d d (Feed i piece) (Err (NoSlot i)) × StepDoes d d (End i) (Err (NoSlot i))
+none_there d e i n piece same long past =
+    let none = slice_get_past d.slots i
+    (subst (λ m. m ≤ i) (long ∙ ap (λ (x : DepotView). length x.slots) same) past) in (
+      record {
+        tables = refl;
+        answer = λ slots z. ap (feed_answer d.tables i piece)
+            (zip_none (HoldsSlot d.tables) d.slots slots i z none);
+        slots = λ slots z. z;
+      },
+      record {
+        tables = refl;
+        answer = λ slots z. ap (end_answer d.tables i)
+            (zip_none (HoldsSlot d.tables) d.slots slots i z none);
+        slots = λ slots z. z;
+      },
+    )
+
+module _ (told_under : ReportsToldAreUnder) (whole d : DepotView) (i count : ℕ) (h k : Holding)
+    (view : d ≡ whole) (count_is : count ≡ length d.slots) (below : i < count)
+    (read : h ≡ get_or d.slots i h) where
+  -- the depot with one slot changed
+  abbrev changed : DepotView
+  changed = record d { slots = set d.slots i k }
+
+  there : slice_get d.slots i ≡ Some h
+  there = slice_get_read d.slots count i h count_is below read
+
+  by_slot : (step : Step) (result : Result Answer StepFault) (change : Slot → Slot)
+      → ((slots : List Slot) → changed_at slots i change ≡ after d.tables step result slots)
+      → ((slots : List Slot) (s : Slot) → slice_get slots i ≡ Some s → HoldsSlot d.tables h s
+      → IsAnswer d.tables step slots result × HoldsSlot d.tables k (change s))
+      → StepDoes whole changed step result
+  by_slot step result change leaves each =
+      subst (λ (x : DepotView). StepDoes x changed step result) view (record {
+        tables = refl;
+        answer = λ slots z. let s = zip_at (HoldsSlot d.tables) d.slots slots i h z there in
+            (each slots s.0 s.1 s.2).0;
+        slots = λ slots z. let s = zip_at (HoldsSlot d.tables) d.slots slots i h z there in
+            subst (StandsFor changed) (leaves slots)
+            (zip_set d.tables d.slots slots i k s.0 change z s.1 (each slots s.0 s.1 s.2).1);
+      })
+
+  some_held : (frames : List Found) (n : ℕ) (s : Slot) → HoldsSlot d.tables h s
+      → AreUnder d.tables (reports_among d.tables frames) → k.framer ≡ h.framer
+      → AddsSome h.archive k.archive frames n
+      → (n ≤ length (reports_among d.tables frames))
+      × HoldsSlot d.tables k (gains (take n (reports_among d.tables frames)) s)
+  some_held frames n s holds under stays adds =
+      let rs = reports_among d.tables frames in
+      let out = length (sure s.open_stream) in
+      let some = archive_some d.tables h.archive k.archive s.reports frames n holds.archive adds
+      in (
+        some.0,
         record {
-          entries = s.entries ++ e ∷ [];
-          read_so_far = m.2;
-          marked = ap (λ (ms : List MarkView). ms ++ mark_of e ∷ []) (more ∙ s.marked)
-              ∙ sym (map-append mark_of s.entries (e ∷ []));
-          left = omega arith;
+          under = both (IsUnder d.tables) s.reports (take n rs) holds.under
+              (front_of (IsUnder d.tables) n rs under);
+          archive = some.1;
+          octets = holds.octets;
+          framer = subst (λ f. Stands f s.open_stream out) (sym stays) holds.framer;
         },
       )
 
-  -- all are marked
-  pub marked_all : (octets : List ℕ) (before : Option Entry) (place : ℕ) (rest : List ℕ)
-      (marks marks' : List MarkView) → MarkedSoFar tables octets before place rest marks
-      → length rest ≡ 0 → marks' ≡ marks ++ last_mark before
-      → marks_or (entries_read (entry_in tables) octets) ≡ Ok marks'
-  marked_all octets before place rest marks marks' s none more =
-      ap marks_or (read_all (IsReportEntry tables) (entry_in tables) (laws tables) octets s.entries
-      before place rest s.read_so_far none)
-      ∙ ap Ok (sym (more ∙ s.marked))
+  brings : (piece : List ℕ) (s : Slot) → HoldsSlot d.tables h s
+      → h.framer.fed + length piece < 2 ^ 64 → AreOctets piece
+      → (is_too_long s.open_stream piece ≡ false) × AreOctets (s.open_stream ++ piece)
+      × AreUnder d.tables (reports_among d.tables (frames_of_piece s.open_stream piece))
+  brings piece s holds room all =
+      let stream = s.open_stream in
+      let octets : AreOctets (stream ++ piece) =
+      All-append (λ (x : ℕ). x < 2 ^ 8) stream piece holds.octets all in (
+        fits h.framer stream piece (length (sure stream)) holds.framer room,
+        octets,
+        piece_under told_under d.tables stream piece octets,
+      )
 
-  -- what is left does not begin with a right entry
-  pub marked_stops : (octets : List ℕ) (before : Option Entry) (place : ℕ) (rest : List ℕ)
-      (marks : List MarkView) → MarkedSoFar tables octets before place rest marks
-      → 0 < length rest → right_entry (entry_in tables) before rest ≡ None
-      → marks_or (entries_read (entry_in tables) octets) ≡ Err (record { place = place })
-  marked_stops octets before place rest marks s some none =
-      ap marks_or (read_stops (IsReportEntry tables) (entry_in tables) (laws tables) octets
-      s.entries before place rest s.read_so_far some none)
+  fed_slot : (piece : List ℕ) (answer : Answer) (s : Slot) → HoldsSlot d.tables h s
+      → Feeds h k piece (Ok answer)
+      → (feed_answer d.tables i piece (Some s) ≡ Ok answer)
+      × HoldsSlot d.tables k
+      (record (gains (new_reports d.tables (Feed i piece) s) s) {
+        open_stream = s.open_stream ++ piece;
+      })
+  fed_slot piece answer s holds feeds =
+      let t = d.tables in
+      let out = length (sure s.open_stream) in
+      let frames = frames_of_piece s.open_stream piece in
+      let b = brings piece s holds feeds.0 feeds.1 in
+      let short = b.0 in
+      let f = feeds.3 s.open_stream out holds.framer in
+      let new : new_reports t (Feed i piece) s ≡ reports_among t frames = rw short refl in
+      let counted = counts_are t h.archive k.archive s frames f.0 Fed holds.archive f.2 in (
+        rw short (ap Ok (sym counted ∙ sym f.1)),
+        record {
+          under = both (IsUnder t) s.reports (new_reports t (Feed i piece) s) holds.under
+              (subst (AreUnder t) (sym new) b.2);
+          archive = archive_all t h.archive k.archive s.reports frames f.0 holds.archive f.2
+              ∙ ap (λ rs. archive_of t (s.reports ++ rs)) (sym new);
+          octets = b.1;
+          framer = feeds.2 s.open_stream out holds.framer;
+        },
+      )
 
-  -- ---- texts that are read
+  fed_some : (piece : List ℕ) (n : ℕ) (s : Slot) → HoldsSlot d.tables h s
+      → Feeds h k piece (Err (OutOfMemory n))
+      → (feed_answer d.tables i piece (Some s)
+      ≡ Ok (fed_answer d.tables (frames_of_piece s.open_stream piece) s))
+      × ((n ≤ length (new_reports d.tables (Feed i piece) s))
+      × HoldsSlot d.tables k (gains (take n (new_reports d.tables (Feed i piece) s)) s))
+  fed_some piece n s holds feeds =
+      let t = d.tables in
+      let frames = frames_of_piece s.open_stream piece in
+      let b = brings piece s holds feeds.0 feeds.1 in
+      let short = b.0 in
+      let new : new_reports t (Feed i piece) s ≡ reports_among t frames = rw short refl in (
+        rw short refl,
+        subst (λ rs. (n ≤ length rs) × HoldsSlot t k (gains (take n rs) s)) (sym new)
+            (some_held frames n s holds b.2 feeds.2
+            (feeds.3 s.open_stream (length (sure s.open_stream)) holds.framer)),
+      )
 
-  -- octets whose entries are marked are held as their text
-  pub held : (octets : List ℕ) (marks : List MarkView) → AreOctets octets
-      → marks_or (entries_read (entry_in tables) octets) ≡ Ok marks
-      → IsTextOf tables octets marks (entries_in tables octets)
-  held octets marks all told = by (entries_read (entry_in tables) octets) refl told
-    where
-      -- by what was read
-      by : (x : Result (List Entry) ℕ) → entries_read (entry_in tables) octets ≡ x
-          → marks_or x ≡ Ok marks → IsTextOf tables octets marks (entries_in tables octets)
-      by (Ok es) is told =
-          let are : entries_in tables octets ≡ es = ap entries_or_none is in
-          let t = read_are_texts (IsReportEntry tables) (entry_in tables) (laws tables) octets es
-          all is in
-          let own : marks_of es ≡ marks = cc in
-          subst (IsTextOf tables octets marks) (sym are)
-          (record { each = t.0; says = t.1; all_kept = t.2; marked = sym own })
-      by (Err place) is told = absurd cc
+  pub feed_does : (piece : List ℕ) (result : Result Answer StepFault) → Feeds h k piece result
+      → StepDoes whole changed (Feed i piece) result
+  feed_does piece (Ok answer) feeds =
+      by_slot (Feed i piece) (Ok answer) _ (λ slots. refl) (λ slots s e holds.
+      let f = fed_slot piece answer s holds feeds in
+      (ap (feed_answer d.tables i piece) e ∙ f.0, f.1))
+  feed_does piece (Err (NoSlot j)) feeds = absurd feeds
+  feed_does piece (Err StreamTooLong) feeds =
+      let same = ap (set d.slots i) feeds.1 ∙ set_same d.slots i h there in
+      let result : Result Answer StepFault = Err StreamTooLong in
+      subst (λ (x : DepotView). StepDoes x changed (Feed i piece) result) view (record {
+        tables = refl;
+        answer = λ slots z. let s = zip_at (HoldsSlot d.tables) d.slots slots i h z there in
+            let out = length (sure s.0.open_stream) in
+            let long = too_long h.framer s.0.open_stream piece out s.2.framer feeds.0 in
+            ap (feed_answer d.tables i piece) s.1 ∙ (rw long refl);
+        slots = λ slots z. subst (λ (hs : List Holding). AllZip (HoldsSlot d.tables) hs slots)
+            (sym same) z;
+      })
+  feed_does piece (Err (OutOfMemory n)) feeds =
+      by_slot (Feed i piece) (Err (OutOfMemory n)) _ (λ slots. refl) (λ slots s e holds.
+      let f = fed_some piece n s holds feeds in (
+        record {
+          few = rw e f.1.0;
+          answer = fed_answer d.tables (frames_of_piece s.open_stream piece) s;
+          else_done = ap (feed_answer d.tables i piece) e ∙ f.0;
+        },
+        f.1.1,
+      ))
 
--- ---- what reading answers: for `read_marks` and `ArchiveText::read`
+  ended_slot : (answer : Answer) (s : Slot) → HoldsSlot d.tables h s → Ends h k (Ok answer)
+      → (end_answer d.tables i (Some s) ≡ Ok answer)
+      × HoldsSlot d.tables k
+      (record (gains (new_reports d.tables (End i) s) s) {
+        ended = s.ended ++ s.open_stream ∷ [];
+        open_stream = [];
+      })
+  ended_slot answer s holds ends =
+      let t = d.tables in
+      let out = length (sure s.open_stream) in
+      let frames = frames_of_end s.open_stream in
+      let f = ends.1 s.open_stream out holds.framer in
+      let counted = counts_are t h.archive k.archive s frames f.0 Ended holds.archive f.2 in (
+        ap Ok (sym counted ∙ sym f.1),
+        record {
+          under = both (IsUnder t) s.reports (reports_among t frames) holds.under
+              (end_under told_under t s.open_stream holds.octets).1;
+          archive = archive_all t h.archive k.archive s.reports frames f.0 holds.archive f.2;
+          octets = All-nil (λ (x : ℕ). x < 2 ^ 8);
+          framer = subst (λ v. Stands v [] 0) (sym ends.0) none_taken;
+        },
+      )
 
--- a failure that is handed on tells the same
-pub handed_on : {X Y F : Type 0} (view : X → Y) (x : Result X (Failure F)) (e : Failure F)
-    (meant : Result Y F) → IsErrAnd x (λ y. y ≡ e) → Fails e meant → Gives view x meant
-handed_on view (Err f) e meant handed told = subst (λ g. Fails g meant) (sym handed) told
-handed_on view (Ok a) e meant handed told = absurd handed
-
--- the archive of octets whose entries are marked
-seen_read : (tables : Entries) (octets : List ℕ) (marks : List MarkView)
-    → marks_or (entries_read (entry_in tables) octets) ≡ Ok marks
-    → archive_read tables octets ≡ Ok (seen tables (entries_in tables octets))
-seen_read tables octets marks = by (entries_read (entry_in tables) octets)
-  where
-    -- by what was read
-    by : (x : Result (List Entry) ℕ) → marks_or x ≡ Ok marks
-        → archive_or tables x ≡ Ok (seen tables (entries_or_none x))
-    by (Ok es) told = refl
-    by (Err place) told = absurd cc
-
--- of octets that are lent and had more room
-pub text_read : (templates tables : Entries) (lent shrunk octets : List ℕ) (marks : List MarkView)
-    → templates ≡ tables → lent ≡ shrunk → shrunk ≡ octets
-    → marks_or (entries_read (entry_in templates) lent) ≡ Ok marks
-    → archive_read tables octets ≡ Ok (seen tables (entries_in tables shrunk))
-text_read templates tables lent shrunk octets marks same is was told =
-    ap (archive_read tables) (sym (is ∙ was))
-    ∙ seen_read tables lent marks
-    (subst (λ (t : Entries). marks_or (entries_read (entry_in t) lent) ≡ Ok marks) same told)
-    ∙ ap (λ (o : List ℕ). Ok (seen tables (entries_in tables o))) is
-
--- or the place of the first entry that is not right
-text_fails : (templates tables : Entries) (lent octets : List ℕ) (e : Failure NotAnArchive)
-    → templates ≡ tables → lent ≡ octets
-    → Fails e (marks_or (entries_read (entry_in templates) lent))
-    → Fails e (archive_read tables octets)
-text_fails templates tables lent octets e same is told =
-    by e (entries_read (entry_in tables) octets)
-    (subst (λ (t : Entries). Fails e (marks_or (entries_read (entry_in t) octets))) same
-    (subst (λ (o : List ℕ). Fails e (marks_or (entries_read (entry_in templates) o))) is told))
-  where
-    -- by what was told and read
-    by : (e : Failure NotAnArchive) (x : Result (List Entry) ℕ) → Fails e (marks_or x)
-        → Fails e (archive_or tables x)
-    by OutOfMemory x told = tt
-    by (Fault f) (Ok es) told = absurd cc
-    by (Fault f) (Err place) told =
-        let place_is : record { place = place } ≡ f = cc in ap Err place_is
-
--- so it is where that is handed on
-pub text_stops : (templates tables : Entries) (lent octets : List ℕ) (e : Failure NotAnArchive)
-    (x : Result ArchiveView (Failure NotAnArchive)) → IsErrAnd x (λ y. y ≡ e)
-    → templates ≡ tables → lent ≡ octets
-    → Fails e (marks_or (entries_read (entry_in templates) lent))
-    → Gives (λ a. a) x (archive_read tables octets)
-text_stops templates tables lent octets e (Err f) handed same is told =
-    text_fails templates tables lent octets f same is
-    (subst (λ (g : Failure NotAnArchive).
-    Fails g (marks_or (entries_read (entry_in templates) lent))) (sym handed) told)
-text_stops templates tables lent octets e (Ok a) handed same is told = absurd handed
-
-module _ (laws : ReportsAreEntries) (tables : Entries) where
-  -- ---- texts that are merged
-
-  -- what holds of all of two lists holds of both joined
-  each_of_both : (P : Entry → Type 0) (es fs : List Entry) → AllByRecursion P es
-      → AllByRecursion P fs → AllByRecursion P (es ++ fs)
-  each_of_both P [] fs a b = b
-  each_of_both P (e ∷ es) fs a b = (a.0, each_of_both P es fs a.1 b)
-
-  -- the text of what is kept of two texts is held as it
-  pub held_merged : (left right octets : List ℕ) (own others marks : List MarkView)
-      (es fs : List Entry) → IsTextOf tables left own es → IsTextOf tables right others fs
-      → AreMerged es fs octets marks
-      → (entries_in tables octets ≡ kept (es ++ fs))
-      × IsTextOf tables octets marks (entries_in tables octets)
-  held_merged left right octets own others marks es fs l r both =
-      let all = es ++ fs in
-      let each = each_of_both (IsReportEntry tables) es fs l.each r.each in
-      let are : entries_in tables octets ≡ kept all =
-      ap (entries_in tables) both.text_is
-      ∙ ap entries_or_none
-      (texts_are_read (IsReportEntry tables) (entry_in tables) (laws tables) all each) in
-      let held : IsTextOf tables octets marks (kept all) = record {
-        each = kept_each (IsReportEntry tables) all each;
-        says = both.text_is;
-        all_kept = kept-kept all;
-        marked = both.marked;
-      } in
-      (are, subst (IsTextOf tables octets marks) (sym are) held)
-
--- the entries of a text are in order
-pub held_in_order : (tables : Entries) (octets : List ℕ) (marks : List MarkView)
-    (es : List Entry) → IsTextOf tables octets marks es → AreInOrder tables es
-held_in_order tables octets marks es t = record {
-  each = t.each;
-  ordered = subst (IsStrictlySortedBy slot_cmp) t.all_kept (kept-are es).ordered;
-}
-
--- there are as many entries as marks
-pub held_many : (tables : Entries) (octets : List ℕ) (marks : List MarkView) (es : List Entry)
-    → IsTextOf tables octets marks es → length marks ≡ length es
-held_many tables octets marks es t = ap length t.marked ∙ length-map es mark_of
-
--- where there is no mark nothing is held
-pub held_none : (tables : Entries) (octets : List ℕ) (marks : List MarkView) (es : List Entry)
-    → IsTextOf tables octets marks es → length marks ≡ 0 → es ≡ []
-held_none tables octets marks [] t none = refl
-held_none tables octets marks (e ∷ es) t none =
-    let many = held_many tables octets marks (e ∷ es) t in absurd (omega arith)
-
--- no octets are the text of no entries
-nothing_in : (tables : Entries) → entries_in tables [] ≡ []
-unfolding judged
-nothing_in tables = refl
-
--- they are held as it
-pub held_nothing : (tables : Entries) (octets : List ℕ) (marks : List MarkView) → octets ≡ []
-    → marks ≡ [] → IsTextOf tables octets marks (entries_in tables octets)
-held_nothing tables octets marks is are =
-    let none : IsTextOf tables [] marks [] =
-    record { each = tt; says = refl; all_kept = refl; marked = are } in
-    subst (λ (o : List ℕ). IsTextOf tables o marks (entries_in tables o)) (sym is)
-    (subst (IsTextOf tables [] marks) (sym (nothing_in tables)) none)
-
--- and are seen as it
-pub seen_nothing : (tables : Entries) (octets : List ℕ) → octets ≡ []
-    → entries_in tables octets ≡ []
-seen_nothing tables octets is = ap (entries_in tables) is ∙ nothing_in tables
-
--- so it is of what is merged, under the tables of both
-pub merged_held : ReportsAreEntries → (tables others : Entries)
-    (left right left' right' octets : List ℕ) (own more marks : List MarkView)
-    (origins : List Origin) → tables ≡ others → left' ≡ left → right' ≡ right
-    → IsTextOf tables left own (entries_in tables left)
-    → IsTextOf others right more (entries_in others right)
-    → HandOutMerged (entries_in tables left) (entries_in others right) origins
-    → octets ≡ flat_map (λ (o : List ℕ). o) (handed_out origins left' right')
-    → marks ≡ marks_out origins own more
-    → (seen tables (entries_in tables octets)
-    ≡ merged (seen tables (entries_in tables left)) (seen others (entries_in others right)))
-    × IsTextOf tables octets marks (entries_in tables octets)
-merged_held laws tables others left right left' right' octets own more marks origins same left_is
-    right_is l r hand joined out =
-    let es = entries_in tables left in
-    let fs = entries_in others right in
-    let there : IsTextOf tables right more fs =
-    subst (λ (t : Entries). IsTextOf t right more fs) (sym same) r in
-    let both = merged_are es fs origins octets marks hand
-    (joined
-    ∙ ap (λ (o : List ℕ). flat_map (λ (o : List ℕ). o) (handed_out origins o right'))
-    (left_is ∙ l.says)
-    ∙ ap (λ (o : List ℕ). flat_map (λ (o : List ℕ). o) (handed_out origins (text es) o))
-    (right_is ∙ r.says))
-    (out ∙ ap (λ (ms : List MarkView). marks_out origins ms more) l.marked
-    ∙ ap (marks_out origins (marks_of es)) r.marked) in
-    let h = held_merged laws tables left right octets own more marks es fs l there both in
-    (ap (seen tables) h.0, h.1)
-
--- the origins of two texts' entries are those that are told of their octets and marks
-pub origins_held : (tables others : Entries) (left right left' right' : List ℕ)
-    (own more own' more' : List MarkView) (P : List Entry → List Entry → Type 0) (most : ℕ)
-    (first other : Unmerged) → tables ≡ others → left' ≡ left → right' ≡ right → own' ≡ own
-    → more' ≡ more → most ≡ length own + length more
-    → IsTextOf tables left own (entries_in tables left)
-    → IsTextOf others right more (entries_in others right)
-    → ((tables : Entries) (es : List Entry) → AreInOrder tables es → own' ≡ marks_of es
-    → left' ≡ text es → AreLeft tables es first)
-    → ((tables : Entries) (es : List Entry) → AreInOrder tables es → more' ≡ marks_of es
-    → right' ≡ text es → AreLeft tables es other)
-    → ((tables : Entries) (es fs : List Entry) → AreLeft tables es first
-    → AreLeft tables fs other → length es + length fs ≤ most → P es fs)
-    → P (entries_in tables left) (entries_in others right)
-origins_held tables others left right left' right' own more own' more' P most first other same
-    left_is right_is own_is more_is many l r lefts rights told =
-    let es = entries_in tables left in
-    let fs = entries_in others right in
-    let there : IsTextOf tables right more fs =
-    subst (λ (t : Entries). IsTextOf t right more fs) (sym same) r in
-    let n = held_many tables left own es l in
-    let m = held_many tables right more fs there in
-    told tables es fs
-    (lefts tables es (held_in_order tables left own es l) (own_is ∙ l.marked)
-    (left_is ∙ l.says))
-    (rights tables fs (held_in_order tables right more fs there) (more_is ∙ r.marked)
-    (right_is ∙ r.says)) (omega arith)
+  pub end_does : (result : Result Answer StepFault) → Ends h k result
+      → StepDoes whole changed (End i) result
+  end_does (Ok answer) ends =
+      by_slot (End i) (Ok answer) _ (λ slots. refl) (λ slots s e holds.
+      let f = ended_slot answer s holds ends in (ap (end_answer d.tables i) e ∙ f.0, f.1))
+  end_does (Err (NoSlot j)) ends = absurd ends
+  end_does (Err StreamTooLong) ends = absurd ends
+  end_does (Err (OutOfMemory n)) ends =
+      by_slot (End i) (Err (OutOfMemory n)) _ (λ slots. refl) (λ slots s e holds.
+      let frames = frames_of_end s.open_stream in
+      let under = (end_under told_under d.tables s.open_stream holds.octets).1 in
+      let f = some_held frames n s holds under ends.0
+      (ends.1 s.open_stream (length (sure s.open_stream)) holds.framer) in (
+        record {
+          few = rw e f.0;
+          answer = ended_answer d.tables frames s;
+          else_done = ap (end_answer d.tables i) e;
+        },
+        f.1,
+      ))

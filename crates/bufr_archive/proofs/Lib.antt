@@ -1,18 +1,13 @@
--- What the contracts and laws of archives are proved from.
+-- The proofs of the crate: facts of archives, of slots, of steps and of runs, for the clauses of
+-- `Archive` and `Depot` and of the laws.
 pub mod AddFacts
-pub mod BeforeFacts
-pub mod EntryFacts
-pub mod FrameFacts
+pub mod AgreementFacts
+pub mod ChangeCounts
+pub mod CountFacts
+pub mod DepotFacts
+pub mod HeadlineFacts
 pub mod HeldFacts
-pub mod JudgeFacts
-pub mod MergeFacts
-pub mod MergedOctetsFacts
-pub mod OnLiterals
-pub mod ReadFacts
-pub mod ReportFacts
-pub mod ReportTextFacts
-pub mod TextFacts
-pub mod TextLemmas
-pub mod TextMergeFacts
-pub mod ToldFacts
-pub mod UnderFacts
+pub mod JoinFacts
+pub mod ListFacts
+pub mod RunFacts
+pub mod StepFacts

@@ -1,19 +1,19 @@
--- Merging archives by any route gives the same.
+-- Merges agree by any route.
 use Rattle.std.specs.Prelude.{◌≡◌}
-use Rattle.bufr_archive.specs.Archives.{ArchiveView, merged, IsKept}
+use Rattle.bufr_gather.specs.Archives.{ArchiveView, merged, IsKept}
 
--- it doesn't matter which of two archives under the same tables takes in the other,
+-- two archives under the same tables may merge either way
 abbrev pub MergeCommutes : Type 0
 MergeCommutes = (a b : ArchiveView) → a.tables ≡ b.tables → merged a b ≡ merged b a
 
--- nor which two of three are merged first,
+-- three archives may merge in any grouping
 abbrev pub MergeAssociates : Type 0
 MergeAssociates = (a b c : ArchiveView) → merged (merged a b) c ≡ merged a (merged b c)
 
--- and an archive that takes in itself stays as it is
+-- an archive merged with itself stays as it is
 abbrev pub MergeIsIdempotent : Type 0
 MergeIsIdempotent = (a : ArchiveView) → IsKept a → merged a a ≡ a
 
--- what archives hold once merged is kept
+-- merged archives hold what is kept
 abbrev pub MergedIsKept : Type 0
 MergedIsKept = (a b : ArchiveView) → IsKept (merged a b)

@@ -1,71 +1,60 @@
-//! Reports added to an archive one after the other.
+//! Messages added to an archive.
 ghost use Rattle.std.specs.Prelude.{◌≡◌, ◌<◌, ◌∷◌, [], if◌then◌else◌, get_or, length, List, Option, IfOk, OnOk, OnErr};
-ghost use Rattle.bufr_shelves.specs.declared.entry.Entry.{Entry as AnEntry};
-ghost use Rattle.bufr_archive.specs.Archives.{IsKept, AddsReports, taken_in, entries_of, count_changes};
-ghost use Rattle.bufr_archive.specs.Adding.{AddsMessage};
-ghost use Rattle.bufr_answers.specs.Answers.{Gives};
+ghost use Rattle.bufr_entries.specs.declared.entry.Entry.{Entry as AnEntry};
+ghost use Rattle.bufr_gather.specs.Archives.{IsKept, taken_in, entries_of};
+ghost use Rattle.bufr_archive.specs.Adding.{AddsReports, AddsMessage, count_changes};
+ghost use Rattle.bufr_base.specs.Answers.{Gives};
 ghost use Rattle.bufr_message.specs.Messages.{message_of};
 ghost use Rattle.bufr_message.specs.Reports.{reports_of};
-ghost use Rattle.bufr_archive.specs.ReportEntries.{report_entries, spelt_entries};
+ghost use Rattle.bufr_gather.specs.ReportEntries.{report_entries, spelt_entries};
 
-use crate::archive::Archive;
-use crate::laws::archive_is_kept;
-use crate::report_entry::MessageReports;
-use bufr_answers::{Failure, OutOfMemory};
+use crate::archive::{Archive, archive_is_kept};
+use bufr_base::{Failure, OutOfMemory};
+use bufr_entries::Entry;
+use bufr_gather::{AddFault, MessageReports, RanOut};
 use bufr_message::Refused;
-use bufr_shelves::{Entry, Shelf};
+use bufr_shelves::Shelf;
 use std::alloc::Global;
-use thiserror::Error;
 
-/// What a message brought: how many reports it has, and how many of them, added one by one, changed
-/// what is kept.
+/// The reports of a message, counted.
 #[derive(Clone, Copy, Debug, Drop, PartialEq, Eq)]
 pub struct Added {
-    /// How many reports the message has.
+    /// The reports of the message.
     pub reports: u128,
-    /// How many of them changed what is kept.
+    /// The reports that changed the archive, added one by one.
     pub changed: u128,
 }
 
-/// Memory ran out when the first `done` reports were joined, and no others.
-#[derive(Clone, Copy, Debug, Drop, Error, PartialEq, Eq)]
-#[error("out of memory, {done} reports joined")]
-pub struct RanOut {
-    /// How many reports were joined, of those that come first.
-    pub done: u128,
-}
-
-/// Why a message was not added, or not wholly.
-#[derive(Debug, Drop, Error, PartialEq)]
-pub enum AddFault {
-    /// The octets spell no message, for this cause; nothing is changed.
-    #[error("{0}")]
-    Refused(Refused),
-    /// Memory ran out when the first `done` reports were joined, and no others.
-    #[error("out of memory, {done} reports joined")]
-    OutOfMemory { done: u128 },
-}
-
-/// The reports of a message, of which one is held at a time.
+/// A list of reports.
 pub trait ReportList {
-    /// The entry of each report; none of a report that has no canonical message.
+    /// The entry of each report, or none if it has no canonical message.
     ghost entries: { Self → List (Option AnEntry) };
 
-    /// How many reports there are.
+    /// Counts the reports.
     fn count(&self) -> usize
         ensures { result ≡ length (entries self.now) };
 
-    /// The entry of a report, counted from 0. It can only run out of memory.
+    /// Makes the entry of a report, counted from 0.
     fn entry(&self, alloc: Global, index: usize) -> Result<Option<Entry>, OutOfMemory>
         requires { index < length (entries self.now) }
         ensures { IfOk result (λ found. found ≡ get_or (entries self.now) index None) };
 }
 
+// A report's entry is what its own fields spell: this asks no tables and builds no subset.
+impl ReportList for MessageReports<'_> {
+    ghost entries = { λ s. spelt_entries (reports_of s.view.message) };
+
+    fn count(&self) -> usize {
+        self.count()
+    }
+
+    fn entry(&self, alloc: Global, index: usize) -> Result<Option<Entry>, OutOfMemory> {
+        self.entry_at(alloc, index)
+    }
+}
+
 impl<'t, S: Shelf> Archive<'t, S> {
-    /// Adds the reports of the message that octets spell, one after the other, of which one is held
-    /// at a time. Octets that spell none are refused as `decode` refuses them, and nothing is
-    /// changed. Where memory runs out, the first `done` reports are joined; the call may be
-    /// repeated.
+    /// Adds the reports of a message, one by one.
     pub fn add_message(&mut self, octets: &[u8]) -> Result<Added, AddFault>
         ensures { AddsMessage self.old self.new octets.now result }
     {
@@ -83,8 +72,7 @@ impl<'t, S: Shelf> Archive<'t, S> {
         }
     }
 
-    /// The reports of the message that octets spell, under templates that are kept from one message
-    /// to the next. The octets are refused as `decode` refuses them. Memory may run out.
+    /// Reads the reports of a message.
     fn reports_in<'m>(&mut self, octets: &'m [u8]) -> Result<MessageReports<'m>, Failure<Refused>>
         ensures same { self.new ≡ self.old }
         ensures is { Gives (λ s. s.view) result (message_of self.old.tables octets.now) }
@@ -94,7 +82,7 @@ impl<'t, S: Shelf> Archive<'t, S> {
         MessageReports::of_octets(self.alloc, &mut self.templates, octets)
     }
 
-    /// Adds reports one after the other. Where memory runs out, the first `done` are joined.
+    /// Adds reports one by one.
     pub fn add_all<L: ReportList>(&mut self, reports: &L) -> Result<Added, RanOut>
         ensures { AddsReports self.old self.new (L.entries reports.now) result }
     {
@@ -112,7 +100,7 @@ impl<'t, S: Shelf> Archive<'t, S> {
         Ok(Added { reports, changed })
     }
 
-    /// Adds one report, and answers whether that changed what is kept.
+    /// Adds one report, and returns whether it changed the archive.
     fn add_one<L: ReportList>(
         &mut self,
         alloc: Global,

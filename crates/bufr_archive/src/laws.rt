@@ -1,20 +1,19 @@
-//! Laws of archives: each function states some by its contract, and does nothing.
-ghost use Rattle.bufr_archive.specs.Archives.{IsKept};
+//! Laws of archives and depots: a contract states each, and no body does anything.
+ghost use Rattle.std.specs.Prelude.{◌≡◌};
+ghost use Rattle.bufr_tables.specs.Entries.{Entries};
+ghost use Rattle.bufr_message.specs.Laws.{MessagesWrittenAreRead};
 ghost use Rattle.bufr_archive.specs.Laws.{MergeCommutes, MergeAssociates, MergeIsIdempotent, MergedIsKept};
-ghost use Rattle.bufr_archive.specs.StreamsTold.{SameMessagesSameKept, ReportsToldAreUnder};
-ghost use Rattle.bufr_archive.specs.ReportLaws.{ReportsAreEntries, FramesOfReports, FramesOfReportFronts, ReportTextsTell, TextsFromBefore, FromBeforeAreTexts, KeptBeforeIsTheBest, ToldAreTold, OnlyToldAreTold};
+ghost use Rattle.bufr_archive.specs.Headline.{Headline};
+ghost use Rattle.bufr_archive.specs.Agreements.{TookExactly, KeepsWhatWasTold, Converges, RepeatCompletes, RunsJoin};
 
-use crate::archive::Archive;
-use bufr_frame::laws::{cut_is_taken_from_the_left, joined_frames_are_cut_apart};
-use bufr_message::laws::{
-    canonical_messages_are_reports, messages_are_spelt, reports_have_canonical_messages,
-    written_messages_are_spelt,
+pub use bufr_gather::laws::{
+    reports_are_entries, reports_told_are_under, same_messages_same_kept, texts_are_cut_apart,
+    texts_from_before, told_are_of_messages,
 };
-use bufr_shelves::Shelf;
-use bufr_shelves::laws::sorted_are_kept;
+use bufr_message::laws::written_messages_are_spelt;
 
-/// Merges agree whatever their route: on archives under the same tables they are commutative,
-/// associative and idempotent.
+/// Merges under the same tables agree by any route: they are commutative, associative and
+/// idempotent.
 pub fn merges_agree()
     ensures commutes { MergeCommutes }
     ensures associates { MergeAssociates }
@@ -22,70 +21,39 @@ pub fn merges_agree()
     ensures kept { MergedIsKept }
 {}
 
-/// What an archive holds is what is kept: of each slot one entry, in order.
-pub fn archive_is_kept<S: Shelf>(archive: &Archive<S>)
-    ensures { IsKept archive.now }
+/// The headline: whatever streams archives take in under the same tables, in any pieces, in any
+/// order, with repeats, and through any merges, copies and transfers, two archives hold the same
+/// reports and write the same octets if their ended streams hold the same set of messages. Merge is
+/// commutative, associative and idempotent, and an encoded message decodes to its values.
+///
+/// It speaks of what `Depot::run` leaves of two new depots; [`run_both`](crate::run_both) of two
+/// calls.
+pub fn headline()
+    ensures converges { Headline }
+    ensures commutes { MergeCommutes }
+    ensures associates { MergeAssociates }
+    ensures idempotent { MergeIsIdempotent }
+    ensures decodes { MessagesWrittenAreRead }
 {
-    archive.len();
-}
-
-/// The entry of a report under tables is found in its own octets and in no others, and these are
-/// one frame.
-pub fn reports_are_entries()
-    ensures { ReportsAreEntries }
-{
-    messages_are_spelt();
+    merges_agree();
     written_messages_are_spelt();
-    canonical_messages_are_reports();
-    reports_have_canonical_messages();
 }
 
-/// The frames of an archive's text are its canonical messages in order, whatever their character
-/// data hold, and those of a front that has the first k whole begin with these; a text told as a
-/// stream gives what it was written of.
-pub fn texts_are_cut_apart()
-    ensures frames { FramesOfReports }
-    ensures fronts { FramesOfReportFronts }
-    ensures told { ReportTextsTell }
-{
-    joined_frames_are_cut_apart();
-    reports_are_entries();
-    written_messages_are_spelt();
-    canonical_messages_are_reports();
-}
-
-/// An archive's text from before, when keys had no sub-centre, is the text of the reports that were
-/// kept then, so that `Archive::read` takes it and holds these. One that was replaced then does not
-/// come back.
-pub fn texts_from_before()
-    ensures kept { TextsFromBefore }
-    ensures texts { FromBeforeAreTexts }
-    ensures best { KeptBeforeIsTheBest }
-{
-    reports_are_entries();
-    written_messages_are_spelt();
-    sorted_are_kept();
-}
-
-/// The reports that a stream tells are exactly those of the messages that its frames spell.
-pub fn told_are_of_messages()
-    ensures are { ToldAreTold }
-    ensures only { OnlyToldAreTold }
-{
-    cut_is_taken_from_the_left();
-    messages_are_spelt();
-}
-
-/// Streams that hold the same messages tell reports of which the same is kept.
-pub fn same_messages_same_kept()
-    ensures { SameMessagesSameKept }
+/// Runs alone, without the depot: archives agree if their ended streams hold the same messages. An
+/// archive keeps what is kept of all that its streams tell. A slot has exactly the reports that its
+/// ended streams and the sure frames of its open one tell.
+pub fn archives_converge()
+    ensures converges { (tables : Entries) → Converges tables }
+    ensures keeps { (tables : Entries) → KeepsWhatWasTold tables }
+    ensures exactly { (tables : Entries) → TookExactly tables }
 {}
 
-/// The reports that a stream tells are reports under the tables: each has its canonical message.
-pub fn reports_told_are_under()
-    ensures { ReportsToldAreUnder }
-{
-    cut_is_taken_from_the_left();
-    messages_are_spelt();
-    reports_have_canonical_messages();
-}
+/// A repeated step completes one that ran out of memory.
+pub fn repeated_steps_complete()
+    ensures { (tables : Entries) → RepeatCompletes tables }
+{}
+
+/// A run of two lists of steps is a run of the one and then of the other.
+pub fn runs_join()
+    ensures { (tables : Entries) → RunsJoin tables }
+{}

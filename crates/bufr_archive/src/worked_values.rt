@@ -1,47 +1,29 @@
 //! Worked examples of the definitions.
-ghost use Rattle.std.specs.Prelude.{◌≡◌, ◌++◌, ◌∷◌, [], Some, None, Ok, Err, codes};
-ghost use Rattle.bufr_archive.specs.Samples.{keys_in, updates_in, text_of_both, text_told, judged, entries_of_both, key_of_original, original, updated, warmer, month_13, distinct, key_of_distinct, other_sub_centre, next_station, text_of_both_before};
+ghost use Rattle.std.specs.Prelude.{◌≡◌, ◌+◌, Err, false, length, true};
+ghost use Rattle.bufr_archive.specs.Runs.{are_too_many};
+ghost use Rattle.bufr_archive.specs.declared.steps.StepFault.TheVariants.{StreamTooLong};
 
-/// Keys and update sequence numbers of whole messages.
-#[tactic(auto, unfolding(crate::proofs::OnLiterals::archives_on_literals))]
-pub fn keys()
-    ensures original { keys_in original ≡ Some key_of_original ∷ [] }
-    ensures distinct { keys_in distinct ≡ Some key_of_distinct ∷ [] }
-    ensures month_13 { keys_in month_13 ≡ None ∷ [] }
-    ensures update { updates_in distinct ≡ 5 ∷ [] }
+use crate::intakes::Intake;
+use crate::steps::{Answer, StepFault};
+use bufr_shelves::Shelf;
+
+/// The longest stream: 2^64 - 1 octets, which is 18,446,744,073,709,551,615.
+pub fn longest_streams()
+    ensures longest { are_too_many 18446744073709551615 0 ≡ false }
+    ensures piece_fits { are_too_many 18446744073709551610 5 ≡ false }
+    ensures piece_too_long { are_too_many 18446744073709551610 6 ≡ true }
+    ensures one_more { are_too_many 18446744073709551615 1 ≡ true }
+    ensures no_piece { are_too_many 0 0 ≡ false }
 {}
 
-/// Texts of two reports, whatever their order, and of a stream.
-#[tactic(auto, unfolding(crate::proofs::OnLiterals::archives_on_literals))]
-pub fn texts()
-    ensures update_number { text_of_both updated original ≡ updated }
-    ensures update_number_after { text_of_both original updated ≡ updated }
-    ensures byte_order { text_of_both warmer original ≡ warmer }
-    ensures without_key { text_of_both month_13 updated ≡ updated ++ month_13 }
-    ensures sub_centres_apart { text_of_both other_sub_centre original
-        ≡ original ++ other_sub_centre }
-    ensures told { text_told (original ++ codes "BU" ++ updated) ≡ updated }
-{}
-
-/// Texts from before, when keys had no sub-centre, and now.
-#[tactic(auto, unfolding(crate::proofs::OnLiterals::archives_on_literals))]
-pub fn texts_from_before()
-    ensures one_key { text_of_both_before original other_sub_centre ≡ other_sub_centre }
-    ensures one_key_after { text_of_both_before other_sub_centre original ≡ other_sub_centre }
-    ensures update_number { text_of_both_before updated other_sub_centre ≡ updated }
-    ensures stations { text_of_both_before next_station other_sub_centre
-        ≡ other_sub_centre ++ next_station }
-    ensures stations_now { text_of_both next_station other_sub_centre
-        ≡ other_sub_centre ++ next_station }
-{}
-
-/// Texts that are read, and the place of the first entry that is not right.
-#[tactic(auto, unfolding(crate::proofs::OnLiterals::archives_on_literals))]
-pub fn reading()
-    ensures read { judged (updated ++ month_13) ≡ Ok (entries_of_both updated month_13) }
-    ensures empty { judged [] ≡ Ok [] }
-    ensures not_in_order { judged (month_13 ++ updated) ≡ Err 62 }
-    ensures one_slot_twice { judged (original ++ updated) ≡ Err 62 }
-    ensures cut_short { judged (updated ++ codes "BU") ≡ Err 62 }
-    ensures no_frame { judged (0 ∷ updated) ≡ Err 0 }
-{}
+/// Feeds a stream one octet beyond its octet 2^64 - 1: it is too long, and nothing is joined.
+pub(crate) fn one_octet_too_many<S: Shelf>(
+    intake: &mut Intake<'_, S>,
+    piece: &[u8],
+) -> Result<Answer, StepFault>
+    requires { intake.old.framer.fed + length piece.now ≡ 18446744073709551616 }
+    ensures told { result ≡ Err StreamTooLong }
+    ensures kept { intake.new ≡ intake.old }
+{
+    intake.feed(piece)
+}

@@ -1,4 +1,4 @@
-//! Every growth of memory refused in turn to calls of shelves, archives and depots. It has tests only.
+//! Tests that refuse every growth in turn to shelves, archives and depots.
 #![tactic(auto)]
 
 #[cfg(test)]

@@ -1,8 +1,7 @@
-//! Every growth refused in turn, of shelves, archives and depots: the calls that take memory, a few
-//! in each test, which repeats a refused call and compares the state after the refusal and the
-//! answer. Run as they are, no growth is refused; `tests/refuse-each-growth` runs each test once
-//! for each of its growths, which then fails. Octets, texts and counts are typed from the rules of
-//! the formats.
+//! Refused growths of shelves, archives and depots. Each test makes a few calls; after a refusal it
+//! compares the state, repeats the call and compares the result. Only `tests/refuse-each-growth`
+//! refuses growths: it runs each test once for each growth, which then fails. Octets, texts and
+//! counts are typed from the formats.
 
 mod depots;
 mod gathered;
@@ -12,8 +11,7 @@ mod samples;
 use std::fmt::Debug;
 use std::process::Abort;
 
-/// Stops the test where the two differ. It is a function, since a comparison written out in a test
-/// makes the proof of that test more than twice as long.
+/// A function, since comparisons in a test make its proof long.
 fn same<T: PartialEq + Debug + Drop>(rt: &impl Abort, found: T, wanted: T) {
     assert_eq!(rt; found, wanted);
 }

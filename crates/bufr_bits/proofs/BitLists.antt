@@ -1,6 +1,5 @@
--- Bits of octets, taken apart and put together: a field by the octets in which it stands, a
--- number's octets, one octet from two neighbours. For `BitReader::take`, `take_bytes` and
--- `BitSink::put`.
+-- Bits of octets taken apart and joined: a field within its octets, a number's octets, one octet
+-- from two neighbours.
 use Rattle.std.proofs.Common.{◌≡◌, ℕ, zero, suc, ◌+◌, ◌-◌, ◌*◌, ◌/◌, ◌%◌, ◌^◌, ◌<◌, ◌≤◌, Bool, true}
 use Rattle.std.proofs.Common.{false, List, [], ◌∷◌, ◌++◌, length, take, drop, replicate, get_or}
 use Rattle.std.proofs.Common.{refl, inl, inr, lit<, sym, ap, subst, ◌∙◌, arith, length-append}
@@ -18,7 +17,6 @@ use Rattle.bufr_bits.specs.Bits.{bin, bits, number, numbers}
 use Rattle.bufr_bits.specs.BitLaws.{length-bin, number_below, number-bin, number_same, small_mod}
 use Rattle.bufr_bits.specs.OctetLaws.{length-bits, bits-append, numbers-bits}
 
--- the bits of the first octets
 pub take-bits : (k n : ℕ) (xs : List ℕ) → n ≡ 8 * k → k ≤ length xs
     → take n (bits xs) ≡ bits (take k xs)
 take-bits k n xs e le =
@@ -27,7 +25,6 @@ take-bits k n xs e le =
     subst (λ (ys : List ℕ). take n (bits ys) ≡ bits (take k xs)) (take-append-drop k xs)
     (rw (bits-append (take k xs) (drop k xs)) (take_at (bits (take k xs)) (bits (drop k xs)) n len))
 
--- the bits of the octets after them
 pub drop-bits : (k n : ℕ) (xs : List ℕ) → n ≡ 8 * k → k ≤ length xs
     → drop n (bits xs) ≡ bits (drop k xs)
 drop-bits k n xs e le =
@@ -36,7 +33,6 @@ drop-bits k n xs e le =
     subst (λ (ys : List ℕ). drop n (bits ys) ≡ bits (drop k xs)) (take-append-drop k xs)
     (rw (bits-append (take k xs) (drop k xs)) (drop_at (bits (take k xs)) (bits (drop k xs)) n len))
 
--- the number of bits and of more bits behind them
 pub number-append : (xs ys : List Bool) → number (xs ++ ys) ≡ number xs * 2 ^ length ys + number ys
 unfolding number
 number-append [] ys = omega arith
@@ -49,7 +45,6 @@ number-append (true ∷ xs) ys =
     )
 number-append (false ∷ xs) ys = omega (arith, number-append xs ys)
 
--- the number of the bits in the middle
 pub number_middle : (x y z : List Bool) (after width : ℕ) → length z ≡ after → length y ≡ width
     → number (x ++ (y ++ z)) / 2 ^ after % 2 ^ width ≡ number y
 number_middle x y z after width lz ly =
@@ -63,7 +58,6 @@ number_middle x y z after width lz ly =
     rw (e, shr_high (number (x ++ y)) after (number z) small, f)
     (mod_low (number x) width (number y) small_y)
 
--- a number's bits, cut in two
 pub bin-split : (t v w n : ℕ) → t ≡ v + w → bin t n ≡ bin v (n / 2 ^ w) ++ bin w n
 unfolding bin
 bin-split t zero w n e = ap (λ k. bin k n) (omega arith)
@@ -74,30 +68,25 @@ bin-split (suc t) (suc v) w n e =
     let same : n / 2 ^ w / 2 ^ v ≡ n / 2 ^ t = shr-shr n w v ∙ ap (λ k. n / 2 ^ k) (sym turned) in
     rw (same, bin-split t v w n rest) refl
 
--- only the low bits of a number count
 pub bin-mod : (w n : ℕ) → bin w (n % 2 ^ w) ≡ bin w n
 bin-mod w n =
     let below : n % 2 ^ w < 2 ^ w = mod_below n (2 ^ w) (pow_pos w) in
     number_same (bin w (n % 2 ^ w)) (bin w n) (length-bin w (n % 2 ^ w) ∙ sym (length-bin w n))
     (number-bin w (n % 2 ^ w) ∙ small_mod (n % 2 ^ w) (2 ^ w) below ∙ sym (number-bin w n))
 
--- numbers with the same low bits have the same field
 pub bin_same : (w a b : ℕ) → a % 2 ^ w ≡ b % 2 ^ w → bin w a ≡ bin w b
 bin_same w a b e = sym (bin-mod w a) ∙ ap (bin w) e ∙ bin-mod w b
 
--- no bits set
 pub number-zeros : (n : ℕ) → number (replicate n false) ≡ 0
 unfolding number
 number-zeros zero = refl
 number-zeros (suc n) = omega (arith, number-zeros n)
 
--- the field of a number whose low bits are zero
 pub bin-zeros : (w n : ℕ) → n % 2 ^ w ≡ 0 → bin w n ≡ replicate w false
 bin-zeros w n e =
     number_same (bin w n) (replicate w false) (length-bin w n ∙ sym (length-replicate w false))
     (number-bin w n ∙ e ∙ sym (number-zeros w))
 
--- a number with zero bits after it
 pub bin-shifted : (t w z n : ℕ) → t ≡ w + z → bin t (n * 2 ^ z) ≡ bin w n ++ replicate z false
 bin-shifted t w z n e =
     let high : n * 2 ^ z / 2 ^ z ≡ n = shl-shr n z in
@@ -105,7 +94,6 @@ bin-shifted t w z n e =
     let low : n * 2 ^ z % 2 ^ z ≡ 0 = subst (λ m. m % 2 ^ z ≡ 0) same (mod_low n z 0 (pow_pos z)) in
     rw (bin-split t w z (n * 2 ^ z) e, high, bin-zeros z (n * 2 ^ z) low) refl
 
--- powers of 256 as powers of two
 two_to_8 : (k : ℕ) → 256 ^ k ≡ 2 ^ (8 * k)
 two_to_8 zero = refl
 two_to_8 (suc k) =
@@ -113,24 +101,20 @@ two_to_8 (suc k) =
     ap (λ j. 2 ^ j) (omega arith) ∙ pow-add 2 8 (8 * k) in
     rw (split, pow-suc 256 k, two_to_8 k) (omega arith)
 
--- an octet of a number by its bits
 byte_at_bits : (k n : ℕ) → byte_at k n ≡ n / 2 ^ (8 * k) % 2 ^ 8
 byte_at_bits zero n = omega arith
 byte_at_bits (suc k) n = ap (λ p. n / p % 256) (two_to_8 (suc k))
 
--- a field without width has no bit
 bin_none : (n : ℕ) → bin 0 n ≡ []
 unfolding bin
 bin_none n = refl
 
--- the bits of a number's octets
 pub bits-bytes : (k t n : ℕ) → t ≡ 8 * k → bits (bytes_high_first k n) ≡ bin t n
 bits-bytes zero t n e = let none : t ≡ 0 = omega arith in rw none (sym (bin_none n))
 bits-bytes (suc k) t n e =
     rw (bits-bytes k (8 * k) n refl, byte_at_bits k n, bin-mod 8 (n / 2 ^ (8 * k)))
     (sym (bin-split t 8 (8 * k) n (omega arith)))
 
--- the first bits of a list, in two parts
 pub take-more : {X : Type 0} → (a b : ℕ) (xs : List X)
     → take (a + b) xs ≡ take a xs ++ take b (drop a xs)
 take-more a b xs =
@@ -138,7 +122,6 @@ take-more a b xs =
     ∙ ap (λ ys. ys ++ drop a (take (a + b) xs)) (take-take a (a + b) xs (omega arith))
     ∙ ap (λ ys. take a xs ++ ys) (drop-take a b xs)
 
--- a field's number, from the number of the octets in which it stands
 pub field_is : (octets : List ℕ) (first end place width spare : ℕ) → 8 * first ≤ place
     → place + width + spare ≡ 8 * end → end ≤ length octets
     → number (bits (take (end - first) (drop first octets))) / 2 ^ spare % 2 ^ width
@@ -172,7 +155,6 @@ field_is octets first end place width spare begins ends within =
     (take spare (drop width (drop a all))) spare width l2 l1
     ∙ ap (λ ys. number (take width ys)) e3)
 
--- one octet more
 pub number_push : (xs : List ℕ) (x : ℕ) → x < 256
     → number (bits (xs ++ x ∷ [])) ≡ number (bits xs) * 256 + x
 number_push xs x h =
@@ -181,7 +163,6 @@ number_push xs x h =
     let len : length (bits (x ∷ [])) ≡ 8 = length-bits (x ∷ []) in
     rw (bits-append xs (x ∷ []), number-append (bits xs) (bits (x ∷ [])), one, len) refl
 
--- few octets spell a small number
 pub number_of_octets : (xs : List ℕ) (k : ℕ) → length xs ≤ k → number (bits xs) < 2 ^ (8 * k)
 number_of_octets xs k h =
     let small = number_below (bits xs) in
@@ -189,7 +170,6 @@ number_of_octets xs k h =
     pow-le-pow_right (omega arith) (omega (arith, length-bits xs)) in
     omega arith
 
--- the same, cut out by a mask of more bits
 pub field_masked : (octets : List ℕ) (n first end place width spare wide : ℕ)
     → n ≡ number (bits (take (end - first) (drop first octets))) → 8 * first ≤ place
     → place + width + spare ≡ 8 * end → end ≤ length octets → width < wide
@@ -199,12 +179,10 @@ field_masked octets n first end place width spare wide spelt begins ends within 
     rw (one_shl width wide narrow, and_mask (n / 2 ^ spare) width, spelt)
     (field_is octets first end place width spare begins ends within)
 
--- no bits spell zero
 number_nil : number [] ≡ 0
 unfolding number
 number_nil = refl
 
--- one octet more behind some from a place on
 octet_more : (octets : List ℕ) (first k at : ℕ) → at ≡ first + k → at < length octets
     → ((i : ℕ) → get_or octets i 0 < 256)
     → number (bits (take (k + 1) (drop first octets)))
@@ -217,7 +195,6 @@ octet_more octets first k at is below small =
     ∙ ap (λ (y : ℕ). take k (drop first octets) ++ y ∷ []) there)
     ∙ number_push (take k (drop first octets)) (get_or octets at 0) (small at)
 
--- eight octets from a place on as one number, the first the most significant
 pub number_of_eight : (octets : List ℕ) (i : ℕ) → i + 8 ≤ length octets
     → ((j : ℕ) → get_or octets j 0 < 256)
     → get_or octets i 0 * 72057594037927936 + get_or octets (i + 1) 0 * 281474976710656
@@ -239,7 +216,6 @@ number_of_eight octets i within small =
       octet_more octets i 7 (i + 7) (omega arith) (omega arith) small,
     )
 
--- one number more of a row of numbers
 pub numbers-more : (k width t : ℕ) (text : List Bool) → t ≡ k * width
     → numbers (k + 1) width text ≡ numbers k width text ++ number (take width (drop t text)) ∷ []
 unfolding numbers
@@ -253,7 +229,6 @@ numbers-more (suc k) width t text e =
     (ap (λ ys. number (take width text) ∷ ys)
     (numbers-more k width (k * width) (drop width text) refl))
 
--- octets read on an octet's edge
 pub numbers_aligned : (octets : List ℕ) (first n place : ℕ) → place ≡ 8 * first
     → first + n ≤ length octets → ((i : ℕ) → get_or octets i 0 < 256)
     → numbers n 8 (drop place (bits octets)) ≡ take n (drop first octets)
@@ -274,13 +249,11 @@ numbers_aligned octets first n place e within small =
     ] in
     rw text (subst (λ k. numbers k 8 (bits xs ++ rest) ≡ xs) len (numbers-bits xs rest below))
 
--- two neighbours in a list
 two_octets : (xs : List ℕ) (k : ℕ) → k + 1 < length xs
     → take 2 (drop k xs) ≡ get_or xs k 0 ∷ get_or xs (k + 1) 0 ∷ []
 two_octets xs k h =
     rw (drop_more xs k 0 (omega arith), drop_more xs (k + 1) 0 h) refl
 
--- an octet off the edge, from its two neighbours
 pub number_of_two : (octets : List ℕ) (k shift spare a b : ℕ) → shift + spare ≡ 8
     → k + 1 < length octets → a ≡ get_or octets k 0 → b ≡ get_or octets (k + 1) 0 → a < 256
     → b < 256

@@ -1,4 +1,4 @@
--- The lemmas behind the contracts of this crate: bits of octets, what is taken, put and moved up.
+-- Lemmas on bits of octets that are taken, put and shifted.
 pub mod BitLists
 pub mod Fronts
 pub mod Puts

@@ -1,4 +1,5 @@
--- Octets moved up into the zero bits at the end of the octet before them: for `BitSink::put_bytes`.
+-- Octets shifted up into the zero bits at the end of the octet before them, for
+-- `BitSink::put_bytes`.
 use Rattle.std.proofs.Common.{◌≡◌, ℕ, ◌+◌, ◌-◌, ◌*◌, ◌/◌, ◌%◌, ◌^◌, ◌<◌, ◌≤◌, false, List, [], ◌∷◌}
 use Rattle.std.proofs.Common.{◌++◌, length, take, drop, replicate, get_or, set, sym, ap, subst, ◌∙◌}
 use Rattle.std.proofs.Common.{arith, length-append, length-drop, append_assoc}
@@ -14,7 +15,6 @@ use Rattle.bufr_bits.proofs.BitLists.{bin-split, bin-mod, bin-zeros, bin-shifted
 use Rattle.bufr_bits.proofs.Puts.{closed, closed_filled, last_split, last_clear, filled, cut_front}
 use Rattle.bufr_bits.proofs.Puts.{sum_fits}
 
--- nothing is moved yet
 pub move_none : (octets : List ℕ) (from free : ℕ) → from < length octets → free < 8
     → get_or octets from 0 % 2 ^ free ≡ 0
     → bits (take (from + 1) octets) ≡ (take (8 * (from + 1) - free) (bits octets)
@@ -37,7 +37,7 @@ move_none octets from free begun few clear =
     ∙ ap (λ bs. take len (bits octets) ++ bs) low
     ∙ ap (λ bs. bs ++ replicate free false) (sym (append-nil (take len (bits octets)))))
 
--- so far are the octets up to one moved
+-- the octets up to index `i` are shifted
 pub record Moving (octets initial : List ℕ) (from i free : ℕ) : Type 0 where
   pub begun : from ≤ i
   pub within : i + 1 < length octets
@@ -48,7 +48,6 @@ pub record Moving (octets initial : List ℕ) (from i free : ℕ) : Type 0 where
   pub moved : bits (take (i + 1) octets) ≡ (take (8 * (from + 1) - free) (bits initial)
       ++ bits (take (i - from) (drop (from + 1) initial))) ++ replicate free false
 
--- the low bits of the last of them are zero, and its high bits end what was moved
 pub moving_last : (octets initial : List ℕ) (from i free : ℕ) → Moving octets initial from i free
     → (get_or octets i 0 % 2 ^ free ≡ 0) × (bits (take i octets)
     ++ bin (8 - free) (get_or octets i 0 / 2 ^ free) ≡ take (8 * (from + 1) - free) (bits initial)
@@ -85,7 +84,6 @@ moving_last octets initial from i free m =
           ∙ c.0,
     )
 
--- the next octet's first bits go into it
 pub move_fits : (octets initial : List ℕ) (from i free : ℕ) → Moving octets initial from i free
     → get_or octets i 0 < 256 → get_or octets (i + 1) 0 < 256
     → get_or octets i 0 + get_or octets (i + 1) 0 / 2 ^ (8 - free) < 256
@@ -97,7 +95,6 @@ move_fits octets initial from i free m a_small x_small =
     sum_fits (get_or octets i 0) (x / 2 ^ (8 - free)) free (omega (arith, m.few)) a_small
     (moving_last octets initial from i free m).0 top
 
--- one octet more is moved
 pub move_more : (octets initial : List ℕ) (from i free : ℕ) → Moving octets initial from i free
     → get_or octets (i + 1) 0 < 256
     → (drop (i + 1 + 1) (set (set octets i
@@ -173,7 +170,6 @@ move_more octets initial from i free m x_small =
       ap bits taken ∙ joined ∙ turned ∙ moved,
     )
 
--- what a slice's write leaves
 pub written_back : (ws xs : List ℕ) (n : ℕ) → length ws ≡ length xs → n ≡ length xs
     → take n (ws ++ drop (length ws) xs) ≡ ws
 written_back ws xs n same all =
@@ -181,7 +177,6 @@ written_back ws xs n same all =
     ∙ ap (λ ys. take n (ws ++ ys)) (drop_all (length xs) xs (omega arith))
     ∙ ap (λ ys. take n ys) (append-nil ws) ∙ take_all n ws (omega arith)
 
--- octets put after bits, on an octet's edge
 pub put_octets_whole : (octets extended more : List ℕ) (len all count : ℕ) → IsFilled len octets
     → count ≡ length octets → 8 * count ≤ len → all ≡ len + 8 * length more
     → extended ≡ octets ++ more
@@ -204,7 +199,6 @@ put_octets_whole octets extended more len all count filled_to count_is full all_
     ) in
     closed_filled extended text all 0 e long (omega arith)
 
--- and inside an octet
 pub put_octets_moved : (octets extended moved more : List ℕ) (len all count : ℕ)
     → IsFilled len octets → count ≡ length octets → len < 8 * count → all ≡ len + 8 * length more
     → extended ≡ octets ++ more → bits moved ≡ moved_up (count - 1 + 1) (8 * count - len) extended
@@ -234,7 +228,6 @@ put_octets_moved octets extended moved more len all count filled_to count_is beg
     ) in
     closed_filled moved text all free e long (omega (arith, filled_to.1))
 
--- the octet that is then last is still so clear
 pub clear_read : (octets extended more : List ℕ) (len count : ℕ) → IsFilled len octets
     → count ≡ length octets → len < 8 * count → extended ≡ octets ++ more
     → get_or extended (count - 1) 0 % 2 ^ (8 * count - len) ≡ 0

@@ -1,5 +1,4 @@
--- Octets to which bits are put, which are cut and filled: for `BitSink::put`, `cut`, `fill_octet`
--- and `into_bytes`.
+-- Octets that grow by bits, are cut and filled, for `BitSink`.
 use Rattle.std.proofs.Common.{◌≡◌, ℕ, zero, suc, ◌+◌, ◌-◌, ◌*◌, ◌/◌, ◌%◌, ◌^◌, ◌<◌, ◌≤◌, Bool}
 use Rattle.std.proofs.Common.{false, List, [], ◌∷◌, ◌++◌, length, take, drop, replicate, get_or}
 use Rattle.std.proofs.Common.{set, refl, sym, ap, subst, ◌∙◌, lit<, arith, length-append}
@@ -18,7 +17,6 @@ use Rattle.bufr_bits.specs.OctetLaws.{length-bits, bits-append}
 use Rattle.bufr_bits.proofs.BitLists.{bin-split, bin_same, bin-shifted, bits-bytes, number-zeros}
 use Rattle.bufr_bits.proofs.BitLists.{take-bits}
 
--- octets whose bits are a text and some zeros
 pub closed : (octets : List ℕ) (text : List Bool) (len zeros : ℕ)
     → bits octets ≡ text ++ replicate zeros false → length text ≡ len
     → (take len (bits octets) ≡ text) × (8 * length octets ≡ len + zeros)
@@ -38,14 +36,12 @@ closed octets text len zeros e l =
       rw (e, count) (drop_at text (replicate zeros false) len l),
     )
 
--- the last octet, apart from the others
 pub last_apart : (octets : List ℕ) (i : ℕ) → i + 1 ≡ length octets
     → octets ≡ take i octets ++ get_or octets i 0 ∷ []
 last_apart octets i e =
     let all : take (i + 1) octets ≡ octets = take_all (i + 1) octets (omega arith) in
     sym all ∙ take_more octets i 0 (omega arith)
 
--- bits up to a place in the last octet, and those after it
 pub last_split : (octets : List ℕ) (i len free : ℕ) → i + 1 ≡ length octets → free ≤ 8
     → len + free ≡ 8 * length octets
     → (take len (bits octets) ≡ bits (take i octets)
@@ -70,7 +66,6 @@ last_split octets i len free e few ends =
     ) in
     (rw all (take_at front (bin free l) len long), rw all (drop_at front (bin free l) len long))
 
--- an octet whose low bits are zero, with other bits in their place
 pub filled : (l top free : ℕ) → free ≤ 8 → l % 2 ^ free ≡ 0 → top < 2 ^ free
     → bin 8 (l + top) ≡ bin (8 - free) (l / 2 ^ free) ++ bin free top
 filled l top free few clear small =
@@ -88,17 +83,14 @@ filled l top free few clear small =
       bin_same free (l + top) top rest,
     ) refl
 
--- the low bits of an octet are zero where they spell zeros
 pub low_clear : (l free : ℕ) → bin free l ≡ replicate free false → l % 2 ^ free ≡ 0
 low_clear l free e = sym (number-bin free l) ∙ ap number e ∙ number-zeros free
 
--- the last octets of a number
 pub last_bytes : (k t m n : ℕ) → t ≡ k + m → drop k (bytes_high_first t n) ≡ bytes_high_first m n
 last_bytes zero t m n e = ap (λ j. bytes_high_first j n) (omega arith)
 last_bytes (suc k) zero m n e = absurd (omega arith)
 last_bytes (suc k) (suc t) m n e = last_bytes k t m n (omega arith)
 
--- a number put at the end of whole octets
 pub put_whole : (octets new : List ℕ) (width n grown zeros wide : ℕ) → width + zeros ≡ 8 * grown
     → grown ≤ 16 → wide ≡ n * 2 ^ zeros
     → new ≡ octets ++ drop (16 - grown) (bytes_high_first 16 wide)
@@ -113,7 +105,6 @@ put_whole octets new width n grown zeros wide ends few wide_is new_is =
     ∙ ap (λ bs. bits octets ++ bs) added
     ∙ sym (append_assoc (bits octets) (bin width n) (replicate zeros false))
 
--- a number put inside the last octet
 pub put_inside : (octets new : List ℕ) (i len free width n grown zeros wide : ℕ)
     → i + 1 ≡ length octets → free ≤ 8 → len + free ≡ 8 * length octets
     → drop len (bits octets) ≡ replicate free false → width + zeros ≡ 8 * grown + free → grown ≤ 16
@@ -155,7 +146,6 @@ put_inside octets new i len free width n grown zeros wide e few filled_to clear 
     ∙ sym (append_assoc (bits a) h (bin width n ++ replicate zeros false))
     ∙ sym (append_assoc (bits a ++ h) (bin width n) (replicate zeros false)))
 
--- the same, as a sink sees it
 pub closed_filled : (octets : List ℕ) (text : List Bool) (len zeros : ℕ)
     → bits octets ≡ text ++ replicate zeros false → length text ≡ len → zeros < 8
     → (take len (bits octets) ≡ text) × IsFilled len octets
@@ -163,7 +153,6 @@ closed_filled octets text len zeros e l few =
     let c = closed octets text len zeros e l in
     (c.0, (omega (arith, c.1), omega (arith, c.1), c.2))
 
--- an octet whose low bits are zero has room for them
 pub sum_fits : (l top free : ℕ) → free ≤ 8 → l < 256 → l % 2 ^ free ≡ 0 → top < 2 ^ free
     → l + top < 256
 sum_fits l top free few small clear top_small =
@@ -180,12 +169,10 @@ sum_fits l top free few small clear top_small =
       mul-add-lt (l / 2 ^ free) (2 ^ free) top (2 ^ (8 - free)) quotient top_small,
     )
 
--- a field at its place in the octets that it needs
 pub wide_is : (n width zeros : ℕ) → width ≤ 64 → zeros < 8 → n < 2 ^ width
     → n * 2 ^ zeros % 2 ^ 128 ≡ n * 2 ^ zeros
 wide_is n width zeros narrow few small = shl_whole n width zeros 128 small (omega arith)
 
--- the bits of it that go into the last octet
 pub top_below : (n width zeros free grown : ℕ) → n < 2 ^ width → width + zeros ≡ 8 * grown + free
     → n * 2 ^ zeros / 2 ^ (8 * grown) < 2 ^ free
 top_below n width zeros free grown small ends =
@@ -193,19 +180,16 @@ top_below n width zeros free grown small ends =
     shr_below (n * 2 ^ zeros) free (8 * grown)
     (subst (λ k. n * 2 ^ zeros < 2 ^ k) sum (shl_below n width zeros small))
 
--- the low bits of the last octet, in octets that are filled
 pub last_clear : (octets : List ℕ) (i len free : ℕ) → i + 1 ≡ length octets → free ≤ 8
     → len + free ≡ 8 * length octets → drop len (bits octets) ≡ replicate free false
     → get_or octets i 0 % 2 ^ free ≡ 0
 last_clear octets i len free e few ends clear =
     low_clear (get_or octets i 0) free (sym (last_split octets i len free e few ends).1 ∙ clear)
 
--- so many octets of a number
 length-bytes : (k n : ℕ) → length (bytes_high_first k n) ≡ k
 length-bytes zero n = refl
 length-bytes (suc k) n = ap suc (length-bytes k n)
 
--- the last octets of sixteen
 last_of_16 : (be : List ℕ) (grown wide : ℕ) → grown ≤ 16 → be ≡ bytes_high_first 16 wide
     → take (16 - (16 - grown)) (drop (16 - grown) be) ≡ drop (16 - grown) (bytes_high_first 16 wide)
 last_of_16 be grown wide few e =
@@ -215,7 +199,7 @@ last_of_16 be grown wide few e =
     ∙ take_all (16 - (16 - grown)) (drop (16 - grown) (bytes_high_first 16 wide))
     (omega (arith, ap length same, length-bytes grown wide))
 
--- what the octets are, and what is to be put after `len` bits of them
+-- the octets before and after they grow, and the field that goes after `len` bits of them
 pub record Putting (octets extended : List ℕ) (len width n count grown zeros : ℕ) : Type 0 where
   pub filled : IsFilled len octets
   pub count_is : count ≡ length octets
@@ -226,7 +210,6 @@ pub record Putting (octets extended : List ℕ) (len width n count grown zeros :
   pub grown_few : grown ≤ 8
   pub extended_is : extended ≡ octets ++ drop (16 - grown) (bytes_high_first 16 (n * 2 ^ zeros))
 
--- the octets with the new ones at the end
 pub putting : (octets be extended : List ℕ) (len width n count grown : ℕ) → IsFilled len octets
     → count ≡ length octets → width ≤ 64 → n < 2 ^ width
     → grown ≡ div_ceil (width - (8 * count - len)) 8
@@ -255,7 +238,6 @@ putting octets be extended len width n count grown filled count_is narrow fits g
           ∙ ap (λ bs. octets ++ bs) (last_of_16 be grown (n * 2 ^ zeros) (omega arith) whole);
     }
 
--- the octet that is last before, as it is read after the growth
 pub last_read : (octets extended : List ℕ) (len width n count grown zeros x : ℕ)
     → Putting octets extended len width n count grown zeros → len < 8 * count
     → x ≡ get_or extended (count - 1) x → x ≡ get_or octets (count - 1) 0
@@ -272,7 +254,6 @@ last_read octets extended len width n count grown zeros x p begun x_is =
     ∙ get_or_append_left octets (drop (16 - grown) (bytes_high_first 16 (n * 2 ^ zeros))) 0
     (count - 1) inside
 
--- a last octet that is not full takes the field's first bits
 pub put_last : (octets extended : List ℕ) (len width n count grown zeros x : ℕ)
     → Putting octets extended len width n count grown zeros → len < 8 * count
     → x ≡ get_or extended (count - 1) x
@@ -318,7 +299,6 @@ put_last octets extended len width n count grown zeros x p begun x_is =
     closed_filled (set extended i (x + n * 2 ^ zeros % 2 ^ 128 / 2 ^ (8 * grown)))
     (take len (bits octets) ++ bin width n) (len + width) zeros all long p.few
 
--- after a full octet the field begins a new one
 pub put_after : (octets extended : List ℕ) (len width n count grown zeros : ℕ)
     → Putting octets extended len width n count grown zeros → 8 * count ≤ len
     → (take (len + width) (bits extended) ≡ take len (bits octets) ++ bin width n)
@@ -340,7 +320,6 @@ put_after octets extended len width n count grown zeros p full =
     ) in
     rw same (closed_filled extended (bits octets ++ bin width n) (len + width) zeros all long p.few)
 
--- the field's first bits fit an octet
 pub cast_fits : (octets extended : List ℕ) (len width n count grown zeros : ℕ)
     → Putting octets extended len width n count grown zeros
     → n * 2 ^ zeros % 2 ^ 128 / 2 ^ (8 * grown) < 256
@@ -351,7 +330,6 @@ cast_fits octets extended len width n count grown zeros p =
     let most : 2 ^ free ≤ 2 ^ 8 = pow-le-pow_right (lit< tt) few in
     rw (wide_is n width zeros p.narrow p.few p.fits) (omega arith)
 
--- and the last octet has room for them
 pub add_fits : (octets extended : List ℕ) (len width n count grown zeros x : ℕ)
     → Putting octets extended len width n count grown zeros → len < 8 * count
     → x ≡ get_or extended (count - 1) x → x < 256
@@ -373,7 +351,6 @@ add_fits octets extended len width n count grown zeros x p begun x_is small =
     (sum_fits x (n * 2 ^ zeros / 2 ^ (8 * grown)) free few small x_clear
     (top_below n width zeros free grown p.fits p.ends))
 
--- whole octets are filled
 pub filled_whole : (octets : List ℕ) (all : ℕ) → all ≡ 8 * length octets → IsFilled all octets
 filled_whole octets all e =
     let none : 8 * length octets - all ≡ 0 = omega arith in (
@@ -383,7 +360,6 @@ filled_whole octets all e =
           ∙ ap (λ k. replicate k false) (sym none),
     )
 
--- the zero bits up to the octet's end, as bits put
 pub fill_is : (octets : List ℕ) (len all : ℕ) → IsFilled len octets → all ≡ 8 * length octets
     → take all (bits octets)
     ≡ take len (bits octets) ++ replicate ((8 - length (take len (bits octets)) % 8) % 8) false
@@ -396,14 +372,12 @@ fill_is octets len all filled e =
     ∙ sym (take-append-drop len (bits octets))
     ∙ ap (λ bs. take len (bits octets) ++ bs) (filled.2 ∙ ap (λ k. replicate k false) zeros))
 
--- the octets in which the first bits stand
 pub cut_front : (octets : List ℕ) (k len : ℕ) → len ≤ 8 * k → k ≤ length octets
     → take len (bits (take k octets)) ≡ take len (bits octets)
 cut_front octets k len inside within =
     ap (λ bs. take len bs) (sym (take-bits k (8 * k) octets refl within))
     ∙ take-take len (8 * k) (bits octets) inside
 
--- octets cut on an octet's edge
 pub cut_whole : (octets cut : List ℕ) (len count : ℕ) → count ≡ length octets
     → len ≤ 8 * length octets → (8 * count - len) % 8 ≡ 0
     → cut ≡ take (count - (8 * count - len) / 8) octets
@@ -418,7 +392,6 @@ cut_whole octets cut len count count_is inside edge cut_is =
       filled_whole cut len all,
     )
 
--- octets cut inside an octet, whose low bits are then zero
 pub cut_inside : (octets cut : List ℕ) (len count at x low : ℕ) → count ≡ length octets
     → len ≤ 8 * length octets → low ≡ (8 * count - len) % 8 → 0 < low
     → cut ≡ take (count - (8 * count - len) / 8) octets → at ≡ length cut

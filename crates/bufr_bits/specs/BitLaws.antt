@@ -1,5 +1,4 @@
--- What bits spell is what was spelt: the laws of one number in a field, for `laws` and for whoever
--- reads and writes fields.
+-- Laws of one number in a field, for `laws` and for all who read or write fields.
 use Rattle.std.proofs.Common.{◌≡◌, ℕ, zero, suc, ◌+◌, ◌*◌, ◌/◌, ◌%◌, ◌^◌, ◌<◌, ◌≤◌, Bool, true}
 use Rattle.std.proofs.Common.{false, cond, ltb, List, [], ◌∷◌, ◌++◌, length, take, drop, Some, refl}
 use Rattle.std.proofs.Common.{sym, ap, subst, ◌∙◌, arith, length-append, inl, inr}
@@ -22,7 +21,7 @@ unfolding bin
 length-bin zero n = refl
 length-bin (suc w) n = ap suc (length-bin w n)
 
--- bits spell a number below two to the power of how many they are
+-- n bits spell a number below 2 to the power of n
 pub number_below : (bs : List Bool) → number bs < 2 ^ length bs
 unfolding number
 number_below [] = omega arith
@@ -35,19 +34,19 @@ bit_worth zero p h = omega arith
 bit_worth (suc zero) p h = omega arith
 bit_worth (suc (suc b)) p h = absurd (omega arith)
 
--- a number below another is its own rest
+-- a number below the divisor is its own remainder
 pub small_mod : (m p : ℕ) → m < p → m % p ≡ m
 small_mod m p h =
     let positive : 0 < p = omega arith in
     (same_from_place (m / p) (m % p) 0 m p (mod_below m p positive) h (omega arith)).1
 
--- a bit adds at most what its place is worth
+-- a bit adds at most the worth of its place
 bit_small : (b p : ℕ) → b < 2 → b * p ≤ p
 bit_small zero p h = omega arith
 bit_small (suc zero) p h = omega arith
 bit_small (suc (suc b)) p h = absurd (omega arith)
 
--- a number's rest by twice a power, from the next bit and the rest by the power
+-- the remainder by twice a power, from the next bit and the remainder by the power
 split_again : (n p q m h b : ℕ)
     → q * p + m ≡ n → m < p → q ≡ 2 * h + b → b < 2 → n % (p * 2) ≡ b * p + m
 split_again n p q m h b whole small halves bit =
@@ -62,7 +61,7 @@ pow_positive : (w : ℕ) → 0 < 2 ^ w
 pow_positive zero = omega arith
 pow_positive (suc w) = let h = pow_positive w in let e = pow-suc 2 w in omega arith
 
--- one bit more
+-- the remainder by the next power adds one bit
 mod-suc_bit : (n w : ℕ) → n % 2 ^ suc w ≡ bit_at n w * 2 ^ w + n % 2 ^ w
 mod-suc_bit n w =
     let positive = pow_positive w in
@@ -78,7 +77,7 @@ number-bin (suc w) n =
     rw (length-bin w n, bit_worth (bit_at n w) (2 ^ w) below, number-bin w n)
     (sym (mod-suc_bit n w))
 
--- a number that fits is read again, whatever follows it
+-- a number that fits its field is read again, whatever follows
 pub number_at-bin : (w n : ℕ) (rest : List Bool)
     → n < 2 ^ w → number_at w (bin w n ++ rest) ≡ Some (n, rest)
 unfolding number_at
@@ -89,7 +88,7 @@ number_at-bin w n rest h =
     rw (long, take_at (bin w n) rest w len, drop_at (bin w n) rest w len, number-bin w n)
     (rw (small_mod n (2 ^ w) h) refl)
 
--- bits of one length that spell one number are the same
+-- equally long bits that spell one number are equal
 pub number_same : (bs cs : List Bool) → length bs ≡ length cs → number bs ≡ number cs → bs ≡ cs
 unfolding number
 number_same [] [] len e = refl
@@ -108,14 +107,14 @@ number_same (false ∷ bs) (true ∷ cs) len e =
     let same : length bs ≡ length cs = omega arith in
     absurd (omega (arith, ap (λ k. 2 ^ k) same, number_below bs))
 
--- bits are those of the number that they spell
+-- bits are the field of the number that they spell
 pub bin-number : (w : ℕ) (bs : List Bool) → length bs ≡ w → bin w (number bs) ≡ bs
 bin-number w bs len =
     number_same (bin w (number bs)) bs (length-bin w (number bs) ∙ sym len)
     (number-bin w (number bs)
     ∙ small_mod (number bs) (2 ^ w) (subst (λ k. number bs < 2 ^ k) len (number_below bs)))
 
--- what is read is spelt so
+-- a number that is read fits its width, and its field begins the text
 pub number_at_is : (w n : ℕ) (text rest : List Bool)
     → number_at w text ≡ Some (n, rest) → (text ≡ bin w n ++ rest) × (n < 2 ^ w)
 unfolding number_at

@@ -1,19 +1,19 @@
--- Writing one text after another, for `write_all` and for whoever writes a message in several
--- texts: what a sink has taken is what it had, then the first text, then the next.
+-- Laws of writing several texts to one sink, for `write_all` and for all who write a message in
+-- pieces.
 use Rattle.std.proofs.Common.{◌≡◌, ℕ, List, [], ◌++◌, Option, Some, None, sym, ap, ◌∙◌}
 use Rattle.std.proofs.Common.{append_assoc}
 use Rattle.std.specs.Prelude.{IfSome}
 use Rattle.std.proofs.lemmas.List.{append-nil}
 use Rattle.bufr_bits.specs.Devices.{Writing, Kept, Writes}
 
--- nothing was written yet
+-- a sink that took nothing has written the empty text
 pub Writes-nothing : (w : Writing) → Writes w w []
 Writes-nothing w = elim w.taken as (λ t. IfSome t (λ before. t ≡ Some (before ++ []))) [
   | None ↦ tt
   | Some before ↦ ap Some (sym (append-nil before))
 ]
 
--- the same of what was taken at three times
+-- two texts taken in turn are their concatenation, if the sink says what it took
 after : (a b c : Option (List ℕ)) (xs ys : List ℕ)
     → IfSome a (λ before. b ≡ Some (before ++ xs)) → IfSome b (λ before. c ≡ Some (before ++ ys))
     → IfSome a (λ before. c ≡ Some (before ++ (xs ++ ys)))
@@ -23,7 +23,7 @@ after (Some all) (Some more) c xs ys h k =
     let e : more ≡ all ++ xs = cc in
     k ∙ ap (λ zs. Some (zs ++ ys)) e ∙ ap Some (append_assoc all xs ys)
 
--- what was taken and then kept
+-- octets kept after a text change nothing
 still : (a b c : Option (List ℕ)) (xs : List ℕ)
     → IfSome a (λ before. b ≡ Some (before ++ xs)) → IfSome b (λ octets. c ≡ Some octets)
     → IfSome a (λ before. c ≡ Some (before ++ xs))
@@ -31,12 +31,12 @@ still None b c xs h k = tt
 still (Some all) None c xs h k = cc
 still (Some all) (Some more) c xs h k = k ∙ h
 
--- one text after another
+-- two texts written in turn are one text
 pub Writes-more : (first middle last : Writing) (xs ys : List ℕ)
     → Writes first middle xs → Writes middle last ys → Writes first last (xs ++ ys)
 Writes-more first middle last xs ys = after first.taken middle.taken last.taken xs ys
 
--- a sink that keeps what it has
+-- a text stays written if the sink keeps what it has
 pub Writes-kept : (first middle last : Writing) (xs : List ℕ)
     → Writes first middle xs → Kept middle.taken last.taken → Writes first last xs
 Writes-kept first middle last xs = still first.taken middle.taken last.taken xs

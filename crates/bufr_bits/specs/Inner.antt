@@ -2,10 +2,10 @@
 use Rattle.bufr_bits.specs.declared.device.FromRead.{FromRead}
 use Rattle.bufr_bits.specs.declared.device.IntoWrite.{IntoWrite}
 
--- the reader that a source reads from
+-- the reader of a source
 abbrev pub reader_of : {R : Type 0} → FromRead R → R
 reader_of source = source.reader
 
--- the writer that a sink writes to
+-- the writer of a sink
 abbrev pub writer_of : {W : Type 0} → IntoWrite W → W
 writer_of sink = sink.writer

@@ -1,5 +1,4 @@
--- Numbers of one width, one behind another: fields that were put are taken again, and what is taken
--- was put. The laws on octets rest on them, and so do those on columns of increments.
+-- Laws of numbers of one width in a row, for octets and for columns of increments.
 use Rattle.std.proofs.Common.{◌≡◌, ℕ, zero, suc, ◌*◌, ◌^◌, ◌<◌, ◌≤◌, Bool, true, false, ltb, List}
 use Rattle.std.proofs.Common.{[], ◌∷◌, ◌++◌, length, take, drop, Some, refl, sym, ap, subst, ◌∙◌}
 use Rattle.std.proofs.Common.{inl, inr, arith, append_assoc}
@@ -11,20 +10,20 @@ use Rattle.bufr_bits.specs.Bits.{bin, number, numbers, numbers_at}
 use Rattle.bufr_bits.specs.BitLaws.{length-bin, number-bin, small_mod, number_below, bin-number}
 use Rattle.bufr_bits.specs.BitLaws.{some_is}
 
--- as many numbers as were asked for
+-- `numbers n` has n numbers
 pub length-numbers : (n width : ℕ) (text : List Bool) → length (numbers n width text) ≡ n
 unfolding numbers
 length-numbers zero width text = refl
 length-numbers (suc n) width text = ap suc (length-numbers n width (drop width text))
 
--- the bits of numbers of one width
+-- the length of the fields of numbers of one width
 pub length-fields : (width : ℕ) (xs : List ℕ) → length (flat_map (bin width) xs) ≡ length xs * width
 length-fields width [] = omega arith
 length-fields width (x ∷ xs) =
     let both = length-append (bin width x) (flat_map (bin width) xs) in
     omega (arith, both, length-bin width x, length-fields width xs)
 
--- numbers that fit their width are what their fields spell, whatever follows
+-- numbers that fit their width are read from their fields, whatever follows
 pub numbers-fields : (width : ℕ) (xs : List ℕ) (rest : List Bool)
     → AllByRecursion (λ x. x < 2 ^ width) xs
     → numbers (length xs) width (flat_map (bin width) xs ++ rest) ≡ xs
@@ -39,7 +38,7 @@ numbers-fields width (x ∷ xs) rest all =
     (rw (number-bin width x, small_mod x (2 ^ width) all.0, numbers-fields width xs rest all.1)
     refl)
 
--- numbers that were put are taken again, whatever follows them
+-- numbers that were put are taken again, whatever follows
 pub numbers_at_again : (width n : ℕ) (xs : List ℕ) (rest : List Bool)
     → length xs ≡ n → AllByRecursion (λ x. x < 2 ^ width) xs
     → numbers_at n width (flat_map (bin width) xs ++ rest) ≡ Some (xs, rest)
@@ -64,7 +63,7 @@ numbers_fit (suc n) width text long =
     subst (λ k. number (take width text) < 2 ^ k) own (number_below (take width text)) in
     (first, numbers_fit n width (drop width text) others)
 
--- the fields of the numbers that are taken, and the bits after them, are all the bits
+-- the fields of the numbers taken and the bits after them are all the bits
 pub fields-numbers : (n width : ℕ) (text : List Bool)
     → n * width ≤ length text
     → flat_map (bin width) (numbers n width text) ++ drop (n * width) text ≡ text
@@ -84,7 +83,7 @@ fields-numbers (suc n) width text long =
     ∙ ap (λ xs. first ++ xs) (fields-numbers n width (drop width text) more)
     ∙ take-append-drop width text
 
--- numbers that are taken were put: so many, each fits, and their fields begin the bits
+-- n numbers that are taken fit their width, and their fields begin the text
 pub numbers_at_found : (n width : ℕ) (text : List Bool) (x : List ℕ × List Bool)
     → numbers_at n width text ≡ Some x
     → (length x.0 ≡ n) × AllByRecursion (λ y. y < 2 ^ width) x.0

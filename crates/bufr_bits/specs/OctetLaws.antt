@@ -1,5 +1,4 @@
--- Octets and their bits, both ways: the laws of a text in the data and of the octets of a sink, for
--- `take_bytes`, `put_bytes` and `into_bytes` and whoever reads and writes messages with them.
+-- Laws of octets and their bits, for texts in data and for the octets of a sink.
 use Rattle.std.proofs.Common.{◌≡◌, ℕ, suc, ◌*◌, ◌<◌, ◌≤◌, Bool, List, [], ◌∷◌, ◌++◌, length, drop}
 use Rattle.std.proofs.Common.{get_or, Some, refl, sym, ap, ◌∙◌, arith, length-append}
 use Rattle.std.specs.Prelude.{All}
@@ -11,28 +10,28 @@ use Rattle.bufr_bits.specs.BitLaws.{length-bin}
 use Rattle.bufr_bits.specs.NumberLaws.{numbers-fields, fields-numbers, numbers_fit}
 use Rattle.bufr_bits.specs.NumberLaws.{numbers_at_again, numbers_at_found}
 
--- eight bits an octet
+-- an octet has eight bits
 pub length-bits : (octets : List ℕ) → length (bits octets) ≡ 8 * length octets
 length-bits [] = omega arith
 length-bits (x ∷ xs) =
     omega (arith, length-append (bin 8 x) (bits xs), length-bin 8 x, length-bits xs)
 
--- the bits of octets and of more octets behind them
+-- the bits of joined octets are the joined bits
 pub bits-append : (xs ys : List ℕ) → bits (xs ++ ys) ≡ bits xs ++ bits ys
 bits-append xs ys = flat_map-append (bin 8) xs ys
 
--- what holds at each place of a list holds of each of its elements
+-- each element is below 256 if the element at each index is
 each_small : (octets : List ℕ)
     → ((i : ℕ) → get_or octets i 0 < 256) → AllByRecursion (λ x. x < 256) octets
 each_small [] small = tt
 each_small (x ∷ xs) small = (small 0, each_small xs (λ i. small (suc i)))
 
--- octets are what their bits spell, whatever follows
+-- octets are read from their bits, whatever follows
 pub numbers-bits : (octets : List ℕ) (rest : List Bool)
     → ((i : ℕ) → get_or octets i 0 < 256) → numbers (length octets) 8 (bits octets ++ rest) ≡ octets
 numbers-bits octets rest small = numbers-fields 8 octets rest (each_small octets small)
 
--- octets that were put are taken again, whatever follows them
+-- octets that were put are taken again, whatever follows
 pub octets_at-bits : (octets : List ℕ) (rest : List Bool)
     → All (λ x. x < 256) octets
     → octets_at (length octets) (bits octets ++ rest) ≡ Some (octets, rest)
@@ -40,7 +39,7 @@ octets_at-bits octets rest small =
     numbers_at_again 8 (length octets) octets rest refl
     (recursion_from_All (λ x. x < 256) octets small)
 
--- the numbers of eight bits each that bits have are octets with these bits
+-- the numbers of eight bits in bits are octets with these bits
 pub bits-numbers : (n : ℕ) (text : List Bool)
     → n * 8 ≤ length text
     → (text ≡ bits (numbers n 8 text) ++ drop (n * 8) text) × All (λ x. x < 256) (numbers n 8 text)
@@ -49,7 +48,7 @@ bits-numbers n text within =
     (numbers_fit n 8 text within) in
     (sym (fields-numbers n 8 text within), small)
 
--- octets that are taken were put: they begin the bits, so many, and each is one
+-- n octets that are taken are below 256, and their bits begin the text
 pub octets_at_is : (n : ℕ) (octets : List ℕ) (text rest : List Bool)
     → octets_at n text ≡ Some (octets, rest)
     → (text ≡ bits octets ++ rest) × (length octets ≡ n) × All (λ x. x < 256) octets
@@ -57,7 +56,7 @@ octets_at_is n octets text rest e =
     let found = numbers_at_found n 8 text (octets, rest) e in
     (found.2, found.0, All-from_recursion (λ x. x < 256) octets found.1)
 
--- octets with the same bits are the same
+-- octets with equal bits are equal
 pub bits_same : (octets others : List ℕ)
     → All (λ x. x < 256) octets → All (λ x. x < 256) others
     → bits octets ≡ bits others → octets ≡ others

@@ -1,15 +1,19 @@
-//! Octets that grow and shrink by bits.
+//! Appends bits to octets; the bits after the `len` in use are zero.
 
 ghost use Rattle.std.specs.Prelude.{◌≡◌, ◌+◌, ◌*◌, ◌^◌, ◌<◌, ◌≤◌, ◌%◌, ◌++◌, length, take};
 ghost use Rattle.std.specs.Prelude.{slice_index, OnOk, OnErr};
 ghost use Rattle.bufr_bits.specs.Bits.{bin, bits};
 ghost use Rattle.bufr_bits.specs.Filled.{IsFilled, moved_up};
 
-use bufr_answers::OutOfMemory;
+use bufr_base::OutOfMemory;
 
-/// Puts a field of `width` bits after the first `len` bits of octets that are filled with zero bits
-/// from there on.
-pub fn append(octets: &mut Vec<u8>, len: u128, width: u32, number: u64) -> Result<(), OutOfMemory>
+/// Puts a field of `width` bits after `len` bits.
+pub(crate) fn append(
+    octets: &mut Vec<u8>,
+    len: u128,
+    width: u32,
+    number: u64,
+) -> Result<(), OutOfMemory>
     requires width { width ≤ 64 }
     requires fits { number < 2 ^ width }
     requires filled { IsFilled len octets.old.items }
@@ -29,8 +33,8 @@ pub fn append(octets: &mut Vec<u8>, len: u128, width: u32, number: u64) -> Resul
     Ok(())
 }
 
-/// Drops all after the first `len` bits, and fills the last octet with zero bits.
-pub fn cut_after(octets: &mut Vec<u8>, len: u128)
+/// Drops all after `len` bits and clears the rest of the last octet.
+pub(crate) fn cut_after(octets: &mut Vec<u8>, len: u128)
     requires { len ≤ 8 * length octets.old.items }
     ensures kept { take len (bits octets.new.items) ≡ take len (bits octets.old.items) }
     ensures filled { IsFilled len octets.new.items }
@@ -46,9 +50,8 @@ pub fn cut_after(octets: &mut Vec<u8>, len: u128)
     }
 }
 
-/// Puts octets after the first `len` bits of octets that are filled with zero bits from there on: a
-/// copy on an octet's edge, which is moved up in place elsewhere.
-pub fn append_octets(octets: &mut Vec<u8>, len: u128, more: &[u8]) -> Result<(), OutOfMemory>
+/// Puts octets after `len` bits: copies them, and shifts the copy if needed.
+pub(crate) fn append_octets(octets: &mut Vec<u8>, len: u128, more: &[u8]) -> Result<(), OutOfMemory>
     requires { IsFilled len octets.old.items }
     ensures ok { OnOk result (take (len + 8 * length more.now) (bits octets.new.items)
         ≡ take len (bits octets.old.items) ++ bits more.now) }
@@ -64,7 +67,7 @@ pub fn append_octets(octets: &mut Vec<u8>, len: u128, more: &[u8]) -> Result<(),
     Ok(())
 }
 
-/// Moves all after an octet up by the zero bits at its end, so that these come last.
+/// Shifts all octets after `from` up by `free` bits.
 fn move_up(octets: &mut [u8], from: usize, free: u32)
     requires begun { from < length octets.old }
     requires some { 0 < free }

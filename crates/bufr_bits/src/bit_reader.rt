@@ -1,4 +1,4 @@
-//! Reading bits.
+//! Reads bits. A refused call leaves the reader where it was.
 
 ghost use Rattle.std.specs.Prelude.{◌≡◌, ◌+◌, ◌*◌, ◌<◌, ◌≤◌, length, drop, Some, None, IfSome};
 ghost use Rattle.std.specs.Prelude.{IfNone, OnSome, OnErr, OnOk, IfOk, option_map};
@@ -8,11 +8,11 @@ ghost use Rattle.bufr_bits.specs.Ends.{BitPlace, left};
 
 use super::field::field;
 use super::octets::octets_from;
-use bufr_answers::OutOfMemory;
+use bufr_base::OutOfMemory;
 use std::alloc::Global;
 use std::marker::Model;
 
-/// Takes bits from the front of octets, the most significant bit of each first.
+/// A reader of bits, the most significant of each octet first.
 #[derive(Debug, Drop)]
 pub struct BitReader<'a> {
     octets: &'a [u8],
@@ -31,14 +31,14 @@ impl<'a> Model for BitReader<'a> {
 }
 
 impl<'a> BitReader<'a> {
-    /// A reader of all the bits.
+    /// Makes a reader of all bits.
     pub fn new(octets: &'a [u8]) -> Self
         ensures { result ≡ record { octets = octets.now; place = 0 } }
     {
         BitReader { octets, place: 0 }
     }
 
-    /// A reader from a bit on, of which the octets have so many at least.
+    /// Makes a reader that begins at a bit, counted from 0.
     pub fn at(octets: &'a [u8], bit: u128) -> Self
         requires { bit ≤ 8 * length octets.now }
         ensures { result ≡ record { octets = octets.now; place = bit } }
@@ -46,22 +46,21 @@ impl<'a> BitReader<'a> {
         BitReader { octets, place: bit }
     }
 
-    /// How many bits stand before the next one.
+    /// Returns the number of bits before the next one.
     pub fn place(&self) -> u128
         ensures { result ≡ self.now.place }
     {
         self.place
     }
 
-    /// All the octets that it was given, also those before the next bit. They may outlive the
-    /// reader.
+    /// Returns all octets. They may outlive the reader.
     pub fn octets(&self) -> &'a [u8]
         ensures { result.now ≡ self.now.octets }
     {
         self.octets
     }
 
-    /// How many bits are left.
+    /// Returns the number of bits left.
     pub fn left(&self) -> u128
         ensures bits { result ≡ length (left self.now) }
         ensures rest { self.now.place + result ≡ 8 * length self.now.octets }
@@ -77,8 +76,7 @@ impl<'a> BitReader<'a> {
         self.place = bit;
     }
 
-    /// Steps over the next `bits` bits, and answers whether so many were left. Where fewer are, the
-    /// place is unchanged.
+    /// Skips `bits` bits, or returns false if fewer are left.
     pub fn pass(&mut self, bits: u128) -> bool
         ensures enough { OnTrue result (bits ≤ length (left self.old)) }
         ensures passed { OnTrue result
@@ -94,8 +92,7 @@ impl<'a> BitReader<'a> {
         true
     }
 
-    /// The next `width` bits as a number, the most significant first. There is none only where
-    /// fewer are left, and the place is then unchanged.
+    /// Takes `width` bits as a number, or returns `None` if fewer are left.
     pub fn take(&mut self, width: u32) -> Option<u64>
         requires { width ≤ 64 }
         ensures found { IfSome result
@@ -113,7 +110,7 @@ impl<'a> BitReader<'a> {
         Some(number)
     }
 
-    /// The next `width` bits as a number, the most significant first, of which so many are left.
+    /// Takes `width` bits that are there as a number.
     pub fn take_left(&mut self, width: u32) -> u64
         requires narrow { width ≤ 64 }
         requires enough { width ≤ length (left self.old) }
@@ -125,9 +122,8 @@ impl<'a> BitReader<'a> {
         number
     }
 
-    /// The next `n` octets, at any bit. There are none only where fewer bits are left, and the
-    /// place is then unchanged. Answers `OutOfMemory` where the octets' copy was refused; the place
-    /// is then unchanged too.
+    /// Copies `n` octets from any bit on, or returns `None` if fewer are left; `OutOfMemory` if
+    /// there is no room for the copy.
     pub fn take_bytes(&mut self, alloc: Global, n: u64) -> Result<Option<Vec<u8>>, OutOfMemory>
         ensures found { IfOk result (λ o. IfSome o
             (λ v. octets_at n (left self.old) ≡ Some (v.items, left self.new))) }

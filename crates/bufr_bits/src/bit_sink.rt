@@ -1,16 +1,15 @@
-//! Writing bits.
+//! Writes bits. A call that can't grow returns `OutOfMemory` and puts nothing.
 
 ghost use Rattle.std.specs.Prelude.{◌≡◌, ◌≤◌, ◌<◌, ◌^◌, ◌++◌, ◌%◌, ◌-◌, [], length, take};
 ghost use Rattle.std.specs.Prelude.{replicate, false, IfOk, OnOk, OnErr};
 ghost use Rattle.bufr_bits.specs.Bits.{bin, bits};
 
 use super::append::{append, append_octets, cut_after};
-use bufr_answers::OutOfMemory;
+use bufr_base::OutOfMemory;
 use std::alloc::Global;
 use std::marker::Model;
 
-/// Bits on the heap, to which more can be put. They stand in whole octets, the last of which is
-/// filled with zero bits.
+/// A growing list of bits, in whole octets on the heap; zero bits fill the last.
 #[derive(Debug, Drop)]
 pub struct BitSink {
     octets: Vec<u8>,
@@ -30,7 +29,7 @@ impl Model for BitSink {
 }
 
 impl BitSink {
-    /// No bits.
+    /// Makes an empty sink.
     pub fn new(alloc: Global) -> Self
         ensures { result ≡ [] }
     {
@@ -40,8 +39,7 @@ impl BitSink {
         }
     }
 
-    /// No bits, with room for so many octets: no growth is asked for before they are full.
-    /// `OutOfMemory` where that room was refused.
+    /// Makes an empty sink with room for `octets` octets, or returns `OutOfMemory`.
     pub fn with_capacity(alloc: Global, octets: usize) -> Result<Self, OutOfMemory>
         ensures { IfOk result (λ sink. sink ≡ []) }
     {
@@ -49,16 +47,14 @@ impl BitSink {
         Ok(BitSink { octets, len: 0 })
     }
 
-    /// How many bits were put.
+    /// Returns the number of bits.
     pub fn len_bits(&self) -> u128
         ensures { result ≡ length self.now }
     {
         self.len
     }
 
-    /// Puts a number at the end, in a field of `width` bits, the most significant first. It writes
-    /// whole octets, at most nine. Answers `OutOfMemory` where a growth was refused; nothing is
-    /// then put.
+    /// Appends a number as `width` bits, in at most nine octets.
     pub fn put(&mut self, width: u32, number: u64) -> Result<(), OutOfMemory>
         requires width { width ≤ 64 }
         requires fits { number < 2 ^ width }
@@ -70,8 +66,7 @@ impl BitSink {
         Ok(())
     }
 
-    /// Puts octets at the end, at any bit. Answers `OutOfMemory` where a growth was refused;
-    /// nothing is then put.
+    /// Appends octets at any bit.
     pub fn put_bytes(&mut self, octets: &[u8]) -> Result<(), OutOfMemory>
         ensures ok { OnOk result (self.new ≡ self.old ++ bits octets.now) }
         ensures err { OnErr result (self.new ≡ self.old) }
@@ -81,7 +76,7 @@ impl BitSink {
         Ok(())
     }
 
-    /// Drops the bits from there on.
+    /// Keeps the first `bits` bits.
     pub fn cut(&mut self, bits: u128)
         requires { bits ≤ length self.old }
         ensures { self.new ≡ take bits self.old }
@@ -90,7 +85,7 @@ impl BitSink {
         self.len = bits;
     }
 
-    /// Adds zero bits to an octet's end.
+    /// Appends zero bits up to the end of the last octet.
     pub fn fill_octet(&mut self)
         ensures whole { length self.new % 8 ≡ 0 }
         ensures filled { self.new ≡ self.old ++ replicate ((8 - length self.old % 8) % 8) false }
@@ -98,7 +93,7 @@ impl BitSink {
         self.len = 8 * self.octets.len() as u128;
     }
 
-    /// The octets, where they are whole.
+    /// Returns the octets.
     pub fn into_bytes(self) -> Vec<u8>
         requires { length self % 8 ≡ 0 }
         ensures { bits result.items ≡ self }

@@ -1,4 +1,4 @@
-//! Readers and writers of octets, which tell whether they failed.
+//! Sources and sinks: readers and writers of octets that remember failures.
 
 ghost use Rattle.std.specs.Prelude.{◌≡◌, ◌≤◌, ◌<◌, ◌+◌, ◌^◌, true, false, length, take, IfOk};
 ghost use Rattle.std.specs.Prelude.{IfErr, OnErr, OnOk};
@@ -7,17 +7,17 @@ ghost use Rattle.bufr_bits.specs.Inner.{reader_of, writer_of};
 
 use std::io::{Read, Write};
 
-/// A reader or a writer failed. It is not to be used again.
+/// A failure of a device. Don't use that device again.
 #[derive(Clone, Copy, Debug, PartialEq, Eq, Drop)]
 pub struct Failed;
 
-/// What octets are read from.
+/// A device to read octets from.
 pub trait Source {
     /// What contracts see of it.
     ghost reading: { Self → Reading };
 
-    /// Reads some octets into the front of the buffer, none only at the end. An error is never
-    /// tried again.
+    /// Reads octets into the start of the buffer, and returns their number: 0 only at the end. It
+    /// never retries.
     fn read(&mut self, buffer: &mut [u8]) -> Result<usize, Failed>
         requires not_empty { 0 < length buffer.old }
         requires works { (reading self.old).failed ≡ false }
@@ -28,13 +28,13 @@ pub trait Source {
         ensures failed { OnErr result (FailedRead (reading self.old) (reading self.new)) };
 }
 
-/// What octets are written to.
+/// A device to write octets to.
 pub trait Sink {
     /// What contracts see of it.
     ghost writing: { Self → Writing };
 
-    /// Takes a front of the piece, at least one octet of a piece that has one, and answers how many
-    /// octets it took.
+    /// Writes the start of the piece, and returns the number of octets taken: 0 only of an empty
+    /// piece.
     fn write(&mut self, piece: &[u8]) -> Result<usize, Failed>
         requires { (writing self.old).failed ≡ false }
         ensures within { IfOk result (λ n. n ≤ length piece.now) }
@@ -45,7 +45,7 @@ pub trait Sink {
         ensures failed { OnErr result ((writing self.new).failed ≡ true) }
         ensures kept { OnErr result (Kept (writing self.old).taken (writing self.new).taken) };
 
-    /// Hands on what it has taken.
+    /// Passes on all octets taken.
     fn flush(&mut self) -> Result<(), Failed>
         requires { (writing self.old).failed ≡ false }
         ensures works { OnOk result ((writing self.new).failed ≡ false) }
@@ -53,14 +53,14 @@ pub trait Sink {
         ensures kept { Kept (writing self.old).taken (writing self.new).taken };
 }
 
-/// A sink failed, once it had taken the first `written` octets of a text.
+/// A failure of a sink within a text.
 #[derive(Clone, Copy, Debug, PartialEq, Eq, Drop)]
 pub struct Unwritten {
-    /// How many octets it took.
+    /// The number of octets taken.
     pub written: usize,
 }
 
-/// Writes all octets of a text. On a failure the sink has taken fewer, the first of them.
+/// Writes a whole text, or its first octets if the sink fails.
 pub fn write_all<W: Sink>(sink: &mut W, text: &[u8]) -> Result<(), Unwritten>
     requires { (W.writing sink.old).failed ≡ false }
     ensures ok { OnOk result (Writes (W.writing sink.old) (W.writing sink.new) text.now) }
@@ -80,7 +80,7 @@ pub fn write_all<W: Sink>(sink: &mut W, text: &[u8]) -> Result<(), Unwritten>
     Ok(())
 }
 
-/// A source that reads from any reader. Any error of the reader is a failed read.
+/// A source over any reader. Any error is a failed read.
 #[derive(Debug, Drop)]
 pub struct FromRead<R> {
     reader: R,
@@ -90,7 +90,7 @@ pub struct FromRead<R> {
 }
 
 impl<R: Read> FromRead<R> {
-    /// A source of what the reader has left. It has not failed and was not read.
+    /// Makes a source over what the reader has left.
     pub fn new(reader: R) -> Self
         ensures { ⟦<FromRead<R> as Source>⟧.reading result
             ≡ record { left = R.remaining reader; failed = false; reads = 0; met_end = false } }
@@ -105,7 +105,7 @@ impl<R: Read> FromRead<R> {
 }
 
 impl<R> FromRead<R> {
-    /// Gives the reader back, as the source left it.
+    /// Returns the reader.
     pub fn into_inner(self) -> R
         ensures { result ≡ reader_of self }
     {
@@ -136,8 +136,7 @@ impl<R: Read> Source for FromRead<R> {
     }
 }
 
-/// A sink that writes to any writer. Any error of the writer is a failure, and so is a write that
-/// takes nothing of a piece that has an octet.
+/// A sink over any writer. It fails on an error, or if the writer takes nothing of a piece.
 #[derive(Debug, Drop)]
 pub struct IntoWrite<W> {
     writer: W,
@@ -145,7 +144,7 @@ pub struct IntoWrite<W> {
 }
 
 impl<W: Write> IntoWrite<W> {
-    /// A sink that writes after what the writer holds. It has not failed.
+    /// Makes a sink that appends to what the writer holds.
     pub fn new(writer: W) -> Self
         ensures { ⟦<IntoWrite<W> as Sink>⟧.writing result
             ≡ record { taken = W.contents writer; failed = false } }
@@ -158,7 +157,7 @@ impl<W: Write> IntoWrite<W> {
 }
 
 impl<W> IntoWrite<W> {
-    /// Gives the writer back, with what it has taken.
+    /// Returns the writer.
     pub fn into_inner(self) -> W
         ensures { result ≡ writer_of self }
     {

@@ -1,9 +1,8 @@
-//! Numbers that octets spell.
+//! Reads numbers from bits.
 
 ghost use Rattle.std.specs.Prelude.{◌≡◌, ◌+◌, ◌*◌, ◌≤◌, length, take, drop};
 ghost use Rattle.bufr_bits.specs.Bits.{bits, number};
 
-/// The number that all the bits of a few octets spell.
 fn spelt(octets: &[u8]) -> u128
     requires { length octets.now ≤ 16 }
     ensures { result ≡ number (bits octets.now) }
@@ -15,10 +14,9 @@ fn spelt(octets: &[u8]) -> u128
     total
 }
 
-/// The most bits of a field that stands in eight octets, wherever in the first of them it begins.
+/// The widest field within eight octets, from any bit of the first.
 const MOST_BITS_IN_A_WORD: u32 = 56;
 
-/// The number that the bits of eight octets from an index on spell.
 fn word_at(octets: &[u8], first: usize) -> u64
     requires { first + 8 ≤ length octets.now }
     ensures { result ≡ number (bits (take 8 (drop first octets.now))) }
@@ -35,8 +33,7 @@ fn word_at(octets: &[u8], first: usize) -> u64
     ])
 }
 
-/// The number in a field of `width` bits that begins at a bit of the octets. It reads whole octets,
-/// at most nine.
+/// Reads `width` bits from bit `place` on, in at most nine octets.
 fn field_by_octets(octets: &[u8], place: u128, width: u32) -> u64
     requires narrow { width ≤ 64 }
     requires within { place + width ≤ 8 * length octets.now }
@@ -49,9 +46,8 @@ fn field_by_octets(octets: &[u8], place: u128, width: u32) -> u64
     ((number >> spare) & ((1u128 << width) - 1)) as u64
 }
 
-/// The same. Eight octets are read at once where the field is no wider than 56 bits and there are so
-/// many octets: the last eight where fewer follow the one in which the field begins.
-pub fn field(octets: &[u8], place: u128, width: u32) -> u64
+/// Reads `width` bits from bit `place` on, eight octets at once if it can.
+pub(crate) fn field(octets: &[u8], place: u128, width: u32) -> u64
     requires narrow { width ≤ 64 }
     requires within { place + width ≤ 8 * length octets.now }
     ensures { result ≡ number (take width (drop place (bits octets.now))) }

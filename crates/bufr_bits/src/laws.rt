@@ -4,27 +4,27 @@ ghost use Rattle.std.specs.Prelude.{◌≡◌, ℕ, ◌^◌, ◌<◌, ◌++◌, 
 ghost use Rattle.std.specs.List.{flat_map};
 ghost use Rattle.bufr_bits.specs.Bits.{bin, bits, number, number_at, numbers_at, octets_at};
 
-/// A field of so many bits has them, spells its number, and is the only one that does.
+/// A field of `width` bits is the only one of its length that spells its number.
 pub fn field_of_a_number()
     ensures width { (width number : ℕ) → length (bin width number) ≡ width }
     ensures spells { (width n : ℕ) → n < 2 ^ width → number (bin width n) ≡ n }
     ensures only { (field : List Bool) → bin (length field) (number field) ≡ field }
 {}
 
-/// A number in a field of so many bits is found again, whatever bits follow it.
+/// A number that was put is taken again, whatever follows.
 pub fn number_put_is_taken()
     ensures { (width number : ℕ) (rest : List Bool) → number < 2 ^ width
         → number_at width (bin width number ++ rest) ≡ Some (number, rest) }
 {}
 
-/// The number that is found is below 2 to the power of its width, and its field begins the bits.
+/// A number that is taken fits its width, and its field begins the bits.
 pub fn number_taken_was_put()
     ensures { (width number : ℕ) (text rest : List Bool)
         → number_at width text ≡ Some (number, rest)
         → (text ≡ bin width number ++ rest) × (number < 2 ^ width) }
 {}
 
-/// Numbers in fields of one width are found again, whatever bits follow them.
+/// Numbers of one width that were put are taken again.
 pub fn numbers_put_are_taken()
     ensures { (width : ℕ) (numbers : List ℕ) (rest : List Bool)
         → All (λ number. number < 2 ^ width) numbers
@@ -32,8 +32,7 @@ pub fn numbers_put_are_taken()
         ≡ Some (numbers, rest) }
 {}
 
-/// The numbers that are found are so many, each is below 2 to the power of their width, and their
-/// fields begin the bits.
+/// Numbers that are taken fit their width, and their fields begin the bits.
 pub fn numbers_taken_were_put()
     ensures { (n width : ℕ) (numbers : List ℕ) (text rest : List Bool)
         → numbers_at n width text ≡ Some (numbers, rest)
@@ -41,13 +40,13 @@ pub fn numbers_taken_were_put()
         × All (λ number. number < 2 ^ width) numbers }
 {}
 
-/// Octets are found again, whatever bits follow them.
+/// Octets that were put are taken again.
 pub fn octets_put_are_taken()
     ensures { (octets : List ℕ) (rest : List Bool) → All (λ octet. octet < 256) octets
         → octets_at (length octets) (bits octets ++ rest) ≡ Some (octets, rest) }
 {}
 
-/// The octets that are found are octets, so many, and their bits begin the bits.
+/// Octets that are taken begin the bits.
 pub fn octets_taken_were_put()
     ensures { (n : ℕ) (octets : List ℕ) (text rest : List Bool)
         → octets_at n text ≡ Some (octets, rest)
@@ -55,7 +54,7 @@ pub fn octets_taken_were_put()
         × All (λ octet. octet < 256) octets }
 {}
 
-/// Octets with the same bits are the same.
+/// Octets with equal bits are equal.
 pub fn octets_with_these_bits()
     ensures { (octets others : List ℕ)
         → All (λ octet. octet < 256) octets → All (λ octet. octet < 256) others

@@ -1,4 +1,4 @@
-//! Bits of octets, the most significant bit first, and the devices that octets come from and go to.
+//! Bits of octets, most significant first, and the devices that octets come from and go to.
 #![tactic(auto)]
 
 mod append;
@@ -12,4 +12,5 @@ mod worked_values;
 
 pub use bit_reader::BitReader;
 pub use bit_sink::BitSink;
+pub use bufr_base::OutOfMemory;
 pub use device::{Failed, FromRead, IntoWrite, Sink, Source};

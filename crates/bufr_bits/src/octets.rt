@@ -1,13 +1,13 @@
-//! Octets that begin at any bit of others.
+//! Copies octets that begin at any bit of others.
 
 ghost use Rattle.std.specs.Prelude.{◌≡◌, ◌+◌, ◌*◌, ◌<◌, ◌≤◌, length, drop, IfOk};
 ghost use Rattle.bufr_bits.specs.Bits.{bits, numbers};
 
-use bufr_answers::OutOfMemory;
+use bufr_base::OutOfMemory;
 use std::alloc::Global;
 
-/// The octets from a bit on: a copy on an octet's edge, else two neighbours combined for each.
-pub fn octets_from(
+/// Copies `n` octets from bit `place` on: a plain copy if `place` is a multiple of 8.
+pub(crate) fn octets_from(
     alloc: Global,
     octets: &[u8],
     place: u128,
@@ -24,7 +24,7 @@ pub fn octets_from(
     shifted(alloc, &octets[first..], shift, n)
 }
 
-/// So many octets that begin inside the first of these, each combined from two neighbours.
+/// Copies `n` octets that begin `shift` bits into the first, each joined from two neighbours.
 fn shifted(alloc: Global, octets: &[u8], shift: u32, n: usize) -> Result<Vec<u8>, OutOfMemory>
     requires enough { n < length octets.now }
     requires off_edge { 0 < shift }

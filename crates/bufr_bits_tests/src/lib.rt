@@ -1,4 +1,4 @@
-//! Tests of the public calls of bufr_bits. It has tests only.
+//! Tests of the public calls of bufr_bits.
 #![tactic(auto)]
 
 #[cfg(test)]

@@ -1,4 +1,4 @@
-//! Bits as they stand in messages.
+//! Tests of bits as messages have them.
 
 mod devices;
 mod sizes;
@@ -8,17 +8,15 @@ use std::alloc::Global;
 use std::fmt::Debug;
 use std::process::Abort;
 
-/// The data octets of 301001 301011 301012 012101: block 10, station 384, 2024-01-15 12:00,
-/// 273.15 K.
+/// The data octets of 301001 301011 301012 012101: block 10, station 384, 2024-01-15 12:00, 273.15
+/// K.
 const SEQUENCES: [u8; 9] = [0x14, 0xC0, 0x3F, 0x40, 0x9E, 0xC0, 0x1A, 0xAC, 0xC0];
 
-/// Stops the test where the two differ. It is a function, since a comparison written out in a test
-/// makes the proof of that test more than twice as long.
+/// Stops the test if the two differ. Written out in each test, it would double the proof.
 fn same<T: PartialEq + Debug + Drop>(rt: &impl Abort, found: T, wanted: T) {
     assert_eq!(rt; found, wanted);
 }
 
-/// Takes fields of these widths and compares their numbers.
 fn expect_fields(rt: &impl Abort, reader: &mut BitReader<'_>, fields: &[(u32, u64)]) {
     for (width, number) in fields {
         assert!(rt; *width <= 64);
@@ -44,7 +42,6 @@ fn put_sequences(rt: &impl Abort, alloc: Global) {
     same(rt, sink.into_bytes().as_slice(), SEQUENCES.as_slice());
 }
 
-/// Takes a text of so many octets and compares it.
 fn expect_text(
     rt: &impl Abort,
     alloc: Global,
@@ -84,7 +81,7 @@ fn sequences(rt: HostRuntime) {
     put_sequences(&rt, rt.alloc());
 }
 
-/// Texts of three octets compressed: `AB ` and missing, as two octets each.
+/// A compressed column of texts of three octets: `AB ` and missing, in increments of two octets.
 const TEXTS: [u8; 8] = [0x00, 0x00, 0x00, 0x09, 0x05, 0x0B, 0xFF, 0xFC];
 
 /// Puts the fields of `TEXTS` and compares the octets.
@@ -128,16 +125,15 @@ fn widest_fields_at_every_place(rt: HostRuntime) {
     }
 }
 
-/// Cuts a sink that has so many bits to so many.
 fn cut(rt: &impl Abort, sink: &mut BitSink, bits: u128, left: u128) {
     let found = sink.len_bits();
     same(rt, found, bits);
-    // `cut` requires that so many bits are there.
+    // `cut` requires that the sink has `left` bits.
     assert!(rt; left <= found);
     sink.cut(left);
 }
 
-/// The first 17 bits of `SEQUENCES`, and then two fields and a text.
+/// Puts the first 17 bits of `SEQUENCES`, two fields and a text.
 fn cut_once(rt: &impl Abort, alloc: Global) -> BitSink {
     let mut sink = BitSink::new(alloc);
     sink.put_bytes(&SEQUENCES).expect(rt, "room");

@@ -1,11 +1,9 @@
--- Fields that are passed since they are not asked for, one after the other, and the first behind
--- them: for `next_asked` of `PlainFields`, `LaidFields` and `ColumnFields`. And fields that a walk
--- would meet, none of which is asked for: for `PlainFields::next_asked`.
+-- Skipping fields one by one up to the first chosen one; a walk ahead that finds no chosen field.
 use Rattle.std.proofs.Common.{◌≡◌, ℕ, ◌+◌, Bool, true, false, List, [], ◌∷◌, ◌++◌, sym, subst}
 use Rattle.std.proofs.Common.{Option, Some, None, Result, Ok, Err}
 use Rattle.std.proofs.Common.{ap, ◌∙◌, append_assoc, append-nil}
 use Rattle.bufr_bits.specs.Ends.{BitPlace, left}
-use Rattle.bufr_answers.specs.Answers.{◌>>=◌}
+use Rattle.bufr_base.specs.Answers.{◌>>=◌}
 use Rattle.bufr_expand.specs.declared.operators.Spec.{Spec}
 use Rattle.bufr_expand.specs.declared.walk.Walk.{Walk}
 use Rattle.bufr_expand.specs.declared.walk.WalkFault.{WalkFault}
@@ -15,7 +13,7 @@ use Rattle.bufr_expand.specs.Courses.{Course, ends, stops, asks}
 use Rattle.bufr_expand.specs.Walks as walks
 use Rattle.bufr_fields.specs.declared.field.Field.{Field}
 use Rattle.bufr_fields.specs.declared.field.Raw.{Raw}
-use Rattle.bufr_fields.specs.declared.fault.ReadFault.{ReadFault}
+use Rattle.bufr_fields.specs.declared.fault.DataFault.{DataFault}
 use Rattle.bufr_data.specs.Handed.{HandsOut, HandsOutAsked, NoneAsked, FirstIsAsked, PassesFirst}
 use Rattle.bufr_data.specs.Handed.{PassesUnasked, fields_ahead}
 use Rattle.bufr_data.specs.Plain.{SubsetRead, fields_at, field_then, raw_at, stopped}
@@ -24,7 +22,6 @@ use Rattle.bufr_data.specs.Plain.Starts.{fields_of}
 use Rattle.bufr_data.proofs.ListFacts.{all_joined}
 
 module _ (asks : ℕ → Bool) (all old new : List Field) where
-  -- one more is passed
   pub one_passed : PassesUnasked asks all old → PassesFirst asks old new
       → PassesUnasked asks all new
   one_passed so_far step = (
@@ -34,7 +31,6 @@ module _ (asks : ℕ → Bool) (all old new : List Field) where
         ∙ sym (append_assoc so_far.0 (step.0 ∷ []) new),
   )
 
--- the first that is left is handed out, which is asked for; or none is left
 pub asked_handed : (P : ℕ → Bool) (all old new : List Field) (found : Option Field)
     → PassesUnasked P all old → FirstIsAsked P old → HandsOut old found new
     → HandsOutAsked P all found new
@@ -49,37 +45,30 @@ asked_handed P all old new None so_far first handed =
     so_far.2 ∙ ap (λ fields. so_far.0 ++ fields) handed.0 ∙ append-nil so_far.0 in
     (subst (NoneAsked P) (sym none) so_far.1, handed.1)
 
--- a field that is asked for, in front of those that are read behind it
-asked_in_front : (P : ℕ → Bool) (f : Field) (r : Result SubsetRead ReadFault) → P f.fxy ≡ true
+asked_in_front : (P : ℕ → Bool) (f : Field) (r : Result SubsetRead DataFault) → P f.fxy ≡ true
     → FirstIsAsked P (fields_of (r >>= λ found. Ok (record found { fields = f ∷ found.fields })))
 asked_in_front P f (Ok found) asked = asked
 asked_in_front P f (Err e) asked = tt
 
--- so it is where the field is read, if it is there
 pub asked_from : (P : ℕ → Bool) (j i d : ℕ) (spec : Spec)
-    (after : ℕ → List Bool → Result SubsetRead ReadFault) (found : Option (Raw × List Bool))
+    (after : ℕ → List Bool → Result SubsetRead DataFault) (found : Option (Raw × List Bool))
     → P d ≡ true → FirstIsAsked P (fields_of (field_then j i d spec after found))
 asked_from P j i d spec after None asked = tt
 asked_from P j i d spec after (Some x) asked =
     asked_in_front P (record { fxy = d; spec = spec; raw = x.0 }) (after (number_of x.0) x.1) asked
 
--- ---- fields that a walk would meet
-
--- a fault has no field
 none_stopped : (P : ℕ → Bool) (fault : WalkFault) → NoneAsked P (fields_of (stopped fault))
 none_stopped P faults.TooLarge = tt
 none_stopped P (faults.EffectiveRange d) = tt
 
--- a field in front of others
-none_in_front : (P : ℕ → Bool) (f : Field) (r : Result SubsetRead ReadFault) → P f.fxy ≡ false
+none_in_front : (P : ℕ → Bool) (f : Field) (r : Result SubsetRead DataFault) → P f.fxy ≡ false
     → NoneAsked P (fields_of r)
     → NoneAsked P (fields_of (r >>= λ found. Ok (record found { fields = f ∷ found.fields })))
 none_in_front P f (Ok found) unasked h = (unasked, h)
 none_in_front P f (Err e) unasked h = tt
 
--- a field, if it is there, and others behind it
 none_from : (P : ℕ → Bool) (j i d : ℕ) (spec : Spec)
-    (after : ℕ → List Bool → Result SubsetRead ReadFault) (found : Option (Raw × List Bool))
+    (after : ℕ → List Bool → Result SubsetRead DataFault) (found : Option (Raw × List Bool))
     → P d ≡ false → ((n : ℕ) (rest : List Bool) → NoneAsked P (fields_of (after n rest)))
     → NoneAsked P (fields_of (field_then j i d spec after found))
 none_from P j i d spec after None unasked h = tt
@@ -87,7 +76,6 @@ none_from P j i d spec after (Some x) unasked h =
     none_in_front P (record { fxy = d; spec = spec; raw = x.0 }) (after (number_of x.0) x.1) unasked
     (h (number_of x.0) x.1)
 
--- the fields that a course asks for
 none_read : (P : ℕ → Bool) (j i : ℕ) (c : Course) (front : List Bool) → TellsNone P c
     → NoneAsked P (fields_of (fields_at j i c front))
 unfolding fields_at TellsNone
@@ -97,7 +85,6 @@ none_read P j i (asks met d spec more) front h =
     none_from P j i d spec (λ n rest. fields_at j (i + 1) (more n) rest) (raw_at spec front) h.0
     (λ n rest. none_read P j (i + 1) (more n) rest (h.1 n))
 
--- so where a walk tells of none, none of the fields ahead is asked for
 pub none_ahead : (P : ℕ → Bool) (done : Bool) (w : Walk) (r : BitPlace) (fields : List Field)
     → done ≡ false → fields_ahead done w r ≡ fields → TellsNone P (walks.left w)
     → NoneAsked P fields

@@ -1,5 +1,4 @@
--- What a course refuses after some fields is what the template's tree does not go on with: for the
--- laws `read_refusals_follow_the_tree`, `write_refusals_follow_the_tree` and `data_hold_subsets`.
+-- A course refuses exactly what the template's tree does not go on with.
 use Rattle.std.proofs.Common.{◌≡◌, ℕ, ◌+◌, ◌≤◌, Bool, false, List, [], ◌∷◌, length, Err, refl}
 use Rattle.std.proofs.Common.{sym, subst, arith}
 use Rattle.std.specs.Prelude.{map}
@@ -12,9 +11,9 @@ use Rattle.bufr_expand.specs.NextFields.{wants, lacks, BeginsWithin}
 use Rattle.bufr_expand.specs.NextFields.{PassesLimit}
 use Rattle.bufr_expand.specs.Limits.{most_items}
 use Rattle.bufr_fields.specs.declared.field.Field.{Field}
-use Rattle.bufr_fields.specs.declared.fault.ReadFault.{ReadFault}
-use Rattle.bufr_fields.specs.declared.fault.WriteFault.{WriteFault}
-use Rattle.bufr_fields.specs.declared.fault.WriteFault.TheVariants as misfits
+use Rattle.bufr_fields.specs.declared.fault.DataFault.{DataFault}
+use Rattle.bufr_fields.specs.declared.fault.MisfitFault.{MisfitFault}
+use Rattle.bufr_fields.specs.declared.fault.MisfitFault.TheVariants as misfits
 use Rattle.bufr_fields.specs.declared.field.Subset.{Subset}
 use Rattle.bufr_data.specs.Plain.{fields_at, subsets_at}
 use Rattle.bufr_fields.specs.Forms.{items_of}
@@ -33,7 +32,6 @@ use Rattle.bufr_data.proofs.RefusalFacts.{refused_stand, standing_refused, subse
 use Rattle.bufr_data.proofs.RefusalFacts.{subsets_standing_refused, refused_misfit, misfit_refused}
 use Rattle.bufr_data.proofs.RefusalFacts.{written_refused_misfit, written_misfit_refused}
 
--- what the laws `courses_are_unrollings` and `courses_begin_unrollings` say of courses
 pub laws_from : AreUnrolled → AreAllowed → IsAskedNext → IsLackingNext → IsTooLargeNext → IsOnward
     → Laws
 laws_from unrolled allowed asked lacking too_large goes_on = record {
@@ -45,9 +43,6 @@ laws_from unrolled allowed asked lacking too_large goes_on = record {
   goes_on = goes_on;
 }
 
--- ---- what is left after fields with which a subset can begin, for reading and for writing
-
--- where an item would be too many, the course stops there
 pub passes_full : Laws → (tree : Tree) (used : ℕ) (before : List Field) → used ≤ most_items
     → Begin tree used before → PassesLimit tree used (map told_of before)
     → Passes (course tree used) before (stops most_items walks.TooLarge)
@@ -58,7 +53,6 @@ passes_full laws tree used before le b p =
     let after = subst (λ (c : Course). After (course tree used) (map told_of before) c) is a.1 in
     after_passes (course tree used) before _ after b.formed
 
--- where the next field has no spec, the course stops at its element
 pub passes_lacking : Laws → (tree : Tree) (used : ℕ) (before : List Field) (d met : ℕ)
     → used ≤ most_items → Begin tree used before
     → BeginsWithin tree used (map told_of before) (lacks d) met
@@ -67,7 +61,6 @@ passes_lacking laws tree used before d met le b w =
     after_passes (course tree used) before _
     ((laws.lacking tree used (map told_of before) met d le).1 w) b.formed
 
--- where a field comes next, the course asks for it
 pub passes_asked : Laws → (tree : Tree) (used : ℕ) (before : List Field) (d met : ℕ) (spec : Spec)
     → used ≤ most_items → Begin tree used before
     → BeginsWithin tree used (map told_of before) (wants d spec) met
@@ -76,7 +69,7 @@ passes_asked laws tree used before d met spec le b w =
     let a = (laws.asked tree used (map told_of before) met d spec le).1 w in
     (a.0, after_passes (course tree used) before _ a.1 b.formed)
 
--- what the tree says of the course that is left after fields
+-- what the tree says of the course after some fields
 abbrev pub Follows : Tree → ℕ → List Told → Course → Type 0
 Follows tree used fields (ends n) = Unrolls tree used fields n
 Follows tree used fields (stops n walks.TooLarge) = PassesLimit tree used fields
@@ -84,7 +77,6 @@ Follows tree used fields (stops n (walks.EffectiveRange d)) =
     BeginsWithin tree used fields (lacks d) n
 Follows tree used fields (asks met d spec more) = BeginsWithin tree used fields (wants d spec) met
 
--- the step of `follows`
 follows_after : Laws → (tree : Tree) (used : ℕ) (fields : List Told) (next : Course)
     → used ≤ most_items → After (course tree used) fields next → Follows tree used fields next
 follows_after laws tree used fields (ends n) le after = laws.unrolled tree used fields n le after
@@ -95,7 +87,6 @@ follows_after laws tree used fields (stops n (walks.EffectiveRange d)) le after 
 follows_after laws tree used fields (asks met d spec more) le after =
     (laws.asked tree used fields met d spec le).0 (more, after)
 
--- it says so of what is left after fields that pass
 pub follows : Laws → (tree : Tree) (used : ℕ) (before : List Field) (next : Course)
     → used ≤ most_items → Passes (course tree used) before next
     → Follows tree used (map told_of before) next
@@ -103,11 +94,8 @@ follows laws tree used before next le passed =
     follows_after laws tree used (map told_of before) next le
     (passes_after (course tree used) before next passed).0
 
--- ---- reading
-
--- why the course refuses to read on is why the tree does
 read_cause : (tree : Tree) (j used : ℕ) (before : List Field) (next : Course) (rest : List Bool)
-    (fault : ReadFault) → Follows tree used (map told_of before) next
+    (fault : DataFault) → Follows tree used (map told_of before) next
     → CannotStand j (1 + length before) next rest fault → NoneFollows tree used j before rest fault
 read_cause tree j used before (ends n) rest fault w h = absurd h
 read_cause tree j used before (stops n walks.TooLarge) rest fault w h = no_room w h
@@ -115,8 +103,7 @@ read_cause tree j used before (stops n (walks.EffectiveRange d)) rest fault w h 
 read_cause tree j used before (asks met d spec more) rest fault w h =
     no_bits d met spec w h.1 h.0
 
--- so the first refusal by the course is the first by the tree
-first_of_course : Laws → (tree : Tree) (j used : ℕ) (front : List Bool) (fault : ReadFault)
+first_of_course : Laws → (tree : Tree) (j used : ℕ) (front : List Bool) (fault : DataFault)
     → used ≤ most_items → FieldRefused j 1 (course tree used) front fault
     → FirstRefused tree j used front fault
 first_of_course laws tree j used front fault le r =
@@ -129,9 +116,8 @@ first_of_course laws tree j used front fault le r =
           (follows laws tree used r.before r.next le r.passed) r.refused;
     }
 
--- and why the tree refuses is why the course does
 cause_read : Laws → (tree : Tree) (j used : ℕ) (before : List Field) (rest : List Bool)
-    (fault : ReadFault) → used ≤ most_items → Begin tree used before
+    (fault : DataFault) → used ≤ most_items → Begin tree used before
     → NoneFollows tree used j before rest fault → (next : Course)
     × Passes (course tree used) before next × CannotStand j (1 + length before) next rest fault
 cause_read laws tree j used before rest fault le b (no_room p e) =
@@ -142,8 +128,7 @@ cause_read laws tree j used before rest fault le b (no_bits d met spec w none e)
     let a = passes_asked laws tree used before d met spec le b w in
     (asks met d spec a.0, a.1, (e, none))
 
--- so the first refusal by the tree is the first by the course
-course_of_first : Laws → (tree : Tree) (j used : ℕ) (front : List Bool) (fault : ReadFault)
+course_of_first : Laws → (tree : Tree) (j used : ℕ) (front : List Bool) (fault : DataFault)
     → used ≤ most_items → FirstRefused tree j used front fault
     → FieldRefused j 1 (course tree used) front fault
 course_of_first laws tree j used front fault le r =
@@ -157,24 +142,21 @@ course_of_first laws tree j used front fault le r =
       refused = c.2;
     }
 
--- the fault of reading is the first by the tree
-pub read_refused_first : Laws → (tree : Tree) (j used : ℕ) (front : List Bool) (fault : ReadFault)
+pub read_refused_first : Laws → (tree : Tree) (j used : ℕ) (front : List Bool) (fault : DataFault)
     → used ≤ most_items → fields_at j 1 (course tree used) front ≡ Err fault
     → FirstRefused tree j used front fault
 read_refused_first laws tree j used front fault le e =
     first_of_course laws tree j used front fault le
     (refused_stand j 1 (course tree used) front fault e)
 
--- and the first by the tree is the fault of reading
-pub first_read_refused : Laws → (tree : Tree) (j used : ℕ) (front : List Bool) (fault : ReadFault)
+pub first_read_refused : Laws → (tree : Tree) (j used : ℕ) (front : List Bool) (fault : DataFault)
     → used ≤ most_items → FirstRefused tree j used front fault
     → fields_at j 1 (course tree used) front ≡ Err fault
 first_read_refused laws tree j used front fault le r =
     standing_refused j 1 (course tree used) front fault
     (course_of_first laws tree j used front fault le r)
 
--- the fault of reading subsets is the first by the tree
-pub subsets_refused_first : Laws → (tree : Tree) (n : ℕ) (front : List Bool) (fault : ReadFault)
+pub subsets_refused_first : Laws → (tree : Tree) (n : ℕ) (front : List Bool) (fault : DataFault)
     → subsets_at (course tree) 1 n 0 front ≡ Err fault → FirstSubsetRefused tree n front fault
 subsets_refused_first laws tree n front fault e =
     let r = subsets_refused_stand laws.unrolled tree 1 n 0 front fault (omega arith) e in
@@ -189,8 +171,7 @@ subsets_refused_first laws tree n front fault e =
           r.refused;
     }
 
--- and the first by the tree is the fault of reading subsets
-pub first_subsets_refused : Laws → (tree : Tree) (n : ℕ) (front : List Bool) (fault : ReadFault)
+pub first_subsets_refused : Laws → (tree : Tree) (n : ℕ) (front : List Bool) (fault : DataFault)
     → FirstSubsetRefused tree n front fault → subsets_at (course tree) 1 n 0 front ≡ Err fault
 first_subsets_refused laws tree n front fault r =
     let s : SubsetRefused tree 1 n 0 front fault = record {
@@ -205,11 +186,8 @@ first_subsets_refused laws tree n front fault r =
     } in
     subsets_standing_refused laws.allowed tree 1 n 0 front fault s
 
--- ---- writing
-
--- why the course does not allow fields is why the tree does not
 write_cause : (tree : Tree) (j used : ℕ) (before : List Field) (next : Course) (others : List Field)
-    (fault : WriteFault) → Follows tree used (map told_of before) next
+    (fault : MisfitFault) → Follows tree used (map told_of before) next
     → CannotGoOn j (1 + length before) next others fault
     → NotAllowed tree used j before others fault
 write_cause tree j used before (ends n) [] fault w h = absurd h
@@ -223,8 +201,7 @@ write_cause tree j used before (asks met d spec more) (f ∷ fields) fault w h =
     another d met spec w (λ g behind e asked. let same : g ≡ f = cc in
     h.1 (subst (λ (x : Field). IsAsked d spec x) same asked)) h.0
 
--- so the first misfit by the course is the first by the tree
-misfit_of_course : Laws → (tree : Tree) (j used : ℕ) (fields : List Field) (fault : WriteFault)
+misfit_of_course : Laws → (tree : Tree) (j used : ℕ) (fields : List Field) (fault : MisfitFault)
     → used ≤ most_items → FieldMisfits j 1 (course tree used) fields fault
     → FirstMisfit tree j used fields fault
 misfit_of_course laws tree j used fields fault le m =
@@ -237,16 +214,14 @@ misfit_of_course laws tree j used fields fault le m =
           (follows laws tree used m.before m.next le m.passed) m.refused;
     }
 
--- the course does not go on at a field that it does not ask for
 other_goes_on : (j i met d : ℕ) (spec : Spec) (more : ℕ → Course) (others : List Field)
-    (fault : WriteFault) → ((f : Field) (behind : List Field) → others ≡ f ∷ behind
+    (fault : MisfitFault) → ((f : Field) (behind : List Field) → others ≡ f ∷ behind
     → IsAsked d spec f → ⊥) → fault ≡ misfits.DoesNotFit j i
     → CannotGoOn j i (asks met d spec more) others fault
 other_goes_on j i met d spec more [] fault none e = e
 other_goes_on j i met d spec more (f ∷ fields) fault none e = (e, none f fields refl)
 
--- and why the tree does not allow fields is why the course does not
-cause_write : Laws → (tree : Tree) (j used : ℕ) (before others : List Field) (fault : WriteFault)
+cause_write : Laws → (tree : Tree) (j used : ℕ) (before others : List Field) (fault : MisfitFault)
     → used ≤ most_items → Begin tree used before → NotAllowed tree used j before others fault
     → (next : Course) × Passes (course tree used) before next
     × CannotGoOn j (1 + length before) next others fault
@@ -267,8 +242,7 @@ cause_write laws tree j used before others fault le b (another d met spec w none
       other_goes_on j (1 + length before) met d spec a.0 others fault none e,
     )
 
--- so the first misfit by the tree is the first by the course
-course_of_misfit : Laws → (tree : Tree) (j used : ℕ) (fields : List Field) (fault : WriteFault)
+course_of_misfit : Laws → (tree : Tree) (j used : ℕ) (fields : List Field) (fault : MisfitFault)
     → used ≤ most_items → FirstMisfit tree j used fields fault
     → FieldMisfits j 1 (course tree used) fields fault
 course_of_misfit laws tree j used fields fault le m =
@@ -282,24 +256,21 @@ course_of_misfit laws tree j used fields fault le m =
       refused = c.2;
     }
 
--- the fault of fields is the first misfit by the tree
 pub write_refused_first : Laws
-    → (tree : Tree) (j used : ℕ) (fields : List Field) (fault : WriteFault) → used ≤ most_items
+    → (tree : Tree) (j used : ℕ) (fields : List Field) (fault : MisfitFault) → used ≤ most_items
     → items_of j 1 (course tree used) fields ≡ Err fault → FirstMisfit tree j used fields fault
 write_refused_first laws tree j used fields fault le e =
     misfit_of_course laws tree j used fields fault le
     (refused_misfit j 1 (course tree used) fields fault e)
 
--- and the first misfit by the tree is their fault
 pub first_write_refused : Laws
-    → (tree : Tree) (j used : ℕ) (fields : List Field) (fault : WriteFault) → used ≤ most_items
+    → (tree : Tree) (j used : ℕ) (fields : List Field) (fault : MisfitFault) → used ≤ most_items
     → FirstMisfit tree j used fields fault → items_of j 1 (course tree used) fields ≡ Err fault
 first_write_refused laws tree j used fields fault le m =
     misfit_refused j 1 (course tree used) fields fault
     (course_of_misfit laws tree j used fields fault le m)
 
--- the fault of subsets that are written is the first misfit by the tree
-pub written_refused_first : Laws → (tree : Tree) (subsets : List Subset) (fault : WriteFault)
+pub written_refused_first : Laws → (tree : Tree) (subsets : List Subset) (fault : MisfitFault)
     → written_bits tree false subsets ≡ Err fault → FirstSubsetMisfit tree subsets fault
 written_refused_first laws tree subsets fault e =
     let m = written_refused_misfit laws.unrolled tree subsets fault e in
@@ -314,8 +285,7 @@ written_refused_first laws tree subsets fault e =
           m.refused;
     }
 
--- and the first misfit by the tree is their fault
-pub first_written_refused : Laws → (tree : Tree) (subsets : List Subset) (fault : WriteFault)
+pub first_written_refused : Laws → (tree : Tree) (subsets : List Subset) (fault : MisfitFault)
     → FirstSubsetMisfit tree subsets fault → written_bits tree false subsets ≡ Err fault
 first_written_refused laws tree subsets fault m =
     let s : SubsetMisfits tree 1 0 subsets fault = record {

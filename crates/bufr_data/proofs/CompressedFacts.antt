@@ -1,5 +1,4 @@
--- What is read from bits are exactly the values of a column: for the law on columns
--- (`columns_hold_values`) and for that on data (`data_hold_subsets`).
+-- What is read from bits are exactly the values of a column.
 use Rattle.std.proofs.Common.{◌≡◌, ℕ, zero, suc, ◌+◌, ◌-◌, ◌/◌, ◌^◌, ◌<◌, ◌≤◌, Bool, true, false}
 use Rattle.std.proofs.Common.{cond, ltb, List, [], ◌∷◌, ◌++◌, length, map, replicate, Option, Some}
 use Rattle.std.proofs.Common.{None, Result, Ok, Err, refl, sym, ap, subst, ◌∙◌, arith, append_assoc}
@@ -9,14 +8,14 @@ use Rattle.std.proofs.lemmas.Bool.{and_parts, le-ltb, lt-ltb, ltb-true, eqb-true
 use Rattle.std.proofs.lemmas.Bool.{ltb-false, ne_eqb}
 use Rattle.std.proofs.Math.Arith.{lt_of_le-ne}
 use Rattle.std.proofs.lemmas.List.{length-replicate, length-map}
-use Rattle.bufr_answers.specs.AnswerLaws.{bind_ok, guard_ok, ok_is}
+use Rattle.bufr_base.specs.AnswerLaws.{bind_ok, guard_ok, ok_is}
 use Rattle.bufr_bits.specs.Bits.{bin, bits, number_at, numbers_at, octets_at}
 use Rattle.bufr_bits.specs.BitLaws.{some_is, number_at-bin, number_at_is}
 use Rattle.bufr_bits.specs.NumberLaws.{numbers_at_again, numbers_at_found}
 use Rattle.bufr_expand.specs.declared.operators.Spec.{Spec}
 use Rattle.bufr_fields.specs.declared.field.Raw.{Raw}
 use Rattle.bufr_fields.specs.declared.field.Raw.TheVariants.{Number, Text}
-use Rattle.bufr_fields.specs.declared.fault.ReadFault.{ReadFault}
+use Rattle.bufr_fields.specs.declared.fault.DataFault.{DataFault}
 use Rattle.bufr_data.specs.Plain.{raw_bits, raw_at}
 use Rattle.bufr_data.specs.Compressed.{Pairwise, HasIncrement, HasText, IsColumn, equal}
 use Rattle.bufr_data.specs.Compressed.{numbers as number_column, texts as text_column, above, missing}
@@ -46,9 +45,6 @@ pub mod Walks
 pub mod Writable
 pub mod Written
 
--- ---- increments
-
--- an increment of a value is read as this value
 pub raised_again : (width minimum k x : ℕ) (v : Raw) → HasIncrement width minimum k x v
     → raised width minimum k x ≡ Some v
 raised_again width minimum k x v (above below room is) =
@@ -57,7 +53,6 @@ raised_again width minimum k x v (above below room is) =
 raised_again width minimum k x v (missing ones is) =
     rw (eq-eqb (x + 1) (2 ^ k) ones) (ap (λ r. Some r) (sym is))
 
--- the step of `raised_found`: all ones, or within the field
 raised_by : (width minimum k x : ℕ) (v : Raw) → x < 2 ^ k → (ones : Bool) (room : Bool)
     → (x + 1 == 2 ^ k) ≡ ones → nat_lt (minimum + x) (2 ^ width) ≡ room
     → cond ones (Some (Number (2 ^ width - 1))) (cond room (Some (Number (minimum + x))) None)
@@ -70,12 +65,10 @@ raised_by width minimum k x v below false true o r e =
     (sym (some_is _ _ e))
 raised_by width minimum k x v below false false o r e = absurd cc
 
--- what is read of an increment is its value
 raised_found : (width minimum k x : ℕ) (v : Raw) → x < 2 ^ k → raised width minimum k x ≡ Some v
     → HasIncrement width minimum k x v
 raised_found width minimum k x v below e = raised_by width minimum k x v below _ _ refl refl e
 
--- increments of values are read as these values
 all_raised_again : (j i width minimum k : ℕ) (xs : List ℕ) (vs : List Raw)
     → Pairwise (HasIncrement width minimum k) xs vs → all_raised j i width minimum k xs ≡ Ok vs
 all_raised_again j i width minimum k [] [] h = refl
@@ -87,15 +80,13 @@ all_raised_again j i width minimum k (x ∷ xs) (v ∷ vs) h =
 all_raised_again j i width minimum k [] (v ∷ vs) h = absurd h
 all_raised_again j i width minimum k (x ∷ xs) [] h = absurd h
 
--- where values are read, the first is and the others are
-value_then_found : (j i : ℕ) (o : Option Raw) (others : Result (List Raw) ReadFault) (vs : List Raw)
+value_then_found : (j i : ℕ) (o : Option Raw) (others : Result (List Raw) DataFault) (vs : List Raw)
     → value_then j i o others ≡ Ok vs
     → (v : Raw) × (ws : List Raw) × (o ≡ Some v) × (others ≡ Ok ws) × (v ∷ ws ≡ vs)
 value_then_found j i None others vs e = absurd cc
 value_then_found j i (Some v) (Ok ws) vs e = (v, ws, refl, refl, ok_is _ _ e)
 value_then_found j i (Some v) (Err f) vs e = absurd cc
 
--- what is read of increments are their values
 all_raised_found : (j i width minimum k : ℕ) (xs : List ℕ) (vs : List Raw)
     → AllByRecursion (λ x. x < 2 ^ k) xs → all_raised j i width minimum k xs ≡ Ok vs
     → Pairwise (HasIncrement width minimum k) xs vs
@@ -110,9 +101,6 @@ all_raised_found j i width minimum k (x ∷ xs) vs all e =
       all_raised_found (j + 1) i width minimum k xs h.1 all.1 h.3,
     )
 
--- ---- texts
-
--- a text of all ones is as many octets of all ones
 pub ones_of : (own : List ℕ) → list_all (λ x. x == 255) own ≡ true
     → own ≡ replicate (length own) 255
 ones_of [] e = refl
@@ -122,12 +110,10 @@ ones_of (x ∷ own) e =
     let others = ones_of own p.1 in
     λ i. first i ∷ others i
 
--- and these are all ones
 pub all_ones_of : (k : ℕ) → list_all (λ x. x == 255) (replicate k 255) ≡ true
 all_ones_of zero = refl
 all_ones_of (suc k) = all_ones_of k
 
--- the step of `filled_again`: a text that is not all ones is filled with spaces
 filled_by : (octets k : ℕ) (own : List ℕ) (b : Bool) → length own ≡ k
     → list_all (λ x. x == 255) own ≡ b → (own ≡ replicate k 255 → ⊥)
     → cond b (Text (replicate octets 255)) (Text (own ++ replicate (octets - length own) 32))
@@ -136,7 +122,6 @@ filled_by octets k own true size e other =
     absurd (other (ones_of own e ∙ ap (λ n. replicate n 255) size))
 filled_by octets k own false size e other = ap (λ n. Text (own ++ replicate (octets - n) 32)) size
 
--- a text in a column is filled to its value
 pub filled_again : (octets k : ℕ) (own : List ℕ) (v : Raw) → HasText octets k own v
     → filled octets own ≡ v
 filled_again octets k own v (is_filled size all other is) =
@@ -144,7 +129,6 @@ filled_again octets k own v (is_filled size all other is) =
 filled_again octets k own v (ones_text is value) =
     rw (is, all_ones_of k) (sym value)
 
--- such a text has its octets
 pub text_octets : (octets k : ℕ) (own : List ℕ) (v : Raw) → HasText octets k own v
     → (length own ≡ k) × AllByRecursion (λ x. x < 256) own
 text_octets octets k own v (is_filled size all other is) = (size, all)
@@ -152,7 +136,6 @@ text_octets octets k own v (ones_text is value) =
     let ones = all_replicated (λ x. x < 256) k 255 (omega arith) in
     (ap length is ∙ length-replicate k 255, subst (AllByRecursion (λ x. x < 256)) (sym is) ones)
 
--- the step of `filled_found`, by whether it is all ones
 filled_found_by : (octets k : ℕ) (own : List ℕ) (b : Bool) → length own ≡ k
     → AllByRecursion (λ x. x < 256) own → list_all (λ x. x == 255) own ≡ b
     → HasText octets k own
@@ -165,12 +148,10 @@ filled_found_by octets k own false size all e =
     ∙ all_ones_of k in let no = sym ones ∙ e in cc)
     (ap (λ n. Text (own ++ replicate (octets - n) 32)) size)
 
--- what a text is filled to is its value
 filled_found : (octets k : ℕ) (own : List ℕ) → length own ≡ k → AllByRecursion (λ x. x < 256) own
     → HasText octets k own (filled octets own)
 filled_found octets k own size all = filled_found_by octets k own _ size all refl
 
--- texts in a column are filled to their values
 all_filled_again : (octets k : ℕ) (own : List (List ℕ)) (vs : List Raw)
     → Pairwise (HasText octets k) own vs → map (filled octets) own ≡ vs
 all_filled_again octets k [] [] h = refl
@@ -181,7 +162,6 @@ all_filled_again octets k (x ∷ own) (v ∷ vs) h =
 all_filled_again octets k [] (v ∷ vs) h = absurd h
 all_filled_again octets k (x ∷ own) [] h = absurd h
 
--- the octets of texts are read as these texts
 pub texts_again : (k : ℕ) (own : List (List ℕ)) (rest : List Bool)
     → AllByRecursion (λ t. (length t ≡ k) × AllByRecursion (λ x. x < 256) t) own
     → texts_at (length own) k (flat_map bits own ++ rest) ≡ Some (own, rest)
@@ -196,14 +176,13 @@ texts_again k (t ∷ own) rest all =
           rest all.1,
     ) refl
 
--- so many texts of so many octets stand at the front, and these bits are left
+-- the bits begin with n texts of k octets
 abbrev AreTexts : ℕ → ℕ → List Bool → List (List ℕ) × List Bool → Type 0
 AreTexts n k front x =
     (length x.0 ≡ n)
     × AllByRecursion (λ own. (length own ≡ k) × AllByRecursion (λ x. x < 256) own) x.0
     × (front ≡ flat_map bits x.0 ++ x.1)
 
--- the step of `texts_at_found`: one text and those behind it
 text_behind : (n k : ℕ) (front : List Bool) (y : List ℕ × List Bool)
     (o : Option (List (List ℕ) × List Bool)) (x : List (List ℕ) × List Bool)
     → (length y.0 ≡ k) × AllByRecursion (λ x. x < 256) y.0 × (front ≡ bits y.0 ++ y.1)
@@ -218,7 +197,6 @@ text_behind n k front y (Some z) x own behind e =
     subst (λ p. AreTexts (suc n) k front p) (some_is _ _ e)
     (ap suc is.0, ((own.0, own.1), is.1), spelt)
 
--- the same, where the first is read or is not
 texts_joined : (n k : ℕ) (front : List Bool) (o : Option (List ℕ × List Bool))
     (others : List Bool → Option (List (List ℕ) × List Bool)) (x : List (List ℕ) × List Bool)
     → ((y : List ℕ × List Bool) → o ≡ Some y
@@ -230,7 +208,6 @@ texts_joined n k front None others x first behind e = absurd cc
 texts_joined n k front (Some y) others x first behind e =
     text_behind n k front y (others y.1) x (first y refl) (λ z h. behind y.1 z h) e
 
--- texts that are read stand there
 pub texts_at_found : (n k : ℕ) (front : List Bool) (x : List (List ℕ) × List Bool)
     → texts_at n k front ≡ Some x → AreTexts n k front x
 texts_at_found zero k front x e = subst (λ p. AreTexts 0 k front p) (some_is _ _ e) (refl, tt, refl)
@@ -238,7 +215,6 @@ texts_at_found (suc n) k front x e =
     texts_joined n k front (octets_at k front) (λ rest. texts_at n k rest) x
     (λ y h. numbers_at_found k 8 front y h) (λ rest z h. texts_at_found n k rest z h) e
 
--- what texts are filled to are their values
 all_filled_found : (octets k : ℕ) (own : List (List ℕ))
     → AllByRecursion (λ x. (length x ≡ k) × AllByRecursion (λ y. y < 256) x) own
     → Pairwise (HasText octets k) own (map (filled octets) own)
@@ -246,9 +222,6 @@ all_filled_found octets k [] all = tt
 all_filled_found octets k (x ∷ own) all =
     (filled_found octets k x all.0.0 all.0.1, all_filled_found octets k own all.1)
 
--- ---- columns
-
--- lists that belong together are of one length
 pub pairwise_length : {A B : Type 0} (Belong : A → B → Type 0) (xs : List A) (ys : List B)
     → Pairwise Belong xs ys → length xs ≡ length ys
 pairwise_length Belong [] [] h = refl
@@ -256,7 +229,6 @@ pairwise_length Belong (x ∷ xs) (y ∷ ys) h = ap suc (pairwise_length Belong 
 pairwise_length Belong [] (y ∷ ys) h = absurd h
 pairwise_length Belong (x ∷ xs) [] h = absurd h
 
--- what follows of each that belongs to something holds of all that do
 pub pairwise_each : {A B : Type 0} (Belong : A → B → Type 0) (P : A → Type 0)
     → ((x : A) (y : B) → Belong x y → P x) → (xs : List A) (ys : List B) → Pairwise Belong xs ys
     → AllByRecursion P xs
@@ -265,7 +237,6 @@ pairwise_each Belong P each (x ∷ xs) [] h = absurd h
 pairwise_each Belong P each (x ∷ xs) (y ∷ ys) h =
     (each x y h.0, pairwise_each Belong P each xs ys h.1)
 
--- and so does what follows of each that something belongs to
 pub pairwise_other : {A B : Type 0} (Belong : A → B → Type 0) (P : B → Type 0)
     → ((x : A) (y : B) → Belong x y → P y) → (xs : List A) (ys : List B) → Pairwise Belong xs ys
     → AllByRecursion P ys
@@ -274,20 +245,17 @@ pairwise_other Belong P each [] (y ∷ ys) h = absurd h
 pairwise_other Belong P each (x ∷ xs) (y ∷ ys) h =
     (each x y h.0, pairwise_other Belong P each xs ys h.1)
 
--- an increment of a value fits its width
 pub increment_fits : (width minimum k x : ℕ) (v : Raw) → HasIncrement width minimum k x v
     → x < 2 ^ k
 increment_fits width minimum k x v (above below room is) = omega (arith, below)
 increment_fits width minimum k x v (missing ones is) = omega (arith, ones)
 
--- so does each of them
 pub increments_fit : (width minimum k : ℕ) (xs : List ℕ) (vs : List Raw)
     → Pairwise (HasIncrement width minimum k) xs vs → AllByRecursion (λ x. x < 2 ^ k) xs
 increments_fit width minimum k xs vs h =
     pairwise_each (HasIncrement width minimum k) (λ x. x < 2 ^ k) (increment_fits width minimum k)
     xs vs h
 
--- equal values are one value so many times
 pub replicated : (v : Raw) (vs : List Raw) → AllByRecursion (λ w. w ≡ v) vs
     → replicate (length vs) v ≡ vs
 replicated v [] all = refl
@@ -295,24 +263,20 @@ replicated v (w ∷ vs) all =
     let others = replicated v vs all.1 in
     λ i. sym all.0 i ∷ others i
 
--- a minimum that stands there is read
 pub head_read : (spec : Spec) (front : List Bool) (minimum : Raw) (k : ℕ) (rest : List Bool)
     → Heads spec front minimum k rest → raw_at spec front ≡ Some (minimum, bin 6 k ++ rest)
 head_read spec front minimum k rest h =
     ap (raw_at spec) h.spelt
     ∙ raw_again spec.kind spec.width minimum (bin 6 k ++ rest) (form_passes spec minimum h.form)
 
--- behind its minimum and width a column is read as its values
 pub head_at : (n i : ℕ) (spec : Spec) (front : List Bool) (minimum : Raw) (k : ℕ) (rest : List Bool)
     → Heads spec front minimum k rest → column_at n i spec front ≡ values_at n i spec minimum k rest
 head_at n i spec front minimum k rest h =
     rw (head_read spec front minimum k rest h, number_at-bin 6 k rest h.few) refl
 
--- the three parts of a column, and then the rest
 pub regrouped : (a b c rest : List Bool) → (a ++ b ++ c) ++ rest ≡ a ++ (b ++ (c ++ rest))
 regrouped a b c rest = append_assoc (a ++ b) c rest ∙ append_assoc a b (c ++ rest)
 
--- a column that stands at the front is read as its values
 pub column_again : (n i : ℕ) (spec : Spec) (values : List Raw) (column rest : List Bool)
     → length values ≡ n → IsColumn spec values column
     → column_at n i spec (column ++ rest) ≡ Ok (values, rest)
@@ -362,22 +326,19 @@ column_again n i spec values column rest many
           (suc k) own values each,
     ) refl
 
--- what is read where the data do not end was there
 pub or_ends_ok : {A : Type 0} (i : ℕ) (o : Option A) (x : A) → or_ends i o ≡ Ok x → o ≡ Some x
 or_ends_ok i None x e = absurd cc
 or_ends_ok i (Some y) x e = ap (λ z. Some z) (ok_is _ _ e)
 
--- values that are so many, and the bits of their column
+-- n values, and the bits of their column
 abbrev pub ColumnFound : ℕ → Spec → List Bool → List Raw × List Bool → Type 0
 ColumnFound n spec front x =
     (column : List Bool) × (length x.0 ≡ n) × IsColumn spec x.0 column × (front ≡ column ++ x.1)
 
--- the parts of a column are the front of the bits
 ungrouped : (front a b c rest : List Bool) → front ≡ a ++ (b ++ (c ++ rest))
     → front ≡ (a ++ b ++ c) ++ rest
 ungrouped front a b c rest e = e ∙ sym (regrouped a b c rest)
 
--- values that are read behind minimum and width are a column's
 values_found : (n i : ℕ) (spec : Spec) (front : List Bool) (minimum : Raw) (k : ℕ)
     (rest : List Bool) (x : List Raw × List Bool) → Heads spec front minimum k rest
     → values_at n i spec minimum k rest ≡ Ok x → ColumnFound n spec front x
@@ -427,7 +388,6 @@ values_found n i spec front (Text ignored) (suc k) rest x h e =
       spelt,
     )
 
--- a minimum and a width that are read stand there
 pub heads_found : (spec : Spec) (front : List Bool) (x : Raw × List Bool) (y : ℕ × List Bool)
     → raw_at spec front ≡ Some x → number_at 6 x.1 ≡ Some y → Heads spec front x.0 y.0 y.1
 heads_found spec front x y first second =
@@ -439,7 +399,6 @@ heads_found spec front x y first second =
       spelt = a.1 ∙ ap (λ xs. raw_bits spec.width x.0 ++ xs) b.0;
     }
 
--- values that are read stand in a column
 pub column_found : (n i : ℕ) (spec : Spec) (front : List Bool) (x : List Raw × List Bool)
     → column_at n i spec front ≡ Ok x → ColumnFound n spec front x
 column_found n i spec front x e =

@@ -1,13 +1,12 @@
--- The words on data, from the laws of plain data and of columns: for the law on what messages know
--- of data (`data_hold_subsets`).
+-- The laws of data from those of plain data and of columns.
 use Rattle.std.proofs.Common.{◌≡◌, ℕ, zero, suc, Bool, true, false, List, ◌++◌, Ok, refl, sym, ap}
 use Rattle.std.proofs.Common.{subst, ◌∙◌, arith}
-use Rattle.bufr_answers.specs.Answers.{result_map}
+use Rattle.bufr_base.specs.Answers.{result_map}
 use Rattle.bufr_expand.specs.Trees.{Tree}
 use Rattle.bufr_expand.specs.Courses.{course}
 use Rattle.bufr_fields.specs.declared.field.Subset.{Subset}
-use Rattle.bufr_fields.specs.declared.fault.ReadFault.{ReadFault}
-use Rattle.bufr_fields.specs.declared.fault.WriteFault.{WriteFault}
+use Rattle.bufr_fields.specs.declared.fault.DataFault.{DataFault}
+use Rattle.bufr_fields.specs.declared.fault.MisfitFault.{MisfitFault}
 use Rattle.bufr_data.specs.Plain.{SubsetsRead, plain_subsets, subsets_at}
 use Rattle.bufr_data.specs.Compressed.{subsets_from}
 use Rattle.bufr_data.specs.Compressed.Reading.{ColumnsFound, columns_at}
@@ -25,9 +24,6 @@ use Rattle.bufr_data.proofs.CompressedFacts.Packed.{compressed_stand, compressed
 use Rattle.bufr_data.proofs.CompressedFacts.Written.{fitting_columns_written, written_best}
 use Rattle.bufr_data.proofs.CompressedFacts.PackedMisfits.{unpacked_is, unpacked_again}
 
--- ---- reading
-
--- plain subsets that are read are data at the front
 plain_stand : AreUnrolled
     → (tree : Tree) (count : ℕ) (front : List Bool) (found : List Subset × List Bool)
     → subsets_in tree false count front ≡ Ok found → BeginsWithData tree false count front found
@@ -38,7 +34,6 @@ plain_stand law tree count front found e =
     subst (BeginsWithData tree false count front) all.2
     (plain_subsets all.0.subsets, (all.0.items, h.1, refl), h.0, h.2)
 
--- and plain data at the front are read
 plain_read : AreAllowed
     → (tree : Tree) (count : ℕ) (front : List Bool) (found : List Subset × List Bool)
     → BeginsWithData tree false count front found → subsets_in tree false count front ≡ Ok found
@@ -49,7 +44,6 @@ plain_read law tree count front (subsets, rest) (data_bits, (items, fit, same), 
     (many, fit, joined ∙ ap (λ (xs : List Bool). xs ++ rest) same) in
     rw is refl
 
--- compressed data at the front are read
 packed_read : AreAllowed
     → (tree : Tree) (count : ℕ) (front : List Bool) (found : List Subset × List Bool)
     → BeginsWithData tree true count front found → subsets_in tree true count front ≡ Ok found
@@ -57,7 +51,6 @@ packed_read law tree count front (subsets, rest) (data_bits, is, many, joined) =
     ap (subsets_in tree true count) joined
     ∙ compressed_read law tree count data_bits rest subsets many is.0 is.1
 
--- `ReadsExactly`, plain and compressed
 pub reads_exactly : Laws
     → (tree : Tree) (compressed : Bool) (count : ℕ) (front : List Bool)
     (found : List Subset × List Bool) → ReadsExactly tree compressed count front found
@@ -70,9 +63,8 @@ reads_exactly laws tree true count front found = (
   packed_read laws.allowed tree count front found,
 )
 
--- `RefusesExactly`, plain and compressed
 pub refuses_exactly : Laws
-    → (tree : Tree) (compressed : Bool) (count : ℕ) (front : List Bool) (fault : ReadFault)
+    → (tree : Tree) (compressed : Bool) (count : ℕ) (front : List Bool) (fault : DataFault)
     → RefusesExactly tree compressed count front fault
 refuses_exactly laws tree false count front fault = (
   λ e. subsets_refused_first laws tree count front fault (map_err _
@@ -89,9 +81,6 @@ refuses_exactly laws tree true (suc n) front fault = (
       (columns_of_first laws tree (suc n) front fault h)),
 )
 
--- ---- writing
-
--- `WritesExactly`, plain and compressed
 pub writes_exactly : Laws
     → (tree : Tree) (compressed : Bool) (subsets : List Subset) (data_bits : List Bool)
     → WritesExactly tree compressed subsets data_bits
@@ -105,9 +94,8 @@ writes_exactly laws tree true subsets data_bits = (
       ∙ ap (λ (xs : List Bool). Ok xs) (sym h.3),
 )
 
--- `MisfitsExactly`, plain and compressed
 pub misfits_exactly : Laws
-    → (tree : Tree) (compressed : Bool) (subsets : List Subset) (fault : WriteFault)
+    → (tree : Tree) (compressed : Bool) (subsets : List Subset) (fault : MisfitFault)
     → MisfitsExactly tree compressed subsets fault
 misfits_exactly laws tree false subsets fault = (
   λ e. written_refused_first laws tree subsets fault e,
@@ -116,7 +104,6 @@ misfits_exactly laws tree false subsets fault = (
 misfits_exactly laws tree true subsets fault =
     (λ e. unpacked_is laws tree subsets fault e, λ h. unpacked_again laws tree subsets fault h)
 
--- `BareDataAreData`, plain and compressed
 pub bare_are_data : Laws
     → (tree : Tree) (compressed : Bool) (subsets : List Subset) (data_bits : List Bool)
     → BareDataAreData tree compressed subsets data_bits
@@ -125,7 +112,6 @@ bare_are_data laws tree true subsets data_bits h =
     compressed_hold laws.unrolled tree subsets data_bits
     ((writes_exactly laws tree true subsets data_bits).1 h)
 
--- `PlainDataAreBare`
 pub plain_are_bare : (tree : Tree) (subsets : List Subset) (data_bits : List Bool)
     → PlainDataAreBare tree subsets data_bits
 plain_are_bare tree subsets data_bits h = h

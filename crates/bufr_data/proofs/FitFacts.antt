@@ -1,5 +1,4 @@
--- What is read fits the template and stands in the bits, and what fits is written: for the law
--- `fitting_subsets_are_read_and_written`.
+-- What is read fits the template and begins the bits, and what fits is written.
 use Rattle.std.proofs.Common.{◌≡◌, ℕ, ◌≤◌, Bool, false, List, Ok, refl, sym, ap, ◌∙◌, arith}
 use Rattle.bufr_expand.specs.Courses.{course}
 use Rattle.bufr_expand.specs.Trees.{Tree}
@@ -17,9 +16,6 @@ use Rattle.bufr_data.proofs.AnswerFacts.{map_ok}
 use Rattle.bufr_data.proofs.PlainFacts.{fields_at-plain, fields_at-found}
 use Rattle.bufr_data.proofs.PlainFacts.{subsets_at-found, subsets_at-plain}
 
--- ---- one subset
-
--- a subset that is read fits and stands there
 pub read_stands : AreUnrolled → (tree : Tree) (j used : ℕ) (front : List Bool) (f : SubsetRead)
     → used ≤ most_items → fields_at j 1 (course tree used) front ≡ Ok f
     → BeginsWithSubset tree used front f
@@ -27,7 +23,6 @@ read_stands law tree j used front f le e =
     let is = fields_at-found j 1 (course tree used) front f e in
     (counted_fit law tree j used f.items f.fields le is.0, is.1)
 
--- and such a subset is read
 pub standing_read : AreAllowed → (tree : Tree) (j used : ℕ) (front : List Bool) (f : SubsetRead)
     → BeginsWithSubset tree used front f → fields_at j 1 (course tree used) front ≡ Ok f
 standing_read law tree j used front f h =
@@ -35,9 +30,6 @@ standing_read law tree j used front f h =
     ∙ fields_at-plain j 1 (course tree used) f.fields f.items f.rest
     (fitting_counted law tree j used f.items f.fields h.0)
 
--- ---- subsets
-
--- subsets that are read fit and stand there
 pub all_read_stand : AreUnrolled
     → (tree : Tree) (j n used : ℕ) (front : List Bool) (f : SubsetsRead) → used ≤ most_items
     → subsets_at (course tree) j n used front ≡ Ok f → BeginsWithSubsets tree n used front f
@@ -45,7 +37,6 @@ all_read_stand law tree j n used front f le e =
     let is = subsets_at-found (course tree) j n used front f e in
     (is.0, all_counted_fit law tree j used f.items f.subsets le is.1, is.2)
 
--- and such subsets are read
 pub all_standing_read : AreAllowed
     → (tree : Tree) (j n used : ℕ) (front : List Bool) (f : SubsetsRead)
     → BeginsWithSubsets tree n used front f → subsets_at (course tree) j n used front ≡ Ok f
@@ -53,7 +44,6 @@ all_standing_read law tree j n used front f h =
     subsets_at-plain (course tree) j n used front f h.0
     (all_fitting_counted law tree j used f.items f.subsets h.1) h.2
 
--- subsets that are written fit, and the bits are theirs
 pub written_fit : AreUnrolled → (tree : Tree) (subsets : List Subset) (added : List Bool)
     → written_bits tree false subsets ≡ Ok added
     → (items : ℕ) × AllFitWithin tree 0 subsets items × (added ≡ plain_subsets subsets)
@@ -62,7 +52,6 @@ written_fit law tree subsets added e =
     e in
     (is.0, all_counted_fit law tree 1 0 is.0 subsets (omega arith) is.1, sym is.2)
 
--- and subsets that fit are written
 pub fitting_written : AreAllowed → (tree : Tree) (subsets : List Subset) (items : ℕ)
     → AllFitWithin tree 0 subsets items
     → written_bits tree false subsets ≡ Ok (plain_subsets subsets)

@@ -1,12 +1,10 @@
--- Kinds of elements that differ, by the test of kinds: for `columns_hold_values`,
--- `data_hold_subsets` and the indexes `SubsetIndex::index` and `Columns::index`.
+-- Kinds that the test tells apart differ.
 use Rattle.std.proofs.Common.{◌≡◌, false, ap, inl, inr, ◌∙◌}
 use Rattle.std.proofs.lemmas.Bool.{cases_Bool, both_ways}
 use Rattle.bufr_tables.specs.declared.element.Kind.{Kind}
 use Rattle.bufr_tables.specs.Elements.{same_kind}
 use Rattle.bufr_fields.specs.FormLaws.{same_kind_is, kind_is_same}
 
--- kinds that differ do not compare alike
 pub other_kind : (a b : Kind) → (a ≡ b → ⊥) → same_kind a b ≡ false
 other_kind a b other =
     elim (cases_Bool (same_kind a b)) [
@@ -14,7 +12,6 @@ other_kind a b other =
       | inr e ↦ e
     ]
 
--- and those that do not compare alike differ
 pub kinds_differ : (a b : Kind) → same_kind a b ≡ false → a ≡ b → ⊥
 kinds_differ a b e is =
     both_ways (same_kind a b) e (ap (λ k. same_kind k b) is ∙ kind_is_same b)

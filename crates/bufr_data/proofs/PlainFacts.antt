@@ -1,6 +1,5 @@
--- What is read from bits are exactly the fields that a course allows, and the bits are theirs: for
--- the law `plain_data_spell_subsets`.
-use Rattle.bufr_answers.specs.Answers.{◌>>=◌}
+-- What is read from bits are exactly the fields that a course allows.
+use Rattle.bufr_base.specs.Answers.{◌>>=◌}
 use Rattle.std.proofs.Common.{◌≡◌, ℕ, zero, suc, ◌+◌, ◌/◌, ◌^◌, Bool, true, false, cond, List, []}
 use Rattle.std.proofs.Common.{◌∷◌, ◌++◌, length, Option, Some, None, Result, Ok, Err, refl, sym, ap}
 use Rattle.std.proofs.Common.{subst, ◌∙◌, append_assoc}
@@ -13,7 +12,7 @@ use Rattle.bufr_bits.specs.NumberLaws.{numbers_at_again, numbers_at_found}
 use Rattle.bufr_tables.specs.declared.element.Kind.{Kind}
 use Rattle.bufr_tables.specs.declared.element.Kind.TheVariants as kinds
 use Rattle.bufr_tables.specs.Elements.{same_kind}
-use Rattle.bufr_answers.specs.AnswerLaws.{bind_ok, ok_is}
+use Rattle.bufr_base.specs.AnswerLaws.{bind_ok, ok_is}
 use Rattle.bufr_expand.specs.declared.operators.Spec.{Spec}
 use Rattle.bufr_expand.specs.declared.walk.WalkFault.{WalkFault}
 use Rattle.bufr_expand.specs.declared.walk.WalkFault.TheVariants as walks
@@ -21,7 +20,7 @@ use Rattle.bufr_expand.specs.Courses.{Course, ends, stops, asks}
 use Rattle.bufr_fields.specs.declared.field.Raw.{Raw}
 use Rattle.bufr_fields.specs.declared.field.Raw.TheVariants.{Number, Text}
 use Rattle.bufr_fields.specs.declared.field.Field.{Field}
-use Rattle.bufr_fields.specs.declared.fault.ReadFault.{ReadFault}
+use Rattle.bufr_fields.specs.declared.fault.DataFault.{DataFault}
 use Rattle.bufr_fields.specs.declared.field.Subset.{Subset}
 use Rattle.bufr_data.specs.Plain.{raw_bits, field_bits, plain, plain_subsets, SubsetRead}
 use Rattle.bufr_data.specs.Plain.{SubsetsRead, field_number_at, raw_at_by, raw_at, field_then}
@@ -43,9 +42,6 @@ pub mod Starts
 pub mod Subsets
 pub mod Writes
 
--- ---- fields
-
--- a number is read of its bits
 number_again : (width n : ℕ) (rest : List Bool) → (nat_le width 64 && nat_lt n (2 ^ width)) ≡ true
     → option_map {U = Raw × List Bool} (λ x. (Number x.0, x.1))
     (field_number_at width (bin width n ++ rest)) ≡ Some (Number n, rest)
@@ -53,7 +49,6 @@ number_again width n rest e =
     let p = and_parts (nat_le width 64) (nat_lt n (2 ^ width)) e in
     rw (p.0, number_at-bin width n rest (ltb-true n (2 ^ width) p.1)) refl
 
--- a raw value of its form is read of its bits
 pub raw_again : (kind : Kind) (width : ℕ) (raw : Raw) (rest : List Bool)
     → has_form_by kind width raw ≡ true
     → raw_at_by kind width (raw_bits width raw ++ rest) ≡ Some (raw, rest)
@@ -71,7 +66,6 @@ raw_again kinds.Flag width (Text os) rest e = absurd cc
 raw_again kinds.Quantity width (Text os) rest e = absurd cc
 raw_again kinds.Count width (Text os) rest e = absurd cc
 
--- fields that are counted are read of their bits
 pub fields_at-plain : (j i : ℕ) (c : Course) (fs : List Field) (n : ℕ) (rest : List Bool)
     → items_of j i c fs ≡ Ok n
     → fields_at j i c (plain fs ++ rest) ≡ Ok (record { fields = fs; items = n; rest = rest })
@@ -96,13 +90,10 @@ fields_at-plain j i (asks met d spec more) (f ∷ fs) n rest e =
     ∙ rw (raw_again spec.kind spec.width f.raw (plain fs ++ rest) form, after)
     (ap (λ (h : Field). Ok (record { fields = h ∷ fs; items = n; rest = rest })) same_f)
 
--- ---- what is read has its form, and the bits are its own
-
--- a raw value of its form stands at the front, and these bits are left
+-- the bits begin with a raw value that fits
 abbrev pub IsRaw : Kind → ℕ → List Bool → Raw × List Bool → Type 0
 IsRaw kind width front x = (has_form_by kind width x.0 ≡ true) × (front ≡ raw_bits width x.0 ++ x.1)
 
--- a number that is read stands there
 number_read : (width : ℕ) (front : List Bool) (short : Bool) (o : Option (ℕ × List Bool))
     (x : Raw × List Bool) → nat_le width 64 ≡ short → number_at width front ≡ o
     → option_map {U = Raw × List Bool} (λ y. (Number y.0, y.1)) (cond short o None) ≡ Some x
@@ -119,7 +110,6 @@ number_read width front true (Some y) x s found e =
     × (p.0 ≡ Number (number_of p.0)) × (front ≡ raw_bits width p.0 ++ p.1)) same
     (fits, refl, is.0)
 
--- so does a text
 text_read : (width : ℕ) (front : List Bool) (o : Option (List ℕ × List Bool)) (x : Raw × List Bool)
     → numbers_at (width / 8) 8 front ≡ o
     → option_map {U = Raw × List Bool} (λ y. (Text y.0, y.1)) o ≡ Some x
@@ -132,7 +122,6 @@ text_read width front (Some y) x found e =
     rw (eq-eqb (length y.0) (width / 8) is.0, octets_pass y.0 is.1) refl in
     subst (λ (p : Raw × List Bool). IsRaw kinds.Text width front p) same (form, is.2)
 
--- a number within its width has the form of its kind
 number_form : (kind : Kind) (width : ℕ) (raw : Raw) → same_kind kind kinds.Text ≡ false
     → (nat_le width 64 && nat_lt (number_of raw) (2 ^ width)) ≡ true → raw ≡ Number (number_of raw)
     → has_form_by kind width raw ≡ true
@@ -142,7 +131,6 @@ number_form kinds.Flag width raw other below is = rw is below
 number_form kinds.Quantity width raw other below is = rw is below
 number_form kinds.Count width raw other below is = rw is below
 
--- a raw value that is read stands there
 pub raw_read : (kind : Kind) (width : ℕ) (front : List Bool) (x : Raw × List Bool)
     → raw_at_by kind width front ≡ Some x → IsRaw kind width front x
 raw_read kinds.Text width front x e = text_read width front _ x refl e
@@ -163,19 +151,18 @@ raw_read kinds.Count width front x e =
     number_read width front _ _ x refl refl e in
     (number_form kinds.Count width x.0 refl is.0 is.1, is.2)
 
--- fields that the course allows stand at the front
+-- the bits begin with fields that the course allows
 abbrev IsFound : ℕ → ℕ → Course → List Bool → SubsetRead → Type 0
 IsFound j i c front f = (items_of j i c f.fields ≡ Ok f.items) × (front ≡ plain f.fields ++ f.rest)
 
--- what is read later stands
+-- what is read later begins the bits left
 abbrev FoundAfter : ℕ → ℕ → (ℕ → Course) → Type 0
 FoundAfter j i more =
     (n : ℕ) (front : List Bool) (f : SubsetRead) → fields_at j i (more n) front ≡ Ok f
     → IsFound j i (more n) front f
 
--- the field that was read and those after it
 field_joined : (j i met d : ℕ) (spec : Spec) (more : ℕ → Course) (front : List Bool)
-    (x : Raw × List Bool) (o : Result SubsetRead ReadFault) (f : SubsetRead)
+    (x : Raw × List Bool) (o : Result SubsetRead DataFault) (f : SubsetRead)
     → IsRaw spec.kind spec.width front x
     → ((g : SubsetRead) → o ≡ Ok g → IsFound j (i + 1) (more (number_of x.0)) x.1 g)
     → (o >>= λ found. Ok (record found
@@ -194,7 +181,6 @@ field_joined j i met d spec more front x (Ok g) f raw after e =
     ∙ sym (append_assoc (raw_bits spec.width x.0) (plain g.fields) g.rest) in
     subst (λ (h : SubsetRead). IsFound j i (asks met d spec more) front h) same (fits, spelt)
 
--- so a field that is read stands, and then the others
 field_found : (j i met d : ℕ) (spec : Spec) (more : ℕ → Course) (front : List Bool)
     (o : Option (Raw × List Bool)) (f : SubsetRead) → raw_at spec front ≡ o
     → FoundAfter j (i + 1) more
@@ -205,12 +191,10 @@ field_found j i met d spec more front (Some x) f found after e =
     field_joined j i met d spec more front x (fields_at j (i + 1) (more (number_of x.0)) x.1) f
     (raw_read spec.kind spec.width front x found) (after (number_of x.0) x.1) e
 
--- what was read did not stop at a fault
 pub not_stopped : {A : Type 0} (fault : WalkFault) (f : A) → stopped fault ≡ Ok f → ⊥
 not_stopped walks.TooLarge f e = cc
 not_stopped (walks.EffectiveRange d) f e = cc
 
--- what was read fits the course, and the bits are those of its fields and what is left
 pub fields_at-found : (j i : ℕ) (c : Course) (front : List Bool) (f : SubsetRead)
     → fields_at j i c front ≡ Ok f
     → (items_of j i c f.fields ≡ Ok f.items) × (front ≡ plain f.fields ++ f.rest)
@@ -223,15 +207,12 @@ fields_at-found j i (asks met d spec more) front f e =
     field_found j i met d spec more front _ f refl
     (λ n rest g h. fields_at-found j (i + 1) (more n) rest g h) e
 
--- ---- subsets
-
--- subsets that their courses allow stand at the front
+-- the bits begin with subsets that their courses allow
 abbrev AreFound : (ℕ → Course) → ℕ → ℕ → ℕ → List Bool → SubsetsRead → Type 0
 AreFound course j n used front f =
     (length f.subsets ≡ n) × (items_of_all course j used f.subsets ≡ Ok f.items)
     × (front ≡ plain_subsets f.subsets ++ f.rest)
 
--- subsets that were read are so many, fit their courses, and the bits are theirs and what is left
 pub subsets_at-found : (course : ℕ → Course) (j n used : ℕ) (front : List Bool) (f : SubsetsRead)
     → subsets_at course j n used front ≡ Ok f
     → (length f.subsets ≡ n) × (items_of_all course j used f.subsets ≡ Ok f.items)
@@ -258,7 +239,6 @@ subsets_at-found course j (suc n) used front f e =
     ∙ sym (append_assoc (plain first.fields) (plain_subsets others.subsets) others.rest) in
     subst (λ (h : SubsetsRead). AreFound course j (suc n) used front h) same (many, fits, spelt)
 
--- subsets that are counted are read of their bits
 subsets_again : (course : ℕ → Course) (j used : ℕ) (subsets : List Subset) (n : ℕ)
     (rest : List Bool) → items_of_all course j used subsets ≡ Ok n
     → subsets_at course j (length subsets) used (plain_subsets subsets ++ rest)
@@ -277,7 +257,6 @@ subsets_again course j used (s ∷ subsets) n rest e =
       subsets_again course (j + 1) a.0 subsets n rest a.2,
     ) refl
 
--- subsets that are so many and fit their courses are read again from their bits, whatever follows
 pub subsets_at-plain : (course : ℕ → Course) (j n used : ℕ) (front : List Bool) (f : SubsetsRead)
     → length f.subsets ≡ n → items_of_all course j used f.subsets ≡ Ok f.items
     → front ≡ plain_subsets f.subsets ++ f.rest → subsets_at course j n used front ≡ Ok f

@@ -1,6 +1,5 @@
--- What is refused is the first field that cannot stand, or the first place at which subsets are not
--- what the template allows: for the laws `read_refusals_follow_the_tree`,
--- `write_refusals_follow_the_tree` and `data_hold_subsets`.
+-- Reading is refused at the first field that can't be read, and writing at the first misfit, by the
+-- template's tree.
 use Rattle.std.proofs.Common.{◌≡◌, ℕ, zero, suc, ◌+◌, ◌*◌, ◌/◌, ◌%◌, ◌^◌, ◌<◌, ◌≤◌, Bool, true}
 use Rattle.std.proofs.Common.{false, cond, List, [], ◌∷◌, ◌++◌, length, take, drop, Option, Some}
 use Rattle.std.proofs.Common.{None, Result, Ok, Err, refl, sym, ap, subst, ◌∙◌, arith, append_assoc}
@@ -10,10 +9,10 @@ use Rattle.std.proofs.lemmas.List.{take-append-drop, length-take}
 use Rattle.bufr_bits.specs.Bits.{bin, number, numbers}
 use Rattle.bufr_bits.specs.BitLaws.{length-bin, number_below, bin-number}
 use Rattle.bufr_bits.specs.NumberLaws.{length-fields, length-numbers, numbers_fit, fields-numbers}
-use Rattle.bufr_answers.specs.Answers.{result_map}
+use Rattle.bufr_base.specs.Answers.{result_map}
 use Rattle.bufr_tables.specs.declared.element.Kind.{Kind}
 use Rattle.bufr_tables.specs.declared.element.Kind.TheVariants as kinds
-use Rattle.bufr_answers.specs.AnswerLaws.{bind_err, err_is}
+use Rattle.bufr_base.specs.AnswerLaws.{bind_err, err_is}
 use Rattle.bufr_expand.specs.declared.operators.Spec.{Spec}
 use Rattle.bufr_expand.specs.declared.walk.WalkFault.{WalkFault}
 use Rattle.bufr_expand.specs.declared.walk.WalkFault.TheVariants as walks
@@ -24,10 +23,10 @@ use Rattle.bufr_fields.specs.declared.field.Raw.{Raw}
 use Rattle.bufr_fields.specs.declared.field.Raw.TheVariants.{Number, Text}
 use Rattle.bufr_fields.specs.declared.field.Field.{Field}
 use Rattle.bufr_fields.specs.declared.field.Subset.{Subset}
-use Rattle.bufr_fields.specs.declared.fault.ReadFault.{ReadFault}
-use Rattle.bufr_fields.specs.declared.fault.ReadFault.TheVariants as faults
-use Rattle.bufr_fields.specs.declared.fault.WriteFault.{WriteFault}
-use Rattle.bufr_fields.specs.declared.fault.WriteFault.TheVariants as misfits
+use Rattle.bufr_fields.specs.declared.fault.DataFault.{DataFault}
+use Rattle.bufr_fields.specs.declared.fault.DataFault.TheVariants as faults
+use Rattle.bufr_fields.specs.declared.fault.MisfitFault.{MisfitFault}
+use Rattle.bufr_fields.specs.declared.fault.MisfitFault.TheVariants as misfits
 use Rattle.bufr_data.specs.Plain.{raw_bits, field_bits, plain, plain_subsets, SubsetRead, raw_at}
 use Rattle.bufr_data.specs.Plain.{field_then, fields_at, subsets_at, BeginsWithSubset}
 use Rattle.bufr_fields.specs.Forms.{number_of, matches_spec, misfit, items_of, items_of_all}
@@ -44,9 +43,6 @@ use Rattle.bufr_data.proofs.PlainFacts.{raw_again, raw_read}
 use Rattle.bufr_fields.specs.FitLaws.{counted_fit, fitting_counted}
 use Rattle.bufr_data.proofs.FitFacts.{read_stands, standing_read}
 
--- ---- whether a field stands
-
--- the step of `none_read`
 none_by : (spec : Spec) (front : List Bool) (o : Option (Raw × List Bool)) → raw_at spec front ≡ o
     → BeginsWithNone spec front → raw_at spec front ≡ None
 none_by spec front None e none = e
@@ -54,18 +50,15 @@ none_by spec front (Some x) e none =
     let is = raw_read spec.kind spec.width front x e in
     absurd (none x.0 x.1 (form_is spec x.0 is.0) is.1)
 
--- where no field stands, none is read
 none_read : (spec : Spec) (front : List Bool) → BeginsWithNone spec front → raw_at spec front ≡ None
 none_read spec front none = none_by spec front (raw_at spec front) refl none
 
--- where none is read, no field stands
 none_stands : (spec : Spec) (front : List Bool) → raw_at spec front ≡ None → BeginsWithNone spec front
 none_stands spec front e = λ raw rest form is.
     let some : raw_at spec front ≡ Some (raw, rest) =
     ap (raw_at spec) is ∙ raw_again spec.kind spec.width raw rest (form_passes spec raw form) in
     cc
 
--- within the limits a raw value has as many bits as its spec says
 raw_length : (spec : Spec) (raw : Raw) → IsWithinLimits spec → HasForm spec raw
     → length (raw_bits spec.width raw) ≡ spec.width
 raw_length spec raw limits (of_text os is size all) =
@@ -73,7 +66,6 @@ raw_length spec raw limits (of_text os is size all) =
     omega (arith, length-fields 8 os)
 raw_length spec raw limits (of_number n other few below) = length-bin spec.width n
 
--- too few bits have no field
 pub none_on_few : (spec : Spec) (front : List Bool) → IsWithinLimits spec
     → length front < spec.width → BeginsWithNone spec front
 none_on_few spec front limits short = λ raw rest form is.
@@ -84,7 +76,6 @@ none_on_few spec front limits short = λ raw rest form is.
       raw_length spec raw limits form,
     )
 
--- enough bits have a number
 number_stands : (spec : Spec) (front : List Bool) → (spec.kind ≡ kinds.Text → ⊥)
     → IsWithinLimits spec → spec.width ≤ length front → BeginsWithNone spec front → ⊥
 number_stands spec front other limits long none =
@@ -99,7 +90,6 @@ number_stands spec front other limits long none =
     (of_number (number (take spec.width front)) other (limits.few_bits other) below)
     (sym (ap (λ xs. xs ++ drop spec.width front) spelt ∙ take-append-drop spec.width front))
 
--- enough bits have a text
 text_stands : (spec : Spec) (front : List Bool) → spec.kind ≡ kinds.Text → IsWithinLimits spec
     → spec.width ≤ length front → BeginsWithNone spec front → ⊥
 text_stands spec front is limits long none =
@@ -110,7 +100,6 @@ text_stands spec front is limits long none =
     (of_text (numbers n 8 front) is (length-numbers n 8 front) (numbers_fit n 8 front room))
     (sym (fields-numbers n 8 front room))
 
--- enough bits have a field of any kind
 stands_by : (kind : Kind) (spec : Spec) (front : List Bool) → spec.kind ≡ kind → IsWithinLimits spec
     → spec.width ≤ length front → BeginsWithNone spec front → ⊥
 stands_by kinds.Text spec front is limits long none = text_stands spec front is limits long none
@@ -123,7 +112,6 @@ stands_by kinds.Quantity spec front is limits long none =
 stands_by kinds.Count spec front is limits long none =
     number_stands spec front (λ t. let e = sym is ∙ t in cc) limits long none
 
--- where no field stands there are too few bits
 pub few_where_none : (spec : Spec) (front : List Bool) → IsWithinLimits spec → BeginsWithNone spec front
     → length front < spec.width
 few_where_none spec front limits none =
@@ -132,10 +120,7 @@ few_where_none spec front limits none =
       | inr le ↦ absurd (stands_by spec.kind spec front refl limits le none)
     ]
 
--- ---- fields that are read
-
--- the refusal of the first field left
-refused_here : (j i : ℕ) (c : Course) (front : List Bool) (fault : ReadFault)
+refused_here : (j i : ℕ) (c : Course) (front : List Bool) (fault : DataFault)
     → CannotStand j i c front fault → FieldRefused j i c front fault
 refused_here j i c front fault h =
     let same : i ≡ i + 0 = omega arith in
@@ -149,9 +134,8 @@ refused_here j i c front fault h =
           (λ k. CannotStand j k c front fault) same h;
     }
 
--- the refusal of a field behind one that stands
 refused_behind : (j i met d : ℕ) (spec : Spec) (more : ℕ → Course) (front : List Bool)
-    (x : Raw × List Bool) (fault : ReadFault) → raw_at spec front ≡ Some x
+    (x : Raw × List Bool) (fault : DataFault) → raw_at spec front ≡ Some x
     → FieldRefused j (i + 1) (more (number_of x.0)) x.1 fault
     → FieldRefused j i (asks met d spec more) front fault
 refused_behind j i met d spec more front x fault e r =
@@ -176,13 +160,11 @@ refused_behind j i met d spec more front x fault e r =
           (λ k. CannotStand j k r.next r.rest fault) same r.refused;
     }
 
--- an answer is no error
 not_err : {A F : Type 0} (x : A) (fault : F) → ◌≡◌ {A = Result A F} (Ok x) (Err fault) → ⊥
 not_err x fault e = cc
 
--- the first refusal where a field is asked for: here, or behind it
 asked_refused : (j i met d : ℕ) (spec : Spec) (more : ℕ → Course) (front : List Bool)
-    (o : Option (Raw × List Bool)) (fault : ReadFault) → raw_at spec front ≡ o
+    (o : Option (Raw × List Bool)) (fault : DataFault) → raw_at spec front ≡ o
     → ((n : ℕ) (rest : List Bool) → fields_at j (i + 1) (more n) rest ≡ Err fault
     → FieldRefused j (i + 1) (more n) rest fault)
     → field_then j i d spec (λ n rest. fields_at j (i + 1) (more n) rest) o ≡ Err fault
@@ -203,8 +185,7 @@ asked_refused j i met d spec more front (Some x) fault read after e =
       | inr second ↦ absurd (not_err _ fault second.2)
     ]
 
--- the fault of fields is that of the first that cannot stand
-pub refused_stand : (j i : ℕ) (c : Course) (front : List Bool) (fault : ReadFault)
+pub refused_stand : (j i : ℕ) (c : Course) (front : List Bool) (fault : DataFault)
     → fields_at j i c front ≡ Err fault → FieldRefused j i c front fault
 unfolding fields_at
 refused_stand j i (ends n) front fault e = absurd (not_err _ fault e)
@@ -214,8 +195,7 @@ refused_stand j i (asks met d spec more) front fault e =
     asked_refused j i met d spec more front _ fault refl
     (λ n rest h. refused_stand j (i + 1) (more n) rest fault h) e
 
--- where a field cannot stand, its fault is answered
-here_again : (j i : ℕ) (c : Course) (front : List Bool) (fault : ReadFault)
+here_again : (j i : ℕ) (c : Course) (front : List Bool) (fault : DataFault)
     → CannotStand j i c front fault → fields_at j i c front ≡ Err fault
 unfolding fields_at
 here_again j i (ends n) front fault h = absurd h
@@ -223,9 +203,8 @@ here_again j i (stops met w) front fault h = stop_again w fault h
 here_again j i (asks met d spec more) front fault h =
     rw (none_read spec front h.1) (ap (λ x. Err x) (sym h.0))
 
--- so it is behind fields that stand
 behind_again : (j i : ℕ) (before : List Field) (c next : Course) (rest : List Bool)
-    (fault : ReadFault) → Passes c before next → CannotStand j (i + length before) next rest fault
+    (fault : DataFault) → Passes c before next → CannotStand j (i + length before) next rest fault
     → fields_at j i c (plain before ++ rest) ≡ Err fault
 unfolding fields_at
 behind_again j i [] c next rest fault passed h =
@@ -252,17 +231,13 @@ behind_again j i (f ∷ fields) (asks met d spec more) next rest fault passed h 
       others,
     ) refl
 
--- the first field that cannot stand has its fault answered
-pub standing_refused : (j i : ℕ) (c : Course) (front : List Bool) (fault : ReadFault)
+pub standing_refused : (j i : ℕ) (c : Course) (front : List Bool) (fault : DataFault)
     → FieldRefused j i c front fault → fields_at j i c front ≡ Err fault
 standing_refused j i c front fault r =
     ap (fields_at j i c) r.stand
     ∙ behind_again j i r.before c r.next r.rest fault r.passed r.refused
 
--- ---- subsets that are read
-
--- a first subset that is refused is the first of all
-first_refused : (tree : Tree) (j n used : ℕ) (front : List Bool) (fault : ReadFault)
+first_refused : (tree : Tree) (j n used : ℕ) (front : List Bool) (fault : DataFault)
     → used ≤ most_items → fields_at j 1 (course tree used) front ≡ Err fault
     → SubsetRefused tree j (suc n) used front fault
 first_refused tree j n used front fault le e =
@@ -279,9 +254,8 @@ first_refused tree j n used front fault le e =
           (refused_stand j 1 (course tree used) front fault e);
     }
 
--- one that is refused behind a subset that stands is the first of all
 later_refused : (tree : Tree) (j n used : ℕ) (front : List Bool) (first : SubsetRead)
-    (fault : ReadFault) → BeginsWithSubset tree used front first
+    (fault : DataFault) → BeginsWithSubset tree used front first
     → SubsetRefused tree (j + 1) n first.items first.rest fault
     → SubsetRefused tree j (suc n) used front fault
 later_refused tree j n used front first fault h r =
@@ -308,9 +282,8 @@ later_refused tree j n used front first fault h r =
       refused = subst (λ k. FieldRefused k 1 (course tree r.items) r.rest fault) same r.refused;
     }
 
--- the fault of subsets is that of the first that is refused
 pub subsets_refused_stand : AreUnrolled
-    → (tree : Tree) (j n used : ℕ) (front : List Bool) (fault : ReadFault) → used ≤ most_items
+    → (tree : Tree) (j n used : ℕ) (front : List Bool) (fault : DataFault) → used ≤ most_items
     → subsets_at (course tree) j n used front ≡ Err fault → SubsetRefused tree j n used front fault
 unfolding subsets_at
 subsets_refused_stand law tree j zero used front fault le e = absurd (not_err _ fault e)
@@ -330,10 +303,9 @@ subsets_refused_stand law tree j (suc n) used front fault le e =
           ])
     ]
 
--- behind subsets that stand, the fault of one is answered
 subsets_again : AreAllowed
     → (tree : Tree) (before : List Subset) (j n used items : ℕ) (rest : List Bool)
-    (fault : ReadFault) → length before < n → AllFitWithin tree used before items
+    (fault : DataFault) → length before < n → AllFitWithin tree used before items
     → FieldRefused (j + length before) 1 (course tree items) rest fault
     → subsets_at (course tree) j n used (plain_subsets before ++ rest) ≡ Err fault
 unfolding subsets_at
@@ -368,18 +340,14 @@ subsets_again law tree (s ∷ before) j (suc n) used items rest fault fewer fit 
     (subst (λ k. FieldRefused k 1 (course tree items) rest fault) here r) in
     rw (regrouped, first, behind) refl
 
--- the first subset that is refused has its fault answered
 pub subsets_standing_refused : AreAllowed
-    → (tree : Tree) (j n used : ℕ) (front : List Bool) (fault : ReadFault)
+    → (tree : Tree) (j n used : ℕ) (front : List Bool) (fault : DataFault)
     → SubsetRefused tree j n used front fault → subsets_at (course tree) j n used front ≡ Err fault
 subsets_standing_refused law tree j n used front fault r =
     ap (subsets_at (course tree) j n used) r.stand
     ∙ subsets_again law tree r.before j n used r.items r.rest fault r.fewer r.fit r.refused
 
--- ---- fields that are written
-
--- fields that are at once not allowed are the first misfit
-misfit_here : (j i : ℕ) (c : Course) (fields : List Field) (fault : WriteFault)
+misfit_here : (j i : ℕ) (c : Course) (fields : List Field) (fault : MisfitFault)
     → CannotGoOn j i c fields fault → FieldMisfits j i c fields fault
 misfit_here j i c fields fault h =
     let same : i ≡ i + 0 = omega arith in
@@ -393,9 +361,8 @@ misfit_here j i c fields fault h =
           (λ k. CannotGoOn j k c fields fault) same h;
     }
 
--- so are those behind a field that is asked for
 misfit_behind : (j i met d : ℕ) (spec : Spec) (more : ℕ → Course) (f : Field) (fields : List Field)
-    (fault : WriteFault) → IsAsked d spec f
+    (fault : MisfitFault) → IsAsked d spec f
     → FieldMisfits j (i + 1) (more (number_of f.raw)) fields fault
     → FieldMisfits j i (asks met d spec more) (f ∷ fields) fault
 misfit_behind j i met d spec more f fields fault asked m =
@@ -409,21 +376,18 @@ misfit_behind j i met d spec more f fields fault asked m =
       refused = subst (λ k. CannotGoOn j k m.next m.others fault) same m.refused;
     }
 
--- where the course stops, no field is allowed
-stop_misfits : (j i met : ℕ) (w : WalkFault) (fields : List Field) (fault : WriteFault)
+stop_misfits : (j i met : ℕ) (w : WalkFault) (fields : List Field) (fault : MisfitFault)
     → misfit j i w ≡ fault → CannotGoOn j i (stops met w) fields fault
 stop_misfits j i met walks.TooLarge fields fault e = sym e
 stop_misfits j i met (walks.EffectiveRange d) fields fault e = sym e
 
--- and its fault is the one at which it stops
-stops_again : (j i met : ℕ) (w : WalkFault) (fields : List Field) (fault : WriteFault)
+stops_again : (j i met : ℕ) (w : WalkFault) (fields : List Field) (fault : MisfitFault)
     → CannotGoOn j i (stops met w) fields fault → misfit j i w ≡ fault
 stops_again j i met walks.TooLarge fields fault e = sym e
 stops_again j i met (walks.EffectiveRange d) fields fault e = sym e
 
--- the test of the field that is asked for
 asked_misfits : (j i met d : ℕ) (spec : Spec) (more : ℕ → Course) (f : Field) (fields : List Field)
-    (fault : WriteFault) (is : Bool) → matches_spec d spec f ≡ is
+    (fault : MisfitFault) (is : Bool) → matches_spec d spec f ≡ is
     → (items_of j (i + 1) (more (number_of f.raw)) fields ≡ Err fault
     → FieldMisfits j (i + 1) (more (number_of f.raw)) fields fault)
     → cond is (items_of j (i + 1) (more (number_of f.raw)) fields) (Err (misfits.DoesNotFit j i))
@@ -437,8 +401,7 @@ asked_misfits j i met d spec more f fields fault false is after e =
           ≡ true = asked_passes d spec f asked in cc,
     )
 
--- the fault of fields is that of the first misfit
-pub refused_misfit : (j i : ℕ) (c : Course) (fields : List Field) (fault : WriteFault)
+pub refused_misfit : (j i : ℕ) (c : Course) (fields : List Field) (fault : MisfitFault)
     → items_of j i c fields ≡ Err fault → FieldMisfits j i c fields fault
 unfolding items_of
 refused_misfit j i (ends n) [] fault e = absurd (not_err _ fault e)
@@ -455,14 +418,12 @@ refused_misfit j i (asks met d spec more) (f ∷ fields) fault e =
     asked_misfits j i met d spec more f fields fault (matches_spec d spec f) refl
     (refused_misfit j (i + 1) (more (number_of f.raw)) fields fault) e
 
--- a field that is not asked for does not pass
 not_asked : (d : ℕ) (spec : Spec) (f : Field) (is : Bool) → matches_spec d spec f ≡ is
     → (IsAsked d spec f → ⊥) → matches_spec d spec f ≡ false
 not_asked d spec f false e none = e
 not_asked d spec f true e none = absurd (none (asked_is d spec f e))
 
--- fields that are at once not allowed have their fault answered
-go_on_again : (j i : ℕ) (c : Course) (fields : List Field) (fault : WriteFault)
+go_on_again : (j i : ℕ) (c : Course) (fields : List Field) (fault : MisfitFault)
     → CannotGoOn j i c fields fault → items_of j i c fields ≡ Err fault
 unfolding items_of
 go_on_again j i (ends n) [] fault h = absurd h
@@ -473,8 +434,7 @@ go_on_again j i (asks met d spec more) [] fault h = ap (λ x. Err x) (sym h)
 go_on_again j i (asks met d spec more) (f ∷ fields) fault h =
     rw (not_asked d spec f (matches_spec d spec f) refl h.1) (ap (λ x. Err x) (sym h.0))
 
--- so they have behind fields that are asked for
-misfit_again : (j i : ℕ) (before others : List Field) (c next : Course) (fault : WriteFault)
+misfit_again : (j i : ℕ) (before others : List Field) (c next : Course) (fault : MisfitFault)
     → Passes c before next → CannotGoOn j (i + length before) next others fault
     → items_of j i c (before ++ others) ≡ Err fault
 unfolding items_of
@@ -492,17 +452,13 @@ misfit_again j i (f ∷ before) others (asks met d spec more) next fault passed 
     (subst (λ k. CannotGoOn j k next others fault) same h) in
     rw (asked_passes d spec f passed.0) behind
 
--- the first misfit has its fault answered
-pub misfit_refused : (j i : ℕ) (c : Course) (fields : List Field) (fault : WriteFault)
+pub misfit_refused : (j i : ℕ) (c : Course) (fields : List Field) (fault : MisfitFault)
     → FieldMisfits j i c fields fault → items_of j i c fields ≡ Err fault
 misfit_refused j i c fields fault m =
     ap (items_of j i c) m.joined
     ∙ misfit_again j i m.before m.others c m.next fault m.passed m.refused
 
--- ---- subsets that are written
-
--- a first subset that does not fit is the first of all
-first_misfits : (tree : Tree) (j used : ℕ) (s : Subset) (subsets : List Subset) (fault : WriteFault)
+first_misfits : (tree : Tree) (j used : ℕ) (s : Subset) (subsets : List Subset) (fault : MisfitFault)
     → used ≤ most_items → items_of j 1 (course tree used) s.fields ≡ Err fault
     → SubsetMisfits tree j used (s ∷ subsets) fault
 first_misfits tree j used s subsets fault le e =
@@ -519,9 +475,8 @@ first_misfits tree j used s subsets fault le e =
           (refused_misfit j 1 (course tree used) s.fields fault e);
     }
 
--- one that does not fit behind a subset that fits is the first of all
 later_misfits : (tree : Tree) (j used n : ℕ) (s : Subset) (subsets : List Subset)
-    (fault : WriteFault) → FitsWithin tree used s.fields n
+    (fault : MisfitFault) → FitsWithin tree used s.fields n
     → SubsetMisfits tree (j + 1) n subsets fault → SubsetMisfits tree j used (s ∷ subsets) fault
 later_misfits tree j used n s subsets fault own m =
     let others = m.fit in
@@ -542,9 +497,8 @@ later_misfits tree j used n s subsets fault own m =
           subst (λ k. FieldMisfits k 1 (course tree m.items) m.here.fields fault) same m.refused;
     }
 
--- the fault of subsets is that of the first that does not fit
 all_refused_misfit : AreUnrolled
-    → (tree : Tree) (j used : ℕ) (subsets : List Subset) (fault : WriteFault) → used ≤ most_items
+    → (tree : Tree) (j used : ℕ) (subsets : List Subset) (fault : MisfitFault) → used ≤ most_items
     → items_of_all (course tree) j used subsets ≡ Err fault
     → SubsetMisfits tree j used subsets fault
 unfolding items_of_all
@@ -558,10 +512,9 @@ all_refused_misfit law tree j used (s ∷ subsets) fault le e =
           (all_refused_misfit law tree (j + 1) behind.0 subsets fault own.3 behind.2)
     ]
 
--- behind subsets that fit, the fault of one is answered
 all_misfit_again : AreAllowed
     → (tree : Tree) (before : List Subset) (j used items : ℕ) (here : Subset) (others : List Subset)
-    (fault : WriteFault) → AllFitWithin tree used before items
+    (fault : MisfitFault) → AllFitWithin tree used before items
     → FieldMisfits (j + length before) 1 (course tree items) here.fields fault
     → items_of_all (course tree) j used (before ++ here ∷ others) ≡ Err fault
 unfolding items_of_all
@@ -589,16 +542,14 @@ all_misfit_again law tree (s ∷ before) j used items here others fault fit m =
     (rest, fit.1.3, omega arith, few)
     (subst (λ k. FieldMisfits k 1 (course tree items) here.fields fault) place m))
 
--- the fault of what is written is that of the first subset that does not fit
 pub written_refused_misfit : AreUnrolled
-    → (tree : Tree) (subsets : List Subset) (fault : WriteFault)
+    → (tree : Tree) (subsets : List Subset) (fault : MisfitFault)
     → written_bits tree false subsets ≡ Err fault → SubsetMisfits tree 1 0 subsets fault
 written_refused_misfit law tree subsets fault e =
     all_refused_misfit law tree 1 0 subsets fault (omega arith)
     (map_err _ (items_of_all (course tree) 1 0 subsets) fault e)
 
--- the first subset that does not fit has its fault answered
-pub written_misfit_refused : AreAllowed → (tree : Tree) (subsets : List Subset) (fault : WriteFault)
+pub written_misfit_refused : AreAllowed → (tree : Tree) (subsets : List Subset) (fault : MisfitFault)
     → SubsetMisfits tree 1 0 subsets fault → written_bits tree false subsets ≡ Err fault
 written_misfit_refused law tree subsets fault m =
     let e : items_of_all (course tree) 1 0 subsets ≡ Err fault =

@@ -1,5 +1,5 @@
--- Why data or subsets are refused after some fields, by what the template's tree stands for (FM 94
--- BUFR, regulations 94.1.3, 94.5.4 and 94.5.5).
+-- Why data or subsets are refused after some fields, by the template's tree (FM 94 BUFR,
+-- regulations 94.1.3, 94.5.4 and 94.5.5).
 use Rattle.std.specs.Prelude.{◌≡◌, ℕ, ◌+◌, ◌<◌, Bool, List, ◌∷◌, ◌++◌, length, map}
 use Rattle.bufr_expand.specs.declared.operators.Spec.{Spec}
 use Rattle.bufr_expand.specs.Trees.{Tree}
@@ -7,20 +7,19 @@ use Rattle.bufr_expand.specs.Unrolling.{Unrolls}
 use Rattle.bufr_expand.specs.NextFields.{wants, lacks, BeginsWithin, PassesLimit}
 use Rattle.bufr_fields.specs.declared.field.Field.{Field}
 use Rattle.bufr_fields.specs.declared.field.Subset.{Subset}
-use Rattle.bufr_fields.specs.declared.fault.ReadFault.{ReadFault}
-use Rattle.bufr_fields.specs.declared.fault.ReadFault.TheVariants as faults
-use Rattle.bufr_fields.specs.declared.fault.WriteFault.{WriteFault}
-use Rattle.bufr_fields.specs.declared.fault.WriteFault.TheVariants as misfits
+use Rattle.bufr_fields.specs.declared.fault.DataFault.{DataFault}
+use Rattle.bufr_fields.specs.declared.fault.DataFault.TheVariants as faults
+use Rattle.bufr_fields.specs.declared.fault.MisfitFault.{MisfitFault}
+use Rattle.bufr_fields.specs.declared.fault.MisfitFault.TheVariants as misfits
 use Rattle.bufr_data.specs.Plain.{plain, plain_subsets}
 use Rattle.bufr_fields.specs.Fits.{told_of, AllFitWithin}
 use Rattle.bufr_fields.specs.Asked.{IsAsked, Begin}
 use Rattle.bufr_data.specs.Plain.Refusals.{BeginsWithNone}
 
--- why neither a next field of subset j stands at the front of the bits, after these fields, nor the
--- subset's end: an item up to and with the next field, or up to the end, would be more than a
--- message may have; or the next field has no spec; or the data end within it
+-- why subset j neither goes on nor ends after these fields: an item up to the next field, or up to
+-- the end, is above the limit; or the next field has no spec; or the data end in it
 pub data NoneFollows (tree : Tree) (used j : ℕ) (before : List Field) (front : List Bool)
-    (fault : ReadFault) : Type 0 where
+    (fault : DataFault) : Type 0 where
   no_room : PassesLimit tree used (map told_of before) → fault ≡ faults.TooLarge
       → NoneFollows tree used j before front fault
   no_spec : (d met : ℕ) → BeginsWithin tree used (map told_of before) (lacks d) met
@@ -29,8 +28,8 @@ pub data NoneFollows (tree : Tree) (used j : ℕ) (before : List Field) (front :
       → BeginsWithin tree used (map told_of before) (wants d spec) met → BeginsWithNone spec front
       → fault ≡ faults.DataEnds j (1 + length before) → NoneFollows tree used j before front fault
 
--- the first field of subset j that cannot stand: those before it stand in the data
-pub record FirstRefused (tree : Tree) (j used : ℕ) (front : List Bool) (fault : ReadFault)
+-- the first field of subset j that can't be read; the data begin with the fields before it
+pub record FirstRefused (tree : Tree) (j used : ℕ) (front : List Bool) (fault : DataFault)
     : Type 0 where
   pub before : List Field
   pub rest : List Bool
@@ -38,9 +37,9 @@ pub record FirstRefused (tree : Tree) (j used : ℕ) (front : List Bool) (fault 
   pub stand : front ≡ plain before ++ rest
   pub refused : NoneFollows tree used j before rest fault
 
--- the first of so many subsets that has a field that cannot stand: the subsets before it fit, and
--- stand in the data
-pub record FirstSubsetRefused (tree : Tree) (n : ℕ) (front : List Bool) (fault : ReadFault)
+-- the first of n subsets with a field that can't be read; the subsets before it fit, and the data
+-- begin with theirs
+pub record FirstSubsetRefused (tree : Tree) (n : ℕ) (front : List Bool) (fault : DataFault)
     : Type 0 where
   pub before : List Subset
   pub items : ℕ
@@ -50,10 +49,10 @@ pub record FirstSubsetRefused (tree : Tree) (n : ℕ) (front : List Bool) (fault
   pub stand : front ≡ plain_subsets before ++ rest
   pub refused : FirstRefused tree (1 + length before) items rest fault
 
--- why fields after these ones are not what the template allows: one is too many; or an item would
--- be more than a message may have; or the next field has no spec; or there is none, or its
--- descriptor or its spec is another, or its raw value has not its spec's form
-pub data NotAllowed (tree : Tree) (used j : ℕ) (before others : List Field) (fault : WriteFault)
+-- why the fields after these do not fit: one is left over; or an item is above the limit; or the
+-- next field has no spec; or it is missing, has another descriptor or spec, or a raw value that
+-- does not fit
+pub data NotAllowed (tree : Tree) (used j : ℕ) (before others : List Field) (fault : MisfitFault)
     : Type 0 where
   too_many : (f : Field) (behind : List Field) (n : ℕ) → Unrolls tree used (map told_of before) n
       → others ≡ f ∷ behind
@@ -70,8 +69,8 @@ pub data NotAllowed (tree : Tree) (used j : ℕ) (before others : List Field) (f
       → fault ≡ misfits.DoesNotFit j (1 + length before)
       → NotAllowed tree used j before others fault
 
--- the first place of subset j at which its fields are not what the template allows
-pub record FirstMisfit (tree : Tree) (j used : ℕ) (fields : List Field) (fault : WriteFault)
+-- the first place of subset j at which its fields do not fit
+pub record FirstMisfit (tree : Tree) (j used : ℕ) (fields : List Field) (fault : MisfitFault)
     : Type 0 where
   pub before : List Field
   pub others : List Field
@@ -79,8 +78,8 @@ pub record FirstMisfit (tree : Tree) (j used : ℕ) (fields : List Field) (fault
   pub joined : fields ≡ before ++ others
   pub refused : NotAllowed tree used j before others fault
 
--- the first subset that does not fit: those before it do
-pub record FirstSubsetMisfit (tree : Tree) (subsets : List Subset) (fault : WriteFault)
+-- the first subset that does not fit
+pub record FirstSubsetMisfit (tree : Tree) (subsets : List Subset) (fault : MisfitFault)
     : Type 0 where
   pub before : List Subset
   pub here : Subset

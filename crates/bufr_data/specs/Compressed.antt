@@ -1,5 +1,5 @@
--- Compressed data (FM 94 BUFR, regulation 94.6.3): a column for each place of the subsets, which
--- holds the value of that place in each subset.
+-- Compressed data (FM 94 BUFR, regulation 94.6.3): one column for each field, with its value in
+-- every subset.
 use Rattle.std.specs.Prelude.{◌≡◌, ℕ, zero, suc, ◌+◌, ◌-◌, ◌*◌, ◌/◌, ◌^◌, ◌<◌, ◌≤◌, Bool, List, []}
 use Rattle.std.specs.Prelude.{◌∷◌, ◌++◌, length, map, replicate, get_or}
 use Rattle.std.specs.List.{AllByRecursion, flat_map}
@@ -23,23 +23,23 @@ pub mod Reading
 
 -- ---- the bits of a column
 
--- the members of two lists belong together, one by one
+-- two lists of one length, related member by member
 abbrev pub Pairwise : {A B : Type 0} → (A → B → Type 0) → List A → List B → Type 0
 Pairwise Belong [] [] = Unit {0}
 Pairwise Belong (x ∷ xs) (y ∷ ys) = Belong x y × Pairwise Belong xs ys
 Pairwise Belong [] (y ∷ ys) = ⊥
 Pairwise Belong (x ∷ xs) [] = ⊥
 
--- the value of an increment of NBINC bits: the minimum and the increment, a number of the field; or
--- a missing value, all bits one, where all bits of the increment are one
+-- the value of an increment of NBINC bits: minimum plus increment, a number of the field; or, if
+-- all its bits are one, a missing value with all bits one (94.6.3)
 pub data HasIncrement (width minimum nbinc increment : ℕ) (value : Raw) : Type 0 where
   above : increment + 1 < 2 ^ nbinc → minimum + increment < 2 ^ width
       → value ≡ Number (minimum + increment) → HasIncrement width minimum nbinc increment value
   missing : increment + 1 ≡ 2 ^ nbinc → value ≡ Number (2 ^ width - 1)
       → HasIncrement width minimum nbinc increment value
 
--- the value of a text of NBINC octets in a field of more: it is filled with spaces; or a missing
--- value, all bits one, where all bits of the text are one
+-- the value of a text of NBINC octets in a longer field: filled with spaces; or, if all its bits
+-- are one, a missing value with all bits one
 pub data HasText (octets nbinc : ℕ) (own : List ℕ) (value : Raw) : Type 0 where
   filled : length own ≡ nbinc → AllByRecursion (λ x. x < 256) own
       → (own ≡ replicate nbinc 255 → ⊥)
@@ -47,10 +47,9 @@ pub data HasText (octets nbinc : ℕ) (own : List ℕ) (value : Raw) : Type 0 wh
   ones : own ≡ replicate nbinc 255 → value ≡ Text (replicate octets 255)
       → HasText octets nbinc own value
 
--- the bits of the values of one place: the minimum R0 as a value of the field, the width NBINC of
--- the increments in six bits, and an increment for each subset. With NBINC 0 all values are R0 and
--- there are no increments. In columns of texts NBINC counts octets, and where it is not 0 R0 says
--- nothing
+-- the bits of a column: the minimum R0 as a value of the field, NBINC in six bits, and an increment
+-- of NBINC bits for each subset. With NBINC 0 there are no increments, and all values are R0. In
+-- columns of texts NBINC counts octets, and R0 matters only with NBINC 0 (94.6.3)
 pub data IsColumn (spec : Spec) (values : List Raw) (column : List Bool) : Type 0 where
   equal : (minimum : Raw) → HasForm spec minimum → AllByRecursion (λ v. v ≡ minimum) values
       → column ≡ raw_bits spec.width minimum ++ bin 6 0 → IsColumn spec values column
@@ -67,17 +66,17 @@ pub data IsColumn (spec : Spec) (values : List Raw) (column : List Bool) : Type 
 
 -- ---- columns of subsets
 
--- one place of the subsets: its descriptor, its spec, and its value in each subset
+-- one field of all subsets: its descriptor, its spec, and its value in each subset
 pub record Column : Type 0 where
   pub fxy : ℕ
   pub spec : Spec
   pub values : List Raw
 
--- the values of a factor are the same in all subsets (regulation 94.5.4.3 under 94.6.3)
+-- a factor has one value in all subsets (regulation 94.5.4.3 under 94.6.3)
 abbrev pub HaveOneCount : Column → Type 0
 HaveOneCount c = c.spec.kind ≡ kinds.Count → (v : Raw) × AllByRecursion (λ w. w ≡ v) c.values
 
--- bits that are the columns of so many subsets, joined
+-- the bits are the columns of `count` subsets, joined
 abbrev pub AreColumns : ℕ → List Column → List Bool → Type 0
 AreColumns count [] front = front ≡ []
 AreColumns count (c ∷ cs) front =
@@ -88,18 +87,18 @@ AreColumns count (c ∷ cs) front =
 abbrev pub field_of : ℕ → Column → Field
 field_of index c = record { fxy = c.fxy; spec = c.spec; raw = get_or c.values index (Number 0) }
 
--- the subset at an index, from 0: the value there of each column
+-- the subset at an index, from 0: its value in each column
 abbrev pub subset_of : List Column → ℕ → Subset
 subset_of columns index = record { fields = map (field_of index) columns }
 
--- so many subsets, from the one at an index on
+-- `count` subsets, from the one at an index on
 abbrev pub subsets_from : ℕ → ℕ → List Column → List Subset
 subsets_from index zero columns = []
 subsets_from index (suc count) columns =
     subset_of columns index ∷ subsets_from (index + 1) count columns
 
--- bits that hold subsets column by column: all of them have the same descriptors and specs, and
--- there are 67,108,864 values at most. Without subsets there are no bits
+-- the bits hold subsets column by column: all have the same descriptors and specs, with at most
+-- 67,108,864 values in all. Without subsets there are no bits (94.6.3)
 abbrev pub Packed : List Subset → List Bool → Type 0
 Packed [] front = front ≡ []
 Packed (s ∷ subsets) front =

@@ -1,5 +1,4 @@
--- Fields of a subset that are handed out one at a time, in the order of the data: what is left of
--- them is a list.
+-- Fields handed out one at a time, in the order of the data: the fields left are a list.
 use Rattle.std.specs.Prelude.{◌≡◌, ℕ, Bool, true, false, List, [], ◌∷◌, ◌++◌, map, Option, Some}
 use Rattle.std.specs.Prelude.{None, IsOk, ◌<◌, ◌≤◌, ◌+◌, length}
 use Rattle.std.specs.List.{AllByRecursion}
@@ -16,71 +15,70 @@ use Rattle.bufr_data.specs.Plain.Layouts.{laid_course}
 use Rattle.bufr_data.specs.Plain.Starts.{fields_of}
 use Rattle.bufr_fields.specs.Steady.{IsReady}
 
--- the first of a list is handed out and the others are left; or none is left
+-- hands out the first member of a list, or none if the list is empty
 abbrev pub HandsOut : {A : Type 0} → List A → Option A → List A → Type 0
 HandsOut old (Some x) new = old ≡ x ∷ new
 HandsOut old None new = (old ≡ []) × (new ≡ [])
 
--- none of the fields is asked for
+-- none of the fields is chosen
 abbrev pub NoneAsked : (ℕ → Bool) → List Field → Type 0
 NoneAsked asks fields = AllByRecursion (λ f. asks f.fxy ≡ false) fields
 
--- the first of the fields that is asked for is handed out and those behind it are left; or none is
--- asked for, and none is left
+-- hands out the first chosen field and skips those before it; if none is chosen, no field is left
 abbrev pub HandsOutAsked : (ℕ → Bool) → List Field → Option Field → List Field → Type 0
 HandsOutAsked asks old (Some f) new = (passed : List Field) × NoneAsked asks passed
     × (asks f.fxy ≡ true) × (old ≡ passed ++ f ∷ new)
 HandsOutAsked asks old None new = NoneAsked asks old × (new ≡ [])
 
--- the first of the fields is passed, which is not asked for, and the others are left
+-- skips the first field, which is not chosen
 abbrev pub PassesFirst : (ℕ → Bool) → List Field → List Field → Type 0
 PassesFirst asks old new = (f : Field) × (asks f.fxy ≡ false) × (old ≡ f ∷ new)
 
--- fields in front are passed of which none is asked for, and the others are left
+-- skips some fields, none of them chosen
 abbrev pub PassesUnasked : (ℕ → Bool) → List Field → List Field → Type 0
 PassesUnasked asks old new =
     (passed : List Field) × NoneAsked asks passed × (old ≡ passed ++ new)
 
--- the first of the fields is asked for, or there is none
+-- the first field, if any, is chosen
 abbrev pub FirstIsAsked : (ℕ → Bool) → List Field → Type 0
 FirstIsAsked asks [] = Unit {0}
 FirstIsAsked asks (f ∷ fields) = asks f.fxy ≡ true
 
--- the fields that a walk meets in the bits that are left, till the subset is done
+-- the fields that a walk finds in the bits left, unless the subset is done
 abbrev pub fields_ahead : Bool → Walk → BitPlace → List Field
 fields_ahead true walk reader = []
 fields_ahead false walk reader = fields_of (fields_at 1 1 (walks.left walk) (left reader))
 
--- where the subset is not done, the walk can go on, and all its fields are there
+-- unless the subset is done, the walk can go on and finds all its fields
 abbrev pub StandAhead : Bool → Walk → BitPlace → Type 0
 StandAhead true walk reader = Unit {0}
 StandAhead false walk reader =
     IsReady walk × IsOk (fields_at 1 1 (walks.left walk) (left reader))
 
--- the fields that are laid out, in the bits that are left
+-- the fields of a layout in the bits left
 abbrev pub fields_laid : List LaidField → BitPlace → List Field
 fields_laid fields reader = fields_of (fields_at 1 1 (laid_course fields) (left reader))
 
--- so many bits further on
+-- a reader `bits` bits further on
 abbrev pub moved_on : BitPlace → ℕ → BitPlace
 moved_on reader bits = record reader { place = reader.place + bits }
 
--- all of them are there
+-- the bits left hold all fields of the layout
 abbrev pub StandLaid : List LaidField → BitPlace → Type 0
 StandLaid fields reader = IsOk (fields_at 1 1 (laid_course fields) (left reader))
 
--- fields that are laid out are passed, of which none is asked for, with all their bits; the others
--- are left, and are there
+-- fields of a layout are skipped, none of them chosen, with all their bits, and the others are
+-- there
 pub record PassesLaid (asks : ℕ → Bool) (old new : List LaidField) (reader : BitPlace) (bits : ℕ)
     : Type 0 where
   pub within : bits ≤ length (left reader)
   pub there : StandLaid new (moved_on reader bits)
   pub passed : PassesUnasked asks (fields_laid old reader) (fields_laid new (moved_on reader bits))
 
--- the values at an index of the columns at places, as fields
+-- the values at an index of the columns at these places, as fields
 abbrev pub fields_there : List ℕ → ℕ → ℕ → List Place → List Field
 fields_there octets n index places = map (field_of index) (map (column_from octets n) places)
 
--- a column of so many subsets stands at each place, and there is a subset at the index
+-- every place has a column of n subsets, and the index is below n
 abbrev pub StandThere : List ℕ → ℕ → ℕ → List Place → Type 0
 StandThere octets n index places = AllOpen octets n places × (index < n)

@@ -1,3 +1,5 @@
+pub use Rattle.bufr_fields.specs.DecimalTexts
+pub use Rattle.bufr_fields.specs.Values
 pub mod Plain
 pub mod Subsets
 pub mod Laws
@@ -8,3 +10,19 @@ pub mod Data
 pub mod Shown
 pub mod Handed
 pub mod LeftFields
+pub mod Kept
+pub use Rattle.bufr_base.specs.Answers
+pub use Rattle.bufr_bits.specs.Bits
+pub use Rattle.bufr_bits.specs.Ends
+pub use Rattle.bufr_expand.specs.Courses
+pub use Rattle.bufr_expand.specs.Trees
+pub use Rattle.bufr_fields.specs.Values
+pub use Rattle.bufr_fields.specs.Forms
+pub use Rattle.bufr_fields.specs.Fits
+pub use Rattle.bufr_fields.specs.Reasons
+pub use Rattle.bufr_fields.specs.declared.field.Decimal
+pub use Rattle.bufr_fields.specs.declared.field.Field
+pub use Rattle.bufr_fields.specs.declared.field.Raw
+pub use Rattle.bufr_fields.specs.declared.field.Subset
+pub use Rattle.bufr_fields.specs.declared.fault.DataFault
+pub use Rattle.bufr_fields.specs.declared.fault.MisfitFault

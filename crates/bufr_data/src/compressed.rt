@@ -1,4 +1,4 @@
-//! Compressed data: a column for each place of the subsets, which has the values of that place.
+//! Compressed data: one column for each field, with the values of all subsets (94.6.3).
 
 pub(crate) mod best;
 pub(crate) mod fields;

@@ -1,36 +1,35 @@
-//! Templates of data, with what is known of their subsets.
+//! A template with what is known of its subsets.
 
-ghost use Rattle.std.specs.Prelude.{◌≡◌, Bool, List, OnErr};
+ghost use Rattle.std.specs.Prelude.{◌≡◌, Bool, List, IfOk, OnErr};
 ghost use Rattle.bufr_bits.specs.Ends.{left};
-ghost use Rattle.bufr_answers.specs.Answers.{Gives};
+ghost use Rattle.bufr_base.specs.Answers.{Gives};
 ghost use Rattle.bufr_fields.specs.declared.field.Subset.{Subset};
 ghost use Rattle.bufr_data.specs.Data.{subsets_in};
 
-use crate::plain::alike::Likeness;
-use crate::plain::plan::Plan;
+use crate::plain::alike::FixedSize;
+use crate::plain::plan::FieldLayout;
 use crate::subset_index::{SubsetIndex, index_known};
-use bufr_answers::Failure;
+use bufr_base::{Failure, OutOfMemory};
 use bufr_bits::BitReader;
 use bufr_expand::Template;
-use bufr_fields::ReadFault;
+use bufr_fields::DataFault;
 use std::alloc::Global;
 use std::marker::Model;
 
-/// A template for the data of one message after another. Whether all its plain subsets are alike is
-/// found out once, and kept; for its first message of many subsets, or for its second, the fields of
-/// these are laid out, and kept too. Contracts see it as the template's tree.
+/// A template for many messages. It keeps the common size of plain subsets, and their layout once
+/// that pays. Contracts see the tree.
 #[derive(Debug, Drop)]
 pub struct DataTemplate {
     template: Template,
-    likeness: Likeness,
-    plan: Plan,
+    likeness: FixedSize,
+    plan: FieldLayout,
 }
 
 impl Model for DataTemplate {
     ghost use Rattle.bufr_expand.specs.Trees.{Tree};
     ghost use Rattle.bufr_expand.specs.TreeCodes.{tree_code};
     ghost use Rattle.bufr_data.specs.Plain.Alike.{IsKnown};
-    ghost use Rattle.bufr_data.specs.Plain.Layouts.{IsPlan};
+    ghost use Rattle.bufr_data.specs.Plain.Layouts.{IsFieldLayout};
 
     ghost Value = { Tree };
 
@@ -38,33 +37,38 @@ impl Model for DataTemplate {
 
     ghost view = { λ t. t.template };
 
-    ghost invariant = { λ t. IsKnown t.template t.likeness × IsPlan t.template t.plan };
+    ghost invariant = { λ t. IsKnown t.template t.likeness × IsFieldLayout t.template t.plan };
 }
 
 impl DataTemplate {
-    /// The template, of whose subsets nothing is known yet.
+    /// Makes a template with nothing known.
     pub fn new(template: Template) -> DataTemplate
         ensures { result ≡ template }
     {
         DataTemplate {
             template,
-            likeness: Likeness::Unasked,
-            plan: Plan::Unserved,
+            likeness: FixedSize::Unasked,
+            plan: FieldLayout::Unserved,
         }
     }
 
-    /// The subsets of a message, as `SubsetIndex::index` answers them, or the same fault. The
-    /// template stays, and its nodes are shared with the index. Plain subsets that are known to be
-    /// alike are passed at once, with no walk; from the second message on, and of a first one of many
-    /// subsets, their fields are handed out with no walk too. `OutOfMemory` where a growth was
-    /// refused.
+    /// Shares the template itself: its nodes are not copied. `OutOfMemory` if it is shared more often
+    /// than can be counted.
+    pub(crate) fn shared(&self) -> Result<Template, OutOfMemory>
+        ensures { IfOk result (λ t. t ≡ self.now) }
+    {
+        self.template.share()
+    }
+
+    /// Indexes the subsets of a message like `SubsetIndex::index`, and keeps what it learns for the
+    /// next one.
     pub fn index<'a>(
         &mut self,
         alloc: Global,
         compressed: bool,
         reader: &mut BitReader<'a>,
         count: u16,
-    ) -> Result<SubsetIndex<'a>, Failure<ReadFault>>
+    ) -> Result<SubsetIndex<'a>, Failure<DataFault>>
         ensures exact { Gives {Y = List Subset × List Bool} (λ subsets. (subsets, left reader.new))
             result (subsets_in self.old compressed count (left reader.old)) }
         ensures octets { reader.new.octets ≡ reader.old.octets }

@@ -1,9 +1,12 @@
-//! The bits that subsets stand in, plain and compressed.
+//! Reads and writes the data bits of subsets, plain and compressed. A refused call leaves readers
+//! and sinks unchanged. Every call that allocates can return `OutOfMemory`.
 #![tactic(auto)]
 
 mod compressed;
 mod data_template;
+mod descriptor_list;
 mod fields;
+mod kept_templates;
 pub mod laws;
 mod plain;
 mod subset_index;
@@ -13,16 +16,19 @@ mod worked_missing;
 mod worked_refusals;
 mod worked_values;
 
+pub use bufr_base::{Failure, Items, OutOfMemory};
 pub use bufr_expand::Asks;
 pub use bufr_fields::{
-    Decimal, Field, MOST_DECIMAL_SCALE, MOST_INCREMENT_BITS, MOST_RAW_BITS, MOST_VALUES,
-    NumberField, Raw, ReadFault, Subset, WriteFault,
+    DataFault, Decimal, Field, MOST_DECIMAL_SCALE, MOST_INCREMENT_BITS, MOST_RAW_BITS, MOST_VALUES,
+    MisfitFault, NumberField, Raw, Subset,
 };
 pub use compressed::index::Columns;
 pub use compressed::read::read_compressed;
 pub use compressed::write::write_compressed;
 pub use data_template::DataTemplate;
+pub use descriptor_list::DescriptorList;
 pub use fields::Fields;
+pub use kept_templates::{Kept, KeptTemplates, MOST_KEPT, bring_to_front};
 pub use plain::laid_fields::LaidFields;
 pub use plain::read::read_plain;
 pub use plain::write::write_plain;

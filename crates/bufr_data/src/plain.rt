@@ -1,4 +1,4 @@
-//! Plain data: the subsets stand one after the other, bit by bit.
+//! Plain data: one subset after another, bit by bit.
 
 pub(crate) mod alike;
 pub(crate) mod copy;

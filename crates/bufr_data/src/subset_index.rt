@@ -1,10 +1,10 @@
-//! The subsets of a message, plain or compressed, one at a time.
+//! Finds the subsets of a message.
 
-ghost use Rattle.std.specs.Prelude.{◌≡◌, ◌-◌, ◌≤◌, length, slice_get, Bool, List, Some, IfOk};
+ghost use Rattle.std.specs.Prelude.{◌≡◌, ◌<◌, length, slice_get, Bool, List, Some, IfOk};
 ghost use Rattle.std.specs.Prelude.{◌++◌, IfSome, OnErr, OnOk};
 ghost use Rattle.bufr_bits.specs.Bits.{bits};
 ghost use Rattle.bufr_bits.specs.Ends.{left};
-ghost use Rattle.bufr_answers.specs.Answers.{Gives};
+ghost use Rattle.bufr_base.specs.Answers.{Gives};
 ghost use Rattle.bufr_fields.specs.declared.field.Subset.{Subset};
 ghost use Rattle.bufr_data.specs.Data.{subsets_in};
 ghost use Rattle.bufr_data.specs.Plain.{plain};
@@ -15,27 +15,27 @@ ghost use Rattle.bufr_data.specs.Subsets.{Extends, filled};
 
 use crate::compressed::index::Columns;
 use crate::fields::Fields;
-use crate::plain::alike::{Alike, Likeness};
+use crate::plain::alike::{Alike, FixedSize};
 use crate::plain::copy::{copy_bits, lent_octets};
 use crate::plain::index::{PlainSubsets, starts_of};
 use crate::plain::layout::Layout;
-use bufr_answers::{Failure, OutOfMemory};
+use bufr_base::{Failure, OutOfMemory};
 use bufr_bits::{BitReader, BitSink};
 use bufr_expand::Template;
-use bufr_fields::{ReadFault, Subset};
+use bufr_fields::{DataFault, Subset};
 use std::alloc::Global;
 use std::marker::Model;
 use std::rc::Rc;
 
-/// Where the subsets stand, plain or compressed.
+/// An index of data, plain or compressed.
 #[derive(Debug, Drop)]
 pub(crate) enum DataIndex<'a> {
     Plain(PlainSubsets<'a>),
     Compressed(Columns<'a>),
 }
 
-/// The subsets of a message, plain or compressed, none of which is built before it is asked for. It
-/// borrows the octets. Contracts see the list of the subsets.
+/// An index of the subsets in some octets, each built on request. Contracts see the list of
+/// subsets.
 #[derive(Debug, Drop)]
 pub struct SubsetIndex<'a> {
     standing: DataIndex<'a>,
@@ -52,25 +52,22 @@ impl<'a> Model for SubsetIndex<'a> {
 }
 
 impl<'a> SubsetIndex<'a> {
-    /// The subsets of a message: so many, whose data the bits begin with, plain or compressed. The
-    /// reader moves past exactly their data; on an error it stays where it is. It is refused as
-    /// `read_subsets` is. Plain data are walked once, where the template asks for a count, and else
-    /// passed by the bits that each subset has; compressed data are walked column by column.
-    /// `OutOfMemory` where a growth was refused; the template is gone after an error.
+    /// Indexes `count` subsets and moves the reader past them, or returns the first fault like
+    /// `read_subsets`. The template is gone after an error.
     pub fn index(
         alloc: Global,
         template: Template,
         compressed: bool,
         reader: &mut BitReader<'a>,
         count: u16,
-    ) -> Result<SubsetIndex<'a>, Failure<ReadFault>>
+    ) -> Result<SubsetIndex<'a>, Failure<DataFault>>
         ensures exact { Gives {Y = List Subset × List Bool} (λ subsets. (subsets, left reader.new))
             result (subsets_in template compressed count (left reader.old)) }
         ensures octets { reader.new.octets ≡ reader.old.octets }
         ensures err { OnErr result (reader.new ≡ reader.old) }
     {
-        // One plain subset alone is passed as fast field by field.
-        let mut likeness = Likeness::Unasked;
+        // For one plain subset, finding the common size costs as much as passing it.
+        let mut likeness = FixedSize::Unasked;
         let alike = if compressed || count < 2 {
             None
         } else {
@@ -79,7 +76,7 @@ impl<'a> SubsetIndex<'a> {
         index_known(alloc, template, alike, None, compressed, reader, count)
     }
 
-    /// How many subsets there are.
+    /// Returns the number of subsets.
     pub fn count(&self) -> usize
         ensures { result ≡ length self.now }
     {
@@ -89,84 +86,75 @@ impl<'a> SubsetIndex<'a> {
         }
     }
 
-    /// The subset of this number, from 1, which is built anew. `OutOfMemory` where a growth was
-    /// refused.
-    pub fn subset(&self, alloc: Global, number: usize) -> Result<Subset, OutOfMemory>
-        requires first { 1 ≤ number }
-        requires last { number ≤ length self.now }
-        ensures { IfOk result (λ s. slice_get self.now (number - 1) ≡ Some s) }
+    /// Builds the subset at an index, from 0.
+    pub fn subset(&self, alloc: Global, index: usize) -> Result<Subset, OutOfMemory>
+        requires { index < length self.now }
+        ensures { IfOk result (λ s. slice_get self.now index ≡ Some s) }
     {
-        let fields = self.fields(alloc, number)?.rest(alloc)?;
+        let fields = self.fields(alloc, index)?.rest(alloc)?;
         Ok(Subset { fields })
     }
 
-    /// The fields of the subset of this number, from 1, one at a time. `OutOfMemory` where a growth
-    /// was refused.
-    pub fn fields(&self, alloc: Global, number: usize) -> Result<Fields<'_>, OutOfMemory>
-        requires first { 1 ≤ number }
-        requires last { number ≤ length self.now }
+    /// Returns the fields of the subset at an index, from 0.
+    pub fn fields(&self, alloc: Global, index: usize) -> Result<Fields<'_>, OutOfMemory>
+        requires { index < length self.now }
         ensures { IfOk result (λ fields.
-            slice_get self.now (number - 1) ≡ Some (record { fields = fields })) }
+            slice_get self.now index ≡ Some (record { fields = fields })) }
     {
         match &self.standing {
-            DataIndex::Plain(subsets) => subsets.fields(alloc, number),
+            DataIndex::Plain(subsets) => subsets.fields(alloc, index),
             DataIndex::Compressed(columns) => {
                 let _count = columns.count();
-                Ok(columns.fields(number as u16))
+                Ok(columns.fields(index as u16))
             }
         }
     }
 
-    /// Puts the bits of the subset of this number, from 1, at a sink's end, as plain data have
-    /// them. Of plain data they are copied as they stand, and no field is built; of compressed data
-    /// one field at a time is built. `OutOfMemory` where a growth was refused; nothing is then put.
-    pub fn put(&self, alloc: Global, number: usize, sink: &mut BitSink) -> Result<(), OutOfMemory>
-        requires first { 1 ≤ number }
-        requires last { number ≤ length self.now }
-        ensures put { IfSome (slice_get self.now (number - 1)) (λ s.
+    /// Appends the bits of the subset at an index, from 0, as plain data. It copies plain bits as
+    /// they are.
+    pub fn put(&self, alloc: Global, index: usize, sink: &mut BitSink) -> Result<(), OutOfMemory>
+        requires { index < length self.now }
+        ensures put { IfSome (slice_get self.now index) (λ s.
             OnOk result (sink.new ≡ sink.old ++ plain s.fields)) }
         ensures err { OnErr result (sink.new ≡ sink.old) }
     {
         let len = sink.len_bits();
-        let answer = self.put_bits(alloc, number, sink);
+        let answer = self.put_bits(alloc, index, sink);
         if answer.is_err() {
             sink.cut(len);
         }
         answer
     }
 
-    /// The same, but that some of the bits may be put where a growth was refused.
-    fn put_bits(&self, alloc: Global, number: usize, sink: &mut BitSink) -> Result<(), OutOfMemory>
-        requires first { 1 ≤ number }
-        requires last { number ≤ length self.now }
-        ensures put { IfSome (slice_get self.now (number - 1)) (λ s.
+    /// Appends the bits, or a part of them if memory runs out.
+    fn put_bits(&self, alloc: Global, index: usize, sink: &mut BitSink) -> Result<(), OutOfMemory>
+        requires { index < length self.now }
+        ensures put { IfSome (slice_get self.now index) (λ s.
             OnOk result (sink.new ≡ sink.old ++ plain s.fields)) }
         ensures kept { Extends sink.old sink.new }
     {
         match &self.standing {
             DataIndex::Plain(subsets) => {
-                let start = subsets.starts.at(number);
+                let start = subsets.starts.at(index);
                 copy_bits(subsets.octets, start.bit, start.end, sink)
             }
             DataIndex::Compressed(columns) => {
                 let _count = columns.count();
-                columns.put(alloc, number as u16, sink)
+                columns.put(alloc, index as u16, sink)
             }
         }
     }
 
-    /// The octets that the bits of the subset of this number, from 1, as plain data have them, are
-    /// with zero bits behind them to an octet's end, where they stand so in the message: else they
-    /// have to be put. No memory is taken.
-    pub fn lent(&self, number: usize) -> Option<&'a [u8]>
-        requires first { 1 ≤ number }
-        requires last { number ≤ length self.now }
-        ensures { IfSome result (λ lent. IfSome (slice_get self.now (number - 1)) (λ s.
+    /// Lends the octets of the plain subset at an index, from 0, if it begins with an octet and
+    /// zero bits follow. Else use `put`.
+    pub fn lent(&self, index: usize) -> Option<&'a [u8]>
+        requires { index < length self.now }
+        ensures { IfSome result (λ lent. IfSome (slice_get self.now index) (λ s.
             bits lent.now ≡ filled (plain s.fields))) }
     {
         match &self.standing {
             DataIndex::Plain(subsets) => {
-                let start = subsets.starts.at(number);
+                let start = subsets.starts.at(index);
                 lent_octets(subsets.octets, start.bit, start.end)
             }
             DataIndex::Compressed(_) => None,
@@ -174,8 +162,7 @@ impl<'a> SubsetIndex<'a> {
     }
 }
 
-/// The index of so many subsets, whose data the bits begin with, where it may be known what each
-/// plain subset has, and which fields these are. On an error the reader stays where it is.
+/// Indexes `count` subsets, given their common size and layout if known.
 pub(crate) fn index_known<'a>(
     alloc: Global,
     template: Template,
@@ -184,7 +171,7 @@ pub(crate) fn index_known<'a>(
     compressed: bool,
     reader: &mut BitReader<'a>,
     count: u16,
-) -> Result<SubsetIndex<'a>, Failure<ReadFault>>
+) -> Result<SubsetIndex<'a>, Failure<DataFault>>
     requires known { IfSome alike (IsAlike template) }
     requires laid { IfSome layout (λ l. IsLaid template l.value) }
     ensures exact { Gives {Y = List Subset × List Bool} (λ subsets. (subsets, left reader.new))

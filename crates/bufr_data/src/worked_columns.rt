@@ -1,4 +1,4 @@
-//! Worked examples of compressed data.
+//! Worked values of compressed data.
 
 ghost use Rattle.std.specs.Prelude.{◌≡◌, ◌∷◌, ◌++◌, ◌-◌, ◌^◌, [], true, false, take, replicate, Ok};
 ghost use Rattle.std.specs.Prelude.{Err, map};
@@ -10,13 +10,13 @@ ghost use Rattle.bufr_fields.specs.Limits.{most_values, most_increment_bits};
 ghost use Rattle.bufr_data.specs.Samples.{sample_course, sample_raws, recompressed, number_spec};
 ghost use Rattle.bufr_data.specs.Samples.{text_spec, sample_tree};
 ghost use Rattle.bufr_fields.specs.Samples.{spec_of, number_kinds};
-ghost use Rattle.bufr_answers.specs.Answers.{result_map};
+ghost use Rattle.bufr_base.specs.Answers.{result_map};
 ghost use Rattle.bufr_data.specs.Data.{subsets_in};
 
-use bufr_fields::{Raw, ReadFault, WriteFault};
+use bufr_fields::{DataFault, MisfitFault, Raw};
 use bufr_tables::Kind;
 
-/// Columns that are read: increments, a missing value, and texts that are filled or missing.
+/// Reading columns: increments, a missing value, and texts that are filled or missing.
 #[tactic(auto, unfolding(crate::proofs::OnLiterals::columns_on_literals))]
 pub fn columns_of_octets()
     ensures pair { sample_raws (descriptor 3 1 1 ∷ descriptor 3 1 11 ∷ descriptor 3 1 12
@@ -45,35 +45,35 @@ pub fn columns_of_octets()
         ∷ []) }
 {}
 
-/// First faults of columns: the order at one field, and the limit on values.
+/// First faults of columns: their order at one field, and the limit on values.
 #[tactic(auto, unfolding(crate::proofs::OnLiterals::columns_on_literals))]
 pub fn columns_refused()
     ensures passes { sample_raws (descriptor 0 2 1 ∷ []) true 2 (0x82 ∷ 0x80 ∷ [])
-        ≡ Err (ReadFault.IncrementRange 1 1) }
+        ≡ Err (DataFault.IncrementRange 1 1) }
     ensures second_passes { sample_raws (descriptor 0 2 1 ∷ []) true 2 (0x82 ∷ 0x20 ∷ [])
-        ≡ Err (ReadFault.IncrementRange 2 1) }
+        ≡ Err (DataFault.IncrementRange 2 1) }
     ensures ends_before { sample_raws (descriptor 0 2 1 ∷ []) true 5 (0x82 ∷ 0x80 ∷ [])
-        ≡ Err (ReadFault.DataEnds 0 1) }
+        ≡ Err (DataFault.DataEnds 0 1) }
     ensures wide_text { sample_raws (descriptor 2 8 1 ∷ descriptor 0 1 11 ∷ []) true 2
-        (0x00 ∷ 0x08 ∷ 0x00 ∷ 0x00 ∷ 0x00 ∷ 0x00 ∷ []) ≡ Err (ReadFault.CharIncrement 1) }
+        (0x00 ∷ 0x08 ∷ 0x00 ∷ 0x00 ∷ 0x00 ∷ 0x00 ∷ []) ≡ Err (DataFault.CharIncrement 1) }
     ensures wide_before_end { sample_raws (descriptor 2 8 1 ∷ descriptor 0 1 11 ∷ []) true 2
-        (0x00 ∷ 0x08 ∷ []) ≡ Err (ReadFault.CharIncrement 1) }
+        (0x00 ∷ 0x08 ∷ []) ≡ Err (DataFault.CharIncrement 1) }
     ensures no_width { sample_raws (descriptor 2 8 1 ∷ descriptor 0 1 11 ∷ []) true 2 (0x00 ∷ [])
-        ≡ Err (ReadFault.DataEnds 0 1) }
+        ≡ Err (DataFault.DataEnds 0 1) }
     ensures unequal { sample_raws (descriptor 1 1 0 ∷ descriptor 0 31 1 ∷ descriptor 0 12 101 ∷ [])
-        true 2 (0x00 ∷ 0x08 ∷ 0x40 ∷ []) ≡ Err (ReadFault.UnequalCounts 1) }
+        true 2 (0x00 ∷ 0x08 ∷ 0x40 ∷ []) ≡ Err (DataFault.UnequalCounts 1) }
     ensures values { most_values ≡ 67108864 }
     ensures many_values { columns_at 65535 1025 (sample_course (descriptor 0 12 101 ∷ []) 0) []
-        ≡ Err ReadFault.TooLarge }
+        ≡ Err DataFault.TooLarge }
     ensures fewer_values { columns_at 65535 1024 (sample_course (descriptor 0 12 101 ∷ []) 0) []
-        ≡ Err (ReadFault.DataEnds 0 1024) }
+        ≡ Err (DataFault.DataEnds 0 1024) }
     ensures at_limit { columns_at 2 33554432 (sample_course (descriptor 0 12 101 ∷ []) 0) []
-        ≡ Err (ReadFault.DataEnds 0 33554432) }
+        ≡ Err (DataFault.DataEnds 0 33554432) }
     ensures past_limit { columns_at 2 33554433 (sample_course (descriptor 0 12 101 ∷ []) 0) []
-        ≡ Err ReadFault.TooLarge }
+        ≡ Err DataFault.TooLarge }
 {}
 
-/// Columns that are written.
+/// Writing columns.
 #[tactic(auto, unfolding(crate::proofs::OnLiterals::columns_on_literals))]
 pub fn columns_written()
     ensures pair { recompressed (descriptor 3 1 1 ∷ descriptor 3 1 11 ∷ descriptor 3 1 12
@@ -93,7 +93,7 @@ pub fn columns_written()
         ++ bits (65 ∷ 32 ∷ 66 ∷ 32 ∷ [])) }
     ensures counts_differ { recompressed
         (descriptor 1 1 0 ∷ descriptor 0 31 1 ∷ descriptor 0 12 101 ∷ []) false 2
-        (0x00 ∷ 0x01 ∷ 0x6A ∷ 0xB3 ∷ []) ≡ Err (WriteFault.NotCompressible 1) }
+        (0x00 ∷ 0x01 ∷ 0x6A ∷ 0xB3 ∷ []) ≡ Err (MisfitFault.NotCompressible 1) }
     ensures no_subset { recompressed (descriptor 0 12 101 ∷ []) true 0 [] ≡ Ok [] }
     ensures greatest_width { best (number_spec 63) (Raw.Number 0 ∷ Raw.Number (2 ^ 63 - 2) ∷ [])
         ≡ bin 63 0 ++ bin 6 63 ++ bin 63 0 ++ bin 63 (2 ^ 63 - 2) }

@@ -1,4 +1,4 @@
-//! Worked examples of missing values: by kind, by width, plain and compressed.
+//! Worked values of missing values, by kind and width, plain and compressed.
 
 ghost use Rattle.std.specs.Prelude.{◌≡◌, ◌∷◌, ◌++◌, [], true, false, Ok, codes, map, Some, None};
 ghost use Rattle.std.specs.Prelude.{replicate};
@@ -13,8 +13,8 @@ ghost use Rattle.bufr_data.specs.Samples.{sample_raws, sample_missing, sample_te
 use bufr_fields::Raw;
 use bufr_tables::Kind;
 
-/// R0 and an increment: their sum, also where it is all ones; all ones where the increment is; and
-/// nothing past the field's greatest number.
+/// R0 and an increment: their sum, even if all ones; all ones if the increment is; no sum above the
+/// greatest number.
 #[tactic(auto, unfolding(crate::proofs::OnLiterals::columns_on_literals))]
 pub fn numbers_of_increments()
     ensures sum { raised 8 200 6 5 ≡ Some (Raw.Number 205) }
@@ -34,8 +34,8 @@ pub fn numbers_of_increments()
     ensures most_bits { raised 63 1 63 9223372036854775806 ≡ Some (Raw.Number 9223372036854775807) }
 {}
 
-/// Columns of each kind of number: R0 1 and increments of two bits, of which the first makes all
-/// ones; and the best column of a missing value and another.
+/// Columns of each kind: R0 1 with increments of two bits, and the best column with a missing
+/// value.
 #[tactic(auto, unfolding(crate::proofs::OnLiterals::columns_on_literals))]
 pub fn columns_by_kind()
     ensures sum_of_ones { map (λ k. column_at 2 1 (spec_of k 2) (bits (0x42 ∷ 0x80 ∷ [])))
@@ -53,8 +53,7 @@ pub fn columns_by_kind()
         number_kinds ≡ replicate 4 (bin 2 3 ++ bin 6 0) }
 {}
 
-/// The same in data: whether the sum of R0 and an increment is missing, and the values of a field
-/// of one bit.
+/// Data with a sum of all ones, and a field of one bit.
 #[tactic(auto, unfolding(crate::proofs::OnLiterals::columns_on_literals, crate::proofs::OnLiterals::decimals_on_literals))]
 pub fn missing_in_data()
     ensures sum_of_ones { sample_missing (descriptor 0 2 1 ∷ []) true 2 (0x42 ∷ 0x80 ∷ [])
@@ -69,8 +68,8 @@ pub fn missing_in_data()
         false 1 (0xE0 ∷ []) ≡ Ok ((Some (codes "1") ∷ None ∷ []) ∷ []) }
 {}
 
-/// Texts of a column: filled with spaces behind their octets, and missing where all octets are 255;
-/// R0 says nothing where there are increments.
+/// Texts filled with spaces, or missing if all octets are 255; R0 does not matter beside
+/// increments.
 #[tactic(auto, unfolding(crate::proofs::OnLiterals::columns_on_literals))]
 pub fn texts_of_columns()
     ensures one_short { filled 3 (65 ∷ 66 ∷ []) ≡ Raw.Text (65 ∷ 66 ∷ 32 ∷ []) }

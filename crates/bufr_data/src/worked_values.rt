@@ -1,4 +1,4 @@
-//! Worked examples of the definitions.
+//! Worked values of the definitions.
 
 ghost use Rattle.std.specs.Prelude.{◌≡◌, ◌∷◌, [], Ok, Err, codes, map, Some, None, true, false};
 ghost use Rattle.std.specs.Prelude.{replicate, is_some};
@@ -8,7 +8,7 @@ ghost use Rattle.bufr_data.specs.Plain.{fields_at, raw_at};
 ghost use Rattle.bufr_data.specs.Samples.{sample_course, raws, sample_raws, sample_texts};
 ghost use Rattle.bufr_fields.specs.Samples.{spec_of, number_kinds};
 
-use bufr_fields::{Raw, ReadFault};
+use bufr_fields::{DataFault, Raw};
 use bufr_tables::Kind;
 
 /// Plain data: sequences, a count of one, operators, a local descriptor, and data that end.
@@ -36,15 +36,15 @@ pub fn plain_data()
     ensures characters { sample_raws (descriptor 2 8 10 ∷ descriptor 2 5 4 ∷ []) false 1
         (65 ∷ 66 ∷ 67 ∷ 68 ∷ []) ≡ Ok ((Raw.Text (65 ∷ 66 ∷ 67 ∷ 68 ∷ []) ∷ []) ∷ []) }
     ensures characters_end { sample_raws (descriptor 2 8 10 ∷ descriptor 2 5 4 ∷ []) false 1
-        (65 ∷ 66 ∷ 67 ∷ []) ≡ Err (ReadFault.DataEnds 1 1) }
+        (65 ∷ 66 ∷ 67 ∷ []) ≡ Err (DataFault.DataEnds 1 1) }
     ensures ends { fields_at 1 1 (sample_course
         (descriptor 3 1 1 ∷ descriptor 3 1 11 ∷ descriptor 3 1 12 ∷ descriptor 0 12 101 ∷ []) 0)
         (bits (0x14 ∷ 0xC0 ∷ 0x3F ∷ 0x40 ∷ 0x9E ∷ 0xC0 ∷ 0x1A ∷ 0xAC ∷ []))
-        ≡ Err (ReadFault.DataEnds 1 8) }
+        ≡ Err (DataFault.DataEnds 1 8) }
 {}
 
-/// Raw values by kind: numbers of code tables, flag tables, quantities and factors, in this order,
-/// and texts of whole octets; a number has 64 bits at most.
+/// Raw values that fit: of code tables, flag tables, quantities and factors, in this order, and
+/// texts.
 #[tactic(auto, unfolding(crate::proofs::OnLiterals::columns_on_literals))]
 pub fn raw_values_by_kind()
     ensures numbers { map (λ k. raw_at (spec_of k 12) (bits (0x41 ∷ 0x42 ∷ []))) number_kinds

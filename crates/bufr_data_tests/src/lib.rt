@@ -1,4 +1,4 @@
-//! Tests of the public calls of bufr_data. It has tests only.
+//! Tests of the public calls of bufr_data.
 #![tactic(auto)]
 
 #[cfg(test)]

@@ -1,10 +1,10 @@
 -- What the loop of `add_listed` over the messages of a text keeps, and what it answers at each of its
 -- ends: for the contract of `run_encode`.
 use Rattle.std.proofs.Common.{◌≡◌, ℕ, ◌+◌, ◌≤◌, Bool, List, [], ◌∷◌, ◌++◌, length, Result, Ok, Err}
-use Rattle.std.proofs.Common.{refl, sym, ap, ap₂, ◌∙◌, subst, arith, IsErrAnd}
+use Rattle.std.proofs.Common.{refl, sym, ap, ap₂, ◌∙◌, subst, arith}
 use Rattle.std.proofs.lemmas.List.{append-nil, flat_map_more, length_push, map-append}
-use Rattle.bufr_answers.specs.Answers.{Fails}
-use Rattle.bufr_answers.specs.declared.failure.Failure.{Failure}
+use Rattle.bufr_base.specs.Answers.{Fails}
+use Rattle.bufr_base.specs.declared.failure.Failure.{Failure}
 use Rattle.bufr_tables.specs.Entries.{Entries}
 use Rattle.bufr_message.specs.declared.EncodeFault.{EncodeFault}
 use Rattle.bufr_message.specs.declared.Message.{Message}
@@ -15,12 +15,6 @@ use Rattle.bufr_io.specs.declared.fault.ToolFault.{ToolFault}
 use Rattle.bufr_io.specs.declared.fault.ToolFault.TheVariants as faults
 use Rattle.bufr_engines.specs.Encoding.{AreEncodings, EncodesListing, ReadsMessage, TellsFault}
 use Rattle.bufr_engines.specs.Encoding.{code_as_asked}
-
--- an error that is passed up as it is
-pub passed : {A F : Type 0} (P : Result A F → Type 0) (r : Result A F) (e : F)
-    → IsErrAnd r (λ y. y ≡ e) → P (Err e) → P r
-passed P (Ok x) e is p = absurd is
-passed P (Err y) e is p = subst (λ z. P (Err z)) (sym is) p
 
 -- the encodings of messages, and that of one more
 pub encodings_more : (tables : Entries) (compressed : Bool) (messages : List Message) (m : Message)

@@ -7,6 +7,12 @@ mod PartFacts
 mod PrintingFacts
 mod StreamFacts
 mod EngineFacts
-mod LoadFacts
 mod OnLiterals
 pub mod EncodingFacts
+pub mod FrameFacts
+pub mod AddedFacts
+pub mod CollectFacts
+pub mod LawFacts
+pub mod HandOnFacts
+pub mod WayFacts
+pub mod StackFacts

@@ -1,5 +1,5 @@
 -- Whole lines: what is printed of a frame is some, and so is what of it was written when memory ran
--- out. The contracts of `print_fields`, `show_judged`, `print_message` and all above need it, and so those of
+-- out. The contracts of `print_fields`, `show_frame`, `print_message` and all above need it, and so those of
 -- `run_show` and `run_check`.
 use Rattle.std.proofs.Common.{◌≡◌, ℕ, false, inl, inr, List, [], ◌∷◌, ◌++◌, codes, decimal, length}
 use Rattle.std.proofs.Common.{Result, Ok, Err, refl, sym, ap, ◌∙◌, subst}

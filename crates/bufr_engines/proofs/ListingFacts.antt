@@ -77,13 +77,11 @@ one_more f xs i x before below at =
     ∙ sym (flat_map_more f before (take i xs) x)
 
 -- the lines of one subset more
-listed_more : (m : Message) (i : ℕ) (s : Subset) → slice_get m.subsets (i + 1 - 1) ≡ Some s
+listed_more : (m : Message) (i : ℕ) (s : Subset) → slice_get m.subsets i ≡ Some s
     → listed m (i + 1) ≡ listed m i ++ joined (subset_lines s)
 listed_more m i s at =
-    let back : i ≡ i + 1 - 1 = omega arith in
-    let here = ap (slice_get m.subsets) back ∙ at in
     one_more (λ s. joined (subset_lines s)) m.subsets i s (heading_text m)
-    (slice_get_within m.subsets i s here) here
+    (slice_get_within m.subsets i s at) at
 
 -- the lines before the first subset are held behind those that were
 pub heading_added : (m : Message) (p : Printer) (held : List ℕ) (w : Writing)
@@ -124,7 +122,7 @@ subset_few m listed i s q p' mid last done at added =
 
 -- the lines of one subset more were added
 pub subset_more : (m : Message) (i : ℕ) (s : Subset) (p q p' : Printer) (first mid last : Writing)
-    (done : Unit {0}) → slice_get m.subsets (i + 1 - 1) ≡ Some s
+    (done : Unit {0}) → slice_get m.subsets i ≡ Some s
     → WritesAllBut q.held.items (p.held.items ++ listed m i) p.written q.written
     first mid
     → Adds (joined (subset_lines s)) q p' mid last (Ok done)
@@ -140,7 +138,7 @@ subset_more m i s p q p' first mid last done at w a =
 
 -- or adding them stopped
 pub subset_stopped : (m : Message) (i : ℕ) (s : Subset) (p q p' : Printer)
-    (first mid last : Writing) (e : ToolFault) → slice_get m.subsets (i + 1 - 1) ≡ Some s
+    (first mid last : Writing) (e : ToolFault) → slice_get m.subsets i ≡ Some s
     → IsJoined m
     → WritesAllBut q.held.items (p.held.items ++ listed m i) p.written q.written
     first mid

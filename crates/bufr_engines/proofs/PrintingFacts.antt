@@ -3,15 +3,11 @@
 use Rattle.std.proofs.Common.{◌≡◌, ℕ, ◌+◌, ◌*◌, ◌^◌, ◌<◌, ◌≤◌, false, inl, List, []}
 use Rattle.std.proofs.Common.{◌∷◌, ◌++◌, length}
 use Rattle.std.proofs.Common.{Result, Ok, Err, refl, sym, ap, ◌∙◌, subst, arith}
-use Rattle.std.proofs.Common.{length-append, IsErrAnd}
+use Rattle.std.proofs.Common.{length-append}
 use Rattle.std.specs.List.{sum_by, slice_index_or}
 use Rattle.std.proofs.lemmas.List.{append-nil, flat_map_more}
 use Rattle.std.proofs.lemmas.List.Sums.{sum_by_push, sum_by-le}
 use Rattle.std.proofs.lemmas.Grind.{flat_map-append}
-use Rattle.std.specs.Result.{is_err}
-use Rattle.std.specs.Int.{from_bool}
-use Rattle.bufr_answers.specs.declared.failure.Failure.{Failure}
-use Rattle.bufr_answers.specs.declared.failure.Failure.TheVariants.{Fault, OutOfMemory}
 use Rattle.bufr_bits.specs.Devices.{Writing}
 use Rattle.bufr_tables.specs.Entries.{Entries}
 use Rattle.bufr_frame.specs.declared.frames.Found.{Found}
@@ -26,7 +22,7 @@ use Rattle.bufr_io.specs.Engines.{FailsAfter}
 use Rattle.bufr_engines.specs.Refusals.{frame_refused, refused_as}
 use Rattle.bufr_engines.specs.Output.{frame_text, frames_text}
 use Rattle.bufr_engines.specs.StreamEngines.{Fits, HasPrinted, Keeps, PrintsFrame}
-use Rattle.bufr_engines.specs.StreamEngines.{StopsWithin, Tells, WritesAllBut, WritesHeld, WritesPart}
+use Rattle.bufr_engines.specs.StreamEngines.{StopsWithin, WritesAllBut, WritesHeld, WritesPart}
 use Rattle.bufr_engines.proofs.LineFacts.{frame_whole}
 use Rattle.bufr_engines.proofs.PartFacts.{adds_written, but_all, counted_all, held_less}
 use Rattle.bufr_engines.proofs.PartFacts.{held_more, held_none, some_all, within_more}
@@ -179,13 +175,13 @@ fails_further printing tables first now frames more written h =
     (fails_longer first now _ _ written h)
 
 -- the sum of how many are refused is at most how many there are
-refused_few : (f : Found → ℕ) (frames : List Found) → ((x : Found) → f x ≤ 1)
+pub refused_few : (f : Found → ℕ) (frames : List Found) → ((x : Found) → f x ≤ 1)
     → sum_by f frames ≤ length frames
 refused_few f frames most =
     omega (arith, sum_by-le f 1 frames (λ k d lt. most (slice_index_or frames k d)))
 
 -- how many are refused of a frame is at most one
-refused_one : (tables : Entries) (frame : Found) → frame_refused tables frame ≤ 1
+pub refused_one : (tables : Entries) (frame : Found) → frame_refused tables frame ≤ 1
 refused_one tables frame =
     elim (message_of tables frame.bytes) as (λ (r : Result Decoded Refused). refused_as r ≤ 1)
     [ Ok found ↦ omega arith | Err why ↦ omega arith ]
@@ -197,19 +193,6 @@ pub refused_at_most : (printing : Printing) (tables : Entries) (first now : Writ
 refused_at_most printing tables first now p frames h =
     let a = h.refused_are in let b = h.frames_are in
     omega (arith, refused_few (frame_refused tables) frames (refused_one tables))
-
--- it is one where the frame was judged to spell no message
-pub refused_told : (judged : Result Decoded (Failure Refused)) (found : Result Decoded Refused)
-    → Tells judged found → from_bool (is_err judged) ≡ refused_as found
-refused_told (Ok d) found so = sym (ap refused_as so)
-refused_told (Err (Fault why)) found so = sym (ap refused_as so)
-refused_told (Err OutOfMemory) found so = absurd so
-
--- an error that is passed up as it is
-pub passed : {A F : Type 0} (P : Result A F → Type 0) (r : Result A F) (e : F)
-    → IsErrAnd r (λ y. y ≡ e) → P (Err e) → P r
-passed P (Ok x) e is p = absurd is
-passed P (Err y) e is p = subst (λ z. P (Err z)) (sym is) p
 
 -- what printing answers that stopped at a frame behind others
 pub stopped : (printing : Printing) (tables : Entries) (first mid now : Writing)

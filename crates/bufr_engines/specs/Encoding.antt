@@ -2,8 +2,8 @@
 use Rattle.std.specs.Prelude.{◌≡◌, ℕ, ◌+◌, Bool, ◌||◌, List, ◌∷◌, ◌++◌, length, map}
 use Rattle.std.specs.Prelude.{Option, Some, None, Result, Ok, Err}
 use Rattle.std.specs.List.{flat_map}
-use Rattle.bufr_answers.specs.declared.failure.Failure.{Failure}
-use Rattle.bufr_answers.specs.declared.failure.Failure.TheVariants.{Fault}
+use Rattle.bufr_base.specs.declared.failure.Failure.{Failure}
+use Rattle.bufr_base.specs.declared.failure.Failure.TheVariants.{Fault}
 use Rattle.bufr_bits.specs.Devices.{Reading, Writing}
 use Rattle.bufr_tables.specs.Entries.{Entries}
 use Rattle.bufr_message.specs.Encodings.{code}

@@ -2,7 +2,12 @@ pub mod Refusals
 pub mod ShortListings
 pub mod Output
 pub mod Lines
-pub mod Loads
 pub mod StreamEngines
 pub mod Samples
 pub mod Encoding
+pub mod Collected
+pub mod Collects
+pub mod Adds
+pub mod Laws
+pub mod Parts
+pub mod Stacks

@@ -1,14 +1,10 @@
 -- What the engines over the frames of a stream answer and do.
 use Rattle.std.specs.Prelude.{◌≡◌, ℕ, ◌+◌, ◌*◌, ◌^◌, ◌≤◌, Bool, true, false, List, ◌++◌, length}
 use Rattle.std.specs.Prelude.{◌<◌, [], IfSome, Result, Ok, Err}
-use Rattle.bufr_answers.specs.declared.failure.Failure.{Failure}
-use Rattle.bufr_answers.specs.declared.failure.Failure.TheVariants.{Fault, OutOfMemory}
 use Rattle.bufr_bits.specs.Devices.{Reading, Writing}
 use Rattle.bufr_tables.specs.Entries.{Entries}
 use Rattle.bufr_frame.specs.declared.frames.Found.{Found}
 use Rattle.bufr_frame.specs.Streams.{cut, sure}
-use Rattle.bufr_message.specs.declared.Decoded.{Decoded}
-use Rattle.bufr_message.specs.declared.Refused.{Refused}
 use Rattle.bufr_engines.specs.declared.printer.Printer.{Printer}
 use Rattle.bufr_io.specs.declared.fault.Input.TheVariants.{Number}
 use Rattle.bufr_io.specs.declared.fault.Tally.{Tally}
@@ -140,12 +136,6 @@ pub record HasAdded (printing : Printing) (tables : Entries) (frame : Found) (p 
   pub refused : p'.refused ≡ p.refused + frame_refused tables frame
   pub octets : p'.octets ≡ p.octets + length frame.bytes
   pub short : length (frame_text printing tables frame) < 2 ^ 80
-
--- what a call answered that did not run out of memory: this message, or this fault
-abbrev pub Tells : Result Decoded (Failure Refused) → Result Decoded Refused → Type 0
-Tells (Ok found) meant = meant ≡ Ok found
-Tells (Err (Fault why)) meant = meant ≡ Err why
-Tells (Err OutOfMemory) meant = ⊥
 
 -- so it is, or printing it stopped
 abbrev pub PrintsFrame : Printing → Entries → Found → Printer → Printer → Writing → Writing

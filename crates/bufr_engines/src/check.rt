@@ -13,11 +13,10 @@ use bufr_io::{Tally, ToolFault};
 use bufr_tables::Tables;
 use std::alloc::Global;
 
-/// Writes a line for each frame of a reader's stream: its place, its length and whether it spells a
-/// message. The lines of the frames that a read makes sure are written before the next read. A last
-/// line counts the frames, those that are refused, and the octets outside frames; so does the tally.
-/// Where memory runs out, the lines so far are written; the fault is the writer's where it fails
-/// then.
+/// Writes a line for each frame of a stream: its place, its length and whether it spells a message. A
+/// last line counts the frames, the refused ones, and the octets outside frames. Before the next read
+/// it writes the lines of all frames that are sure. If memory runs out, it writes the lines until then; if
+/// the writer fails then, that is the fault.
 pub fn run_check<S: Source, W: Sink>(
     alloc: Global,
     reads: u64,

@@ -1,13 +1,13 @@
 //! The engine of `encode`.
 
 ghost use Rattle.std.specs.Prelude.{◌≡◌, ◌≤◌, ◌++◌, ℕ, List, [], false, IfErr, Ok, OnOk};
-ghost use Rattle.bufr_answers.specs.Answers.{Fails, Gives, result_map};
+ghost use Rattle.bufr_base.specs.Answers.{Fails, Gives, result_map};
 ghost use Rattle.bufr_io.specs.Engines.{IsFresh};
 ghost use Rattle.bufr_io.specs.Limits.{most_reads};
 ghost use Rattle.bufr_engines.specs.Encoding.{Encodes, EncodesListing, PassesAll, ReadsMessage};
 ghost use Rattle.bufr_engines.specs.Encoding.{TellsFault, code_as_asked};
 
-use bufr_answers::Failure;
+use bufr_base::Failure;
 use bufr_bits::{Sink, Source};
 use bufr_io::{Input, Tally, ToolFault, read_all, write_out};
 use bufr_listing_reader::Messages;
@@ -15,18 +15,16 @@ use bufr_message::{EncodeFault, KeptTemplates, Message, keep_and_encode};
 use bufr_tables::Tables;
 use std::alloc::Global;
 
-/// The octets of messages, one behind another, and how many messages these are.
+/// The octets of messages, joined, and the number of the messages.
 #[derive(Debug, Drop)]
 struct Encoded {
     octets: Vec<u8>,
     count: u128,
 }
 
-/// Writes the octets of each message that a reader's text lists, one behind another, each
-/// compressed where that is asked. The whole listing is read and all its messages are encoded
-/// before the first octet is written. The first fault of the listing is told before that of a
-/// message. The tally counts the messages. It holds the listing, the octets, one message at a time
-/// and a few templates.
+/// Writes the octets of each message of a listing, compressed if `compressed`. It reads the whole
+/// listing and encodes all messages before it writes the first octet. A fault of the listing comes
+/// before one of a message. It holds the listing, the octets and one message at a time.
 pub fn run_encode<S: Source, W: Sink>(
     alloc: Global,
     reads: u64,
@@ -53,8 +51,7 @@ pub fn run_encode<S: Source, W: Sink>(
     })
 }
 
-/// The octets of the messages that a text lists, one behind another, each compressed where that is
-/// asked. The templates of the last four lists of descriptors are kept meanwhile.
+/// Encodes the messages of a listing.
 fn octets_of(
     alloc: Global,
     tables: &Tables,
@@ -69,10 +66,9 @@ fn octets_of(
     Ok(Encoded { octets, count })
 }
 
-/// Adds the octets of the messages that a text lists, and answers how many messages these are. Each
-/// is encoded as soon as it is read, and then let go; its template is built neither to read nor to
-/// encode it where its list of descriptors is one of the last four. Once one has no encoding, the
-/// rest is read for a fault of the listing, which is told before that of the message.
+/// Adds the octets of the messages of a listing, and returns their number. It encodes each message
+/// before it reads the next. If a message has no encoding, it still reads the rest, since a fault of
+/// the listing comes first.
 fn add_listed(
     alloc: Global,
     tables: &Tables,
@@ -97,7 +93,7 @@ fn add_listed(
     Ok(count)
 }
 
-/// The next message of a listing.
+/// Reads the next message of a listing.
 fn next_of(alloc: Global, messages: &mut Messages<'_>) -> Result<Option<Message>, ToolFault>
     ensures { ReadsMessage messages.old messages.new result }
 {
@@ -108,8 +104,7 @@ fn next_of(alloc: Global, messages: &mut Messages<'_>) -> Result<Option<Message>
     }
 }
 
-/// What is told where the message of this number has no encoding: the fault of the listing behind
-/// it, and else its own.
+/// Returns the fault of the rest of a listing, or else that of a message without encoding.
 fn fault_of(
     alloc: Global,
     messages: Messages<'_>,
@@ -127,7 +122,7 @@ fn fault_of(
     }
 }
 
-/// Reads the messages that are left and lets them go.
+/// Reads the other messages and drops them.
 fn pass_all(alloc: Global, mut messages: Messages<'_>) -> Result<(), ToolFault>
     ensures { PassesAll messages.entry result }
 {
@@ -135,7 +130,7 @@ fn pass_all(alloc: Global, mut messages: Messages<'_>) -> Result<(), ToolFault>
     Ok(())
 }
 
-/// Adds the octets of a message, compressed too where that is asked.
+/// Adds the octets of a message.
 fn add_octets(
     alloc: Global,
     templates: &mut KeptTemplates<'_>,
@@ -155,7 +150,7 @@ fn add_octets(
     Ok(())
 }
 
-/// The octets of a message, compressed too where that is asked.
+/// Encodes a message, compressed if it is so or `compressed`.
 fn octets_as_asked(
     alloc: Global,
     templates: &mut KeptTemplates<'_>,

@@ -1,4 +1,4 @@
-//! Printing the frames of a stream as they are found.
+//! The frames of a stream, printed as they come.
 
 ghost use Rattle.std.specs.Prelude.{◌≡◌, ◌≤◌, ◌<◌, ◌^◌, ℕ, List, false, []};
 ghost use Rattle.bufr_bits.specs.Devices.{Writing};
@@ -16,9 +16,8 @@ use bufr_io::{Input, TakesFrames, Tally, ToolFault, room, take_stream, write_out
 use bufr_tables::Tables;
 use std::alloc::Global;
 
-/// A printer prints each frame that it takes in. The lines of the frames that a piece makes sure are
-/// written together, behind the piece. Where memory runs out they are written too, and the fault is
-/// the writer's where it fails then.
+/// A printer prints each frame. It writes the lines of a piece together, after the piece, or when
+/// memory runs out; if the writer fails then, that is the fault.
 impl<'t, W: Sink> TakesFrames<W> for Printer<'t> {
     ghost count = { λ printer writer. printer.frames };
 
@@ -55,8 +54,7 @@ impl<'t, W: Sink> TakesFrames<W> for Printer<'t> {
     ghost counts_each = { λ first self begin out frames h. h.counted };
 }
 
-/// Counts a stream of so many octets, all of whose frames were printed, prints what stands after
-/// them, and writes all that is held.
+/// Prints the last line after the frames of a stream of `fed` octets, and writes all lines.
 fn print_tally<W: Sink>(
     fed: u64,
     printer: &mut Printer<'_>,
@@ -87,9 +85,8 @@ fn print_tally<W: Sink>(
     Ok(tally)
 }
 
-/// Prints the frames of the stream of a reader, each as soon as it is sure, and what stands after
-/// them.
-pub fn print_stream<S: Source, W: Sink>(
+/// Prints the frames of a stream, each as soon as it is sure, and the last line.
+pub(crate) fn print_stream<S: Source, W: Sink>(
     alloc: Global,
     printing: Printing,
     reads: u64,

@@ -1,16 +1,22 @@
-//! The engines of `show`, `check` and `encode`, and the tables of two files, over any readers and writers.
+//! The engines: the work of each command, over any readers and writers.
 #![tactic(auto)]
 
+mod add;
 mod check;
 mod encode;
 mod frames;
+pub mod laws;
+mod merge;
+mod parts;
 mod printer;
 mod printing;
 mod show;
-mod tables;
+mod streams;
+mod text_stack;
 mod worked_values;
 
+pub use add::run_add;
 pub use check::run_check;
 pub use encode::run_encode;
+pub use merge::run_merge;
 pub use show::run_show;
-pub use tables::load_tables;

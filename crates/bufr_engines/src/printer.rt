@@ -1,4 +1,4 @@
-//! What is printed of a stream, frame by frame: lines are held, and written where they are many.
+//! The printer of frames: it holds lines, and writes them when they are many.
 
 ghost use Rattle.std.specs.Prelude.{◌≡◌, ◌≤◌, ◌<◌, ◌+◌, ◌*◌, ◌^◌, ◌++◌, ℕ, List, false, [], length};
 ghost use Rattle.std.specs.Prelude.{Err, IfErr, IfOk, OnErr, OnOk};
@@ -6,7 +6,7 @@ ghost use Rattle.std.specs.Int.{from_bool};
 ghost use Rattle.bufr_bits.specs.Devices.{Writing};
 ghost use Rattle.bufr_listing.specs.Listings.{listing};
 ghost use Rattle.bufr_message.specs.Messages.{message_of};
-ghost use Rattle.bufr_answers.specs.Answers.{Gives};
+ghost use Rattle.bufr_base.specs.Answers.{Gives};
 ghost use Rattle.bufr_engines.specs.Lines.{AreWholeLines};
 ghost use Rattle.bufr_engines.specs.Refusals.{frame_refused};
 ghost use Rattle.bufr_engines.specs.ShortListings.{HasShortListing};
@@ -14,46 +14,45 @@ ghost use Rattle.bufr_io.specs.Taking.{frame_at};
 ghost use Rattle.bufr_engines.specs.Output.{fields_text, frame_text};
 ghost use Rattle.bufr_engines.specs.declared.printing.Printing.TheVariants.{Shown, Checked};
 ghost use Rattle.bufr_engines.specs.StreamEngines.{Adds, Fits, Keeps, PrintsFrame};
-ghost use Rattle.bufr_engines.specs.StreamEngines.{Stops, StopsWithin, Tells, WritesAllBut, WritesHeld};
+ghost use Rattle.bufr_engines.specs.StreamEngines.{Stops, StopsWithin, WritesAllBut, WritesHeld};
 ghost use Rattle.bufr_engines.specs.StreamEngines.{WritesPart};
 
-use crate::printing::{Printing, hold_judged, hold_refused};
-use bufr_answers::{Failure, OutOfMemory};
+use crate::printing::{Printing, hold_checked, hold_refused};
+use bufr_base::{Failure, OutOfMemory};
 use bufr_bits::Sink;
 use bufr_io::{ToolFault, write_after};
 use bufr_listing::laws::{listings_are_joined_parts, subsets_are_joined_lines};
 use bufr_listing::{end_text, heading_text, push_field, push_subset_line};
 use bufr_message::laws::subsets_are_small;
-use bufr_message::{Field, Fields, Refused, Templates, View};
+use bufr_message::{Field, Fields, MessageReader, Refused, View};
 use bufr_tables::Tables;
 use std::alloc::Global;
 
-/// How many octets are held before they are written.
+/// The length of the lines at which the printer writes them.
 const PART: usize = 65_536;
 
-/// What prints the frames of a stream: lines that are printed are held until they are many, or
-/// until they are to be written.
+/// A printer of the frames of a stream.
 #[derive(Debug, Drop)]
-pub struct Printer<'t> {
-    /// What is printed of a frame.
-    pub printing: Printing,
-    /// The tables of the stream.
-    pub templates: Templates<'t>,
-    /// How many frames were printed.
-    pub frames: u128,
-    /// How many of them spell no message.
-    pub refused: u128,
-    /// How many octets these frames have.
-    pub octets: u64,
-    /// How many octets were written for them.
-    pub written: u128,
-    /// The lines that are printed and not yet written.
-    pub held: Vec<u8>,
+pub(crate) struct Printer<'t> {
+    /// What it prints.
+    pub(crate) printing: Printing,
+    /// The reader of messages.
+    pub(crate) templates: MessageReader<'t>,
+    /// All frames that it printed.
+    pub(crate) frames: u128,
+    /// The refused frames.
+    pub(crate) refused: u128,
+    /// The octets of all frames.
+    pub(crate) octets: u64,
+    /// The octets that it wrote.
+    pub(crate) written: u128,
+    /// The lines that it did not write yet.
+    pub(crate) held: Vec<u8>,
 }
 
 impl<'t> Printer<'t> {
-    /// What prints the frames of a stream under some tables. It takes no memory.
-    pub fn new(alloc: Global, printing: Printing, tables: &'t Tables) -> Printer<'t>
+    /// Makes a printer that holds nothing.
+    pub(crate) fn new(alloc: Global, printing: Printing, tables: &'t Tables) -> Printer<'t>
         ensures printing { result.printing ≡ printing }
         ensures tables { result.templates ≡ tables.now }
         ensures frames { result.frames ≡ 0 }
@@ -64,7 +63,7 @@ impl<'t> Printer<'t> {
     {
         Printer {
             printing,
-            templates: Templates::new(alloc, tables),
+            templates: MessageReader::new(alloc, tables),
             frames: 0,
             refused: 0,
             octets: 0,
@@ -73,8 +72,8 @@ impl<'t> Printer<'t> {
         }
     }
 
-    /// Writes the lines that are held, and holds none then.
-    pub fn write_held<W: Sink>(&mut self, writer: &mut W) -> Result<(), ToolFault>
+    /// Writes all lines that it holds.
+    pub(crate) fn write_held<W: Sink>(&mut self, writer: &mut W) -> Result<(), ToolFault>
         requires works { (W.writing writer.old).failed ≡ false }
         requires fits { Fits self.old }
         ensures writes { WritesHeld self.old self.new (W.writing writer.old) (W.writing writer.new)
@@ -93,7 +92,7 @@ impl<'t> Printer<'t> {
         Ok(())
     }
 
-    /// Writes the lines that are held where they are long, and holds none then.
+    /// Writes all lines that it holds, if they are long.
     fn write_long<W: Sink>(&mut self, writer: &mut W) -> Result<(), ToolFault>
         requires works { (W.writing writer.old).failed ≡ false }
         requires fits { self.old.written + 2 ^ 64 ≤ 2 ^ 128 }
@@ -110,7 +109,7 @@ impl<'t> Printer<'t> {
         self.write_held(writer)
     }
 
-    /// Prints the lines of the fields that are left, each as it is built.
+    /// Prints the line of each field.
     fn print_fields<W: Sink>(
         &mut self,
         alloc: Global,
@@ -140,8 +139,8 @@ impl<'t> Printer<'t> {
         }
     }
 
-    /// Prints the listing of a message, of which one field at a time is built. No more is held than
-    /// the lines before the first subset, or a part, and with either the line of one field.
+    /// Prints the listing of a message. It builds one field at a time, and holds the lines before the
+    /// first subset, or `PART` octets, and the line of one field.
     fn print_listing<W: Sink>(
         &mut self,
         alloc: Global,
@@ -163,7 +162,7 @@ impl<'t> Printer<'t> {
         self.held.extend_from_slice(&heading)?;
         self.write_long(writer)?;
         for index in 0..found.count() {
-            let fields = found.fields(alloc, index + 1)?;
+            let fields = found.fields(alloc, index)?;
             push_subset_line(&mut self.held)?;
             self.print_fields(alloc, fields, writer)?;
         }
@@ -171,72 +170,8 @@ impl<'t> Printer<'t> {
         Ok(())
     }
 
-    /// Prints the listing of the message that the frame of these octets at this place was judged to
-    /// spell, or why it spells none.
-    fn show_judged<W: Sink>(
-        &mut self,
-        alloc: Global,
-        place: u64,
-        octets: &[u8],
-        judged: &Result<View<'_>, Failure<Refused>>,
-        writer: &mut W,
-    ) -> Result<(), ToolFault>
-        requires works { (W.writing writer.old).failed ≡ false }
-        requires exact { Gives (λ d. d) judged.now (message_of self.old.templates octets.now) }
-        requires listed { IfOk judged.now (λ d. HasShortListing d.message) }
-        requires fits { self.old.written + 2 ^ 80 ≤ 2 ^ 128 }
-        requires lines { AreWholeLines self.old.held.items }
-        ensures prints { Adds
-            (frame_text Shown self.old.templates (frame_at place octets.now))
-            self.old self.new (W.writing writer.old) (W.writing writer.new) result }
-        ensures told { OnOk result (Tells judged.now (message_of self.old.templates octets.now)) }
-        ensures keeps { Keeps self.old self.new }
-        ensures short { self.new.written + 2 ^ 64 ≤ self.old.written + 2 ^ 80 }
-    {
-        match judged {
-            Ok(found) => self.print_listing(alloc, found, writer),
-            Err(Failure::Fault(why)) => {
-                hold_refused(alloc, &mut self.held, Printing::Shown, place, octets, why)?;
-                Ok(())
-            }
-            Err(Failure::OutOfMemory) => Err(ToolFault::OutOfMemory),
-        }
-    }
-
-    /// Prints the listing of the message that the frame of these octets at this place was judged to
-    /// spell, and answers whether that is none.
-    fn show_told<W: Sink>(
-        &mut self,
-        alloc: Global,
-        place: u64,
-        octets: &[u8],
-        judged: &Result<View<'_>, Failure<Refused>>,
-        writer: &mut W,
-    ) -> Result<bool, ToolFault>
-        requires works { (W.writing writer.old).failed ≡ false }
-        requires exact { Gives (λ d. d) judged.now (message_of self.old.templates octets.now) }
-        requires listed { IfOk judged.now (λ d. HasShortListing d.message) }
-        requires fits { self.old.written + 2 ^ 80 ≤ 2 ^ 128 }
-        requires lines { AreWholeLines self.old.held.items }
-        ensures prints { OnOk result (WritesAllBut self.new.held.items (self.old.held.items
-            ++ frame_text Shown self.old.templates (frame_at place octets.now))
-            self.old.written self.new.written (W.writing writer.old) (W.writing writer.new)) }
-        ensures stops { IfErr result (λ fault. Adds
-            (frame_text Shown self.old.templates (frame_at place octets.now))
-            self.old self.new (W.writing writer.old) (W.writing writer.new) (Err fault)) }
-        ensures told { IfOk result (λ refused. from_bool refused
-            ≡ frame_refused self.old.templates (frame_at place octets.now)) }
-        ensures keeps { Keeps self.old self.new }
-        ensures short { self.new.written + 2 ^ 64 ≤ self.old.written + 2 ^ 80 }
-    {
-        match self.show_judged(alloc, place, octets, judged, writer) {
-            Ok(()) => Ok(judged.is_err()),
-            Err(fault) => Err(fault),
-        }
-    }
-
-    /// Prints the listing of the frame of these octets at this place, and answers whether it spells
-    /// no message.
+    /// Prints the listing of the message that a frame spells, or why the frame is refused, and returns
+    /// whether it is.
     fn show_frame<W: Sink>(
         &mut self,
         alloc: Global,
@@ -259,12 +194,21 @@ impl<'t> Printer<'t> {
         ensures short { self.new.written + 2 ^ 64 ≤ self.old.written + 2 ^ 80 }
     {
         subsets_are_small();
-        let judged = &self.templates.view(alloc, octets);
-        self.show_told(alloc, place, octets, judged, writer)
+        match self.templates.read(alloc, octets) {
+            Ok(found) => {
+                self.print_listing(alloc, &found, writer)?;
+                Ok(false)
+            }
+            Err(Failure::Fault(why)) => {
+                hold_refused(alloc, &mut self.held, Printing::Shown, place, octets, &why)?;
+                Ok(true)
+            }
+            Err(Failure::OutOfMemory) => Err(ToolFault::OutOfMemory),
+        }
     }
 
-    /// Holds the line of `check` of the frame of these octets at this place, for which no view is
-    /// made, and answers whether it spells no message. Where memory runs out no line is held for it.
+    /// Holds the line of `check` of a frame, and returns whether the frame is refused. It makes no
+    /// view. If memory runs out, it holds no line for the frame.
     fn check_frame(&mut self, alloc: Global, place: u64, octets: &[u8]) -> Result<bool, OutOfMemory>
         ensures ok { OnOk result (self.new.held.items ≡ self.old.held.items
             ++ frame_text Checked self.old.templates (frame_at place octets.now)) }
@@ -274,11 +218,27 @@ impl<'t> Printer<'t> {
         ensures keeps { Keeps self.old self.new }
         ensures written { self.new.written ≡ self.old.written }
     {
-        let said = &self.templates.judge(alloc, octets);
-        hold_judged(alloc, &mut self.held, place, octets, said)
+        match self.templates.check(alloc, octets) {
+            Ok(said) => {
+                hold_checked(&mut self.held, place, octets, &said)?;
+                Ok(false)
+            }
+            Err(Failure::Fault(why)) => {
+                hold_refused(
+                    alloc,
+                    &mut self.held,
+                    Printing::Checked,
+                    place,
+                    octets,
+                    &why,
+                )?;
+                Ok(true)
+            }
+            Err(Failure::OutOfMemory) => Err(OutOfMemory),
+        }
     }
 
-    /// Prints the frame of these octets at this place, and answers whether it spells no message.
+    /// Prints a frame, and returns whether it is refused.
     fn print_message<W: Sink>(
         &mut self,
         alloc: Global,
@@ -306,7 +266,7 @@ impl<'t> Printer<'t> {
         }
     }
 
-    /// Counts the frame of these octets, which spells a message or none.
+    /// Counts a frame.
     fn count(&mut self, octets: &[u8], refused: bool)
         requires frames { self.old.frames + 1 < 2 ^ 128 }
         requires refused { self.old.refused + 1 < 2 ^ 128 }
@@ -322,8 +282,8 @@ impl<'t> Printer<'t> {
         self.octets += octets.len() as u64;
     }
 
-    /// Prints the frame of these octets at this place, and counts it.
-    pub fn print_frame<W: Sink>(
+    /// Prints a frame and counts it.
+    pub(crate) fn print_frame<W: Sink>(
         &mut self,
         alloc: Global,
         place: u64,
@@ -348,9 +308,9 @@ impl<'t> Printer<'t> {
         self.write_long(writer)
     }
 
-    /// Writes the lines that are held where printing stopped with a fault, unless the writer has
-    /// failed; and answers the fault, or that of the writer where it fails now.
-    pub fn stop<W: Sink>(&mut self, fault: ToolFault, writer: &mut W) -> ToolFault
+    /// Writes all lines that it holds after want of memory. Returns the fault, or that of the writer if
+    /// it fails now.
+    pub(crate) fn stop<W: Sink>(&mut self, fault: ToolFault, writer: &mut W) -> ToolFault
         requires stopped { (first : Writing) × (text : List ℕ)
             × StopsWithin text first self.old (W.writing writer.old) fault }
         ensures { (first : Writing) (text : List ℕ)

@@ -1,8 +1,8 @@
-//! The lines that are printed of a frame, and the one behind the last.
+//! The lines of frames, and the last line.
 
 ghost use Rattle.std.specs.Prelude.{◌≡◌, ◌++◌, length, take, decimal, Result, Err, IfOk, OnOk, OnErr};
 ghost use Rattle.std.specs.Int.{from_bool};
-ghost use Rattle.bufr_answers.specs.Answers.{Gives, result_map};
+ghost use Rattle.bufr_base.specs.Answers.{Gives, result_map};
 ghost use Rattle.bufr_message.specs.declared.Decoded.{Decoded};
 ghost use Rattle.bufr_message.specs.declared.Refused.{Refused};
 ghost use Rattle.bufr_message.specs.Judged.{judged};
@@ -11,53 +11,23 @@ ghost use Rattle.bufr_io.specs.Taking.{frame_at};
 ghost use Rattle.bufr_engines.specs.Output.{checked_as, checked_line, last_text, printed_as};
 ghost use Rattle.bufr_engines.specs.Output.{tally_line};
 
-use bufr_answers::{Failure, OutOfMemory};
+use bufr_base::{Failure, OutOfMemory};
 use bufr_io::Tally;
 use bufr_message::{Judged, Refused};
 use itoa::{Buffer, Integer};
 use std::alloc::Global;
 
-/// What a command prints of the frames of a stream.
+/// What a command prints of a stream.
 #[derive(Clone, Copy, Debug, Drop, PartialEq, Eq)]
-pub enum Printing {
+pub(crate) enum Printing {
     /// The listing of each message.
     Shown,
     /// A line for each frame, and one that counts them.
     Checked,
 }
 
-/// Adds the line of `check` of the frame of these octets at this place as it was judged, and answers
-/// whether that is no message. Where memory runs out the text is as it was.
-pub fn hold_judged(
-    alloc: Global,
-    text: &mut Vec<u8>,
-    place: u64,
-    octets: &[u8],
-    said: &Result<Judged, Failure<Refused>>,
-) -> Result<bool, OutOfMemory>
-    ensures ok { (found : Result Decoded Refused) → Gives (λ j. j) said.now (result_map judged found)
-        → OnOk result (text.new.items
-        ≡ text.old.items ++ checked_as (frame_at place octets.now) found) }
-    ensures told { (found : Result Decoded Refused) → Gives (λ j. j) said.now (result_map judged found)
-        → IfOk result (λ refused. from_bool refused ≡ refused_as found) }
-    ensures err { OnErr result (text.new.items ≡ text.old.items) }
-{
-    match said {
-        Ok(said) => {
-            hold_checked(text, place, octets, said)?;
-            Ok(false)
-        }
-        Err(Failure::Fault(why)) => {
-            hold_refused(alloc, text, Printing::Checked, place, octets, why)?;
-            Ok(true)
-        }
-        Err(Failure::OutOfMemory) => Err(OutOfMemory),
-    }
-}
-
-/// Adds the line of `check` of the frame of these octets at this place, which spells a message. Where
-/// memory runs out the text is as it was.
-fn hold_checked(
+/// Adds the line of `check` of a message, or nothing if memory runs out.
+pub(crate) fn hold_checked(
     text: &mut Vec<u8>,
     place: u64,
     octets: &[u8],
@@ -75,9 +45,8 @@ fn hold_checked(
     added
 }
 
-/// Adds the line of the frame of these octets at this place, which spells no message. Where memory
-/// runs out the text is as it was.
-pub fn hold_refused(
+/// Adds the line of a refused frame, or nothing if memory runs out.
+pub(crate) fn hold_refused(
     alloc: Global,
     text: &mut Vec<u8>,
     printing: Printing,
@@ -98,8 +67,12 @@ pub fn hold_refused(
     Ok(())
 }
 
-/// Adds what is printed behind the last frame. Where memory runs out the text is as it was.
-pub fn hold_tally(text: &mut Vec<u8>, printing: Printing, tally: &Tally) -> Result<(), OutOfMemory>
+/// Adds the last line, or nothing if memory runs out.
+pub(crate) fn hold_tally(
+    text: &mut Vec<u8>,
+    printing: Printing,
+    tally: &Tally,
+) -> Result<(), OutOfMemory>
     ensures ok { OnOk result (text.new.items ≡ text.old.items ++ last_text printing tally.now) }
     ensures err { OnErr result (text.new.items ≡ text.old.items) }
 {
@@ -114,9 +87,9 @@ pub fn hold_tally(text: &mut Vec<u8>, printing: Printing, tally: &Tally) -> Resu
     added
 }
 
-// What follows adds to a text, and only a part where memory runs out.
+// If memory runs out, these add a part of their line.
 
-/// Adds words, and a number behind them.
+/// Adds words and a number.
 fn push_number<I: Integer>(text: &mut Vec<u8>, words: &[u8], number: I) -> Result<(), OutOfMemory>
     ensures ok { OnOk result (text.new.items ≡ text.old.items ++ words.now ++ I.text number) }
     ensures kept { OnErr result (take (length text.old.items) text.new.items ≡ text.old.items) }
@@ -126,7 +99,7 @@ fn push_number<I: Integer>(text: &mut Vec<u8>, words: &[u8], number: I) -> Resul
     Ok(())
 }
 
-/// The same of a number that often has one digit.
+/// Adds words and a number that often has one digit.
 #[tactic(auto, using(std::proofs::lemmas::Fmt::decimal_digit))]
 fn push_count(text: &mut Vec<u8>, words: &[u8], number: u64) -> Result<(), OutOfMemory>
     ensures ok { OnOk result (text.new.items ≡ text.old.items ++ words.now ++ decimal number) }
@@ -140,7 +113,7 @@ fn push_count(text: &mut Vec<u8>, words: &[u8], number: u64) -> Result<(), OutOf
     Ok(())
 }
 
-/// Adds the line of `check` of a frame that spells a message.
+/// Adds the line of `check` of a message.
 fn push_checked(
     text: &mut Vec<u8>,
     place: u64,

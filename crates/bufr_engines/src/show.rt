@@ -13,10 +13,9 @@ use bufr_io::{Tally, ToolFault};
 use bufr_tables::Tables;
 use std::alloc::Global;
 
-/// Writes the listing of each message of a reader's stream, or why a frame spells none. Those of the
-/// frames that a read makes sure are written before the next read. The tally counts frames and those
-/// that are refused. Where memory runs out, the lines so far are written; the fault is the writer's
-/// where it fails then.
+/// Writes the listing of each message of a stream, or why a frame is refused. Before the next read it
+/// writes the lines of all frames that are sure. If memory runs out, it writes the lines until then; if
+/// the writer fails then, that is the fault.
 pub fn run_show<S: Source, W: Sink>(
     alloc: Global,
     reads: u64,

@@ -1,4 +1,4 @@
-//! Worked values of the lines that the engines print.
+//! Worked values of the lines of the engines.
 
 ghost use Rattle.std.specs.Prelude.{◌≡◌, ◌++◌, ◌∷◌, [], Ok, Err, codes};
 ghost use Rattle.bufr_io.specs.Faults.{input_text};
@@ -9,8 +9,8 @@ ghost use Rattle.bufr_engines.specs.declared.printing.Printing.TheVariants.{Chec
 use bufr_io::Input;
 use bufr_message::Refused;
 
-/// The lines of a frame: its place, its length, and then the count of subsets and the octets after
-/// the data, or why it spells no message.
+/// The line of a frame: its place, its length, and the count of subsets and the octets after the
+/// data, or the refusal.
 #[tactic(auto, unfolding(crate::proofs::OnLiterals::lines_on_literals))]
 pub fn lines_of_frames()
     ensures checked { checked_as frame_of_12 (Ok three_subsets)
@@ -30,7 +30,7 @@ pub fn last_lines()
     ensures none_counted { skipped_by Shown 146 124 ≡ 0 }
 {}
 
-/// What the lines of faults call an input.
+/// The names of inputs in the lines of faults.
 #[tactic(auto, unfolding(crate::proofs::OnLiterals::lines_on_literals))]
 pub fn names_of_inputs()
     ensures elements { input_text Input.TableB ≡ codes "table B" }

@@ -1,5 +1,4 @@
--- Where no node ahead is a field that is asked for, the course has none: for
--- `Walk::tells_no_more`.
+-- If no node ahead is a chosen field, the course has none.
 use Rattle.std.proofs.Common.{◌≡◌, ℕ, zero, suc, ◌+◌, ◌-◌, ◌&&◌, Bool, true, false, List, [], ◌∷◌}
 use Rattle.std.proofs.Common.{take, drop, Option, Some, None, not, sym, subst, refl, ltb}
 use Rattle.std.specs.Bool.{OnTrue}
@@ -22,11 +21,10 @@ use Rattle.bufr_expand.specs.Courses.{course_then}
 use Rattle.bufr_expand.specs.Walks.{left, behind}
 use Rattle.bufr_expand.proofs.PassFacts.{left_going}
 
--- none of some nodes is a field that is asked for
+-- no node is a chosen field
 abbrev none : (ℕ → Bool) → List Node → Bool
 none P ns = list_all (λ node. not (tells P node)) ns
 
--- no node of a tree is one
 HasNone : (ℕ → Bool) → trees.Tree → Type 0
 HasNone P trees.done = Unit {0}
 HasNone P (trees.element d row rest) = (P d ≡ false) × HasNone P rest
@@ -35,14 +33,10 @@ HasNone P (trees.operator d rest) = HasNone P rest
 HasNone P (trees.repeated times body rest) = HasNone P body × HasNone P rest
 HasNone P (trees.delayed d row body rest) = (P d ≡ false) × HasNone P body × HasNone P rest
 
--- ---- nodes
-
--- what is not so
 not_so : (b rest : Bool) → (not b && rest) ≡ true → (b ≡ false) × (rest ≡ true)
 not_so false rest e = (refl, e)
 not_so true rest e = absurd cc
 
--- nor is one of the first nodes
 none_first : (P : ℕ → Bool) (k : ℕ) (ns : List Node) → none P ns ≡ true → none P (take k ns) ≡ true
 none_first P zero ns e = refl
 none_first P (suc k) [] e = refl
@@ -50,13 +44,11 @@ none_first P (suc k) (n ∷ ns) e =
     let both = not_so (tells P n) (none P ns) e in
     rw both.0 (none_first P k ns both.1)
 
--- nor of those behind them
 none_behind : (P : ℕ → Bool) (k : ℕ) (ns : List Node) → none P ns ≡ true → none P (drop k ns) ≡ true
 none_behind P zero ns e = e
 none_behind P (suc k) [] e = refl
 none_behind P (suc k) (n ∷ ns) e = none_behind P k ns (not_so (tells P n) (none P ns) e).1
 
--- nor of their tree
 none_within : (P : ℕ → Bool) (k : ℕ) (ns : List Node) → none P ns ≡ true
     → HasNone P (tree_within k ns)
 unfolding tree_within HasNone
@@ -78,26 +70,21 @@ none_within P (suc k) (nodes.Delayed d row len ∷ ns) e =
       none_within P k (drop len ns) (none_behind P len ns both.1),
     )
 
--- ---- courses
-
--- what comes after some nodes has none
+-- no chosen field comes after some nodes
 abbrev NoneThen : (ℕ → Bool) → Then → Type 0
 NoneThen P after = (q : Operators) (used : ℕ) → TellsNone P (after q used)
 
--- one more item
 none_item : (P : ℕ → Bool) (used : ℕ) (c : Course) → TellsNone P c → TellsNone P (item used c)
 unfolding TellsNone
 none_item P used c s =
     cond_both (ltb used most_items) c (stops used TooLarge) (TellsNone P) (λ e. s) (λ e. tt)
 
--- a field that is not asked for
 none_field : (P : ℕ → Bool) (met d : ℕ) (spec : Option Spec) (c : Course) → P d ≡ false
     → TellsNone P c → TellsNone P (asks_if spec met d (λ n. c))
 unfolding TellsNone
 none_field P met d None c unasked s = tt
 none_field P met d (Some spec) c unasked s = (unasked, λ n. s)
 
--- turns of a body
 none_turns : (P : ℕ → Bool) (n : ℕ) (body : Operators → ℕ → Then → Course)
     → ((q : Operators) (used : ℕ) (after : Then) → NoneThen P after
     → TellsNone P (body q used after))
@@ -109,7 +96,6 @@ none_turns P (suc n) body each q used after s =
     none_item P used _
     (each q (used + 1) _ (λ q used. none_turns P n body each q used after s))
 
--- the nodes of a tree
 none_then : (P : ℕ → Bool) (t : trees.Tree) (q : Operators) (used : ℕ) (after : Then)
     → HasNone P t → NoneThen P after → TellsNone P (course_then t q used after)
 unfolding course_then TellsNone HasNone
@@ -134,9 +120,6 @@ none_then P (trees.delayed d row body rest) q used after h s =
           q (used + 1) _ (λ q used. none_then P rest q used after h.2 s),
     )
 
--- ---- walks
-
--- what a walk has left in which no replication is open
 pub none_left : (P : ℕ → Bool) (w : Walk) → w.state ≡ states.Going → w.loops.items ≡ []
     → none P (take (w.stop - w.place) (drop w.place w.nodes.now)) ≡ true → TellsNone P (left w)
 unfolding TellsNone behind
@@ -146,7 +129,6 @@ none_left P w goes closed e =
     (none_then P (tree_of ahead) w.operators w.items (λ q used. ends used)
     (none_within P _ ahead e) (λ q used. tt))
 
--- so a walk tells that it has none, where the nodes ahead tell so
 pub none_told : (P : ℕ → Bool) (w : Walk) (told : Bool) → w.state ≡ states.Going
     → w.loops.items ≡ [] → told ≡ none P (take (w.stop - w.place) (drop w.place w.nodes.now))
     → OnTrue told (TellsNone P (left w))

@@ -1,5 +1,4 @@
--- The tree of the nodes from one place to another, for the contracts of `Walk::start` and
--- `Walk::next`, by way of `PassFacts`.
+-- The tree of the nodes from one index to another.
 use Rattle.std.proofs.Common.{◌≡◌, ℕ, zero, suc, ◌+◌, ◌-◌, ◌<◌, ◌≤◌, min, List, [], ◌∷◌, length}
 use Rattle.std.proofs.Common.{get_or, take, drop, refl, ap, arith, inl, inr}
 use Rattle.std.proofs.lemmas.List.{take-take, take_all, drop-drop, drop-take, drop_more, drop_all}
@@ -12,7 +11,6 @@ use Rattle.bufr_expand.specs.Trees.{Tree, done, element, untouched, operator, re
 use Rattle.bufr_expand.specs.Trees.{tree_within, tree_of}
 use Rattle.bufr_expand.specs.Walks.{tree_between}
 
--- how far the tree may go on does not count where that is far enough
 pub enough : (k m : ℕ) (ns : List Node) → length ns ≤ k → length ns ≤ m
     → tree_within k ns ≡ tree_within m ns
 unfolding tree_within
@@ -43,7 +41,6 @@ enough (suc k) (suc m) (nodes.Delayed f e len ∷ ns) h g =
       enough k m (drop len ns) (omega arith) (omega arith),
     ) refl
 
--- the trees of a body and of the nodes behind it, however far they may go on
 body_apart : (join : Tree → Tree → Tree) (len : ℕ) (ns : List Node)
     → join (tree_within (length ns) (take len ns)) (tree_within (length ns) (drop len ns))
     ≡ join (tree_of (take len ns)) (tree_of (drop len ns))
@@ -55,31 +52,26 @@ body_apart join len ns =
       enough (length ns) (length (drop len ns)) (drop len ns) (omega arith) (omega arith),
     ) refl
 
--- the tree of a replication, its body and the nodes behind it
 pub tree_of-repeated : (times len : ℕ) (ns : List Node)
     → tree_of (nodes.Repeated times len ∷ ns)
     ≡ repeated times (tree_of (take len ns)) (tree_of (drop len ns))
 unfolding tree_within
 tree_of-repeated times len ns = body_apart (repeated times) len ns
 
--- of a delayed replication
 pub tree_of-delayed : (d : ℕ) (e : Element) (len : ℕ) (ns : List Node)
     → tree_of (nodes.Delayed d e len ∷ ns)
     ≡ delayed d e (tree_of (take len ns)) (tree_of (drop len ns))
 unfolding tree_within
 tree_of-delayed d e len ns = body_apart (delayed d e) len ns
 
--- no nodes
 pub tree_between-none : (ns : List Node) (i j : ℕ) → j ≤ i → tree_between ns i j ≡ done
 unfolding tree_within
 tree_between-none ns i j h = let e : j - i ≡ 0 = omega arith in rw e refl
 
--- all nodes
 pub tree_between-all : (ns : List Node) → tree_between ns 0 (length ns) ≡ tree_of ns
 tree_between-all ns = let e : length ns - 0 ≡ length ns = omega arith in
     rw (e, take_all (length ns) ns (omega arith)) refl
 
--- the first node and the nodes behind it
 pub between-step : (ns : List Node) (i j : ℕ) (d : Node) → i < j → j ≤ length ns
     → take (j - i) (drop i ns) ≡ get_or ns i d ∷ take (j - (i + 1)) (drop (i + 1) ns)
 between-step ns i j d h g =
@@ -87,8 +79,6 @@ between-step ns i j d h g =
     let e : j - i ≡ suc (j - (i + 1)) = omega arith in
     rw (e, drop_more ns i d inside) refl
 
--- the nodes from one place to another are parted where a body ends: behind so many of them, or
--- behind all
 pub between-parts : (ns : List Node) (p j len : ℕ) → p ≤ j
     → (take len (take (j - p) (drop p ns)) ≡ take ((p + min len (j - p)) - p) (drop p ns))
     × (drop len (take (j - p) (drop p ns))

@@ -1,13 +1,12 @@
--- The nodes so far, and behind them those of the descriptors that are left, for the contract of
--- `Template::build`, by way of that of `expand`.
+-- The nodes made and those of the descriptors left add up to the expansion.
 use Rattle.std.proofs.Common.{◌≡◌, ℕ, zero, suc, ◌+◌, ◌-◌, List, [], ◌∷◌, ◌++◌, length, drop}
 use Rattle.std.proofs.Common.{set, Ok, Err, refl, sym, ap, ◌∙◌, arith, append_assoc}
 use Rattle.std.proofs.Common.{length-append, Bool, true, false, cond, ltb, ◌⊎◌, inl, inr}
 use Rattle.std.proofs.lemmas.List.{append-nil}
 use Rattle.std.proofs.Math.Seq.{set-append_seam}
-use Rattle.bufr_answers.specs.Answers.{Fails, ◌>>=◌}
-use Rattle.bufr_answers.specs.declared.failure.Failure.{Failure}
-use Rattle.bufr_answers.specs.declared.failure.Failure.TheVariants.{Fault, OutOfMemory}
+use Rattle.bufr_base.specs.Answers.{Fails, ◌>>=◌}
+use Rattle.bufr_base.specs.declared.failure.Failure.{Failure}
+use Rattle.bufr_base.specs.declared.failure.Failure.TheVariants.{Fault, OutOfMemory}
 use Rattle.bufr_tables.specs.Entries.{Entries}
 use Rattle.bufr_expand.specs.Limits.{most_nodes}
 use Rattle.bufr_expand.specs.declared.node.Node.{Node}
@@ -18,41 +17,31 @@ use Rattle.bufr_expand.specs.Expansion.{Expansion, Deeper, FirstPart, Finding, r
 use Rattle.bufr_expand.specs.Expansion.{found_at, part_nodes, single_nodes, replication_node}
 use Rattle.bufr_expand.specs.Expansion.{expand_list, expand_within, onto}
 
--- ---- answers, taken apart
-
--- nodes that stand behind others are the nodes of an expansion
 pub onto_ok : (before : List Node) (m : Expansion) (after : List Node) → Ok after ≡ onto before m
     → (ns : List Node) × (m ≡ Ok ns) × (after ≡ before ++ ns)
 onto_ok before (Ok ns) after e = (ns, refl, cc)
 onto_ok before (Err f) after e = absurd (cc)
 
--- a fault behind nodes is that of the expansion
 pub onto_err : (before : List Node) (m : Expansion) (f : TemplateFault) → onto before m ≡ Err f
     → m ≡ Err f
 onto_err before (Ok ns) f e = absurd (cc)
 onto_err before (Err g) f e = cc
 
--- nodes that are answered where there is room
 pub room_ok : (b : Bool) (x : Expansion) (ns : List Node) → cond b x (Err TooManyNodes) ≡ Ok ns
     → (b ≡ true) × (x ≡ Ok ns)
 room_ok true x ns e = (refl, e)
 room_ok false x ns e = absurd (cc)
 
--- and a fault, where there is room or none
 pub room_err : (b : Bool) (x : Expansion) (f : TemplateFault) → cond b x (Err TooManyNodes) ≡ Err f
     → ((b ≡ true) × (x ≡ Err f)) ⊎ ((b ≡ false) × (TooManyNodes ≡ f))
 room_err true x f e = inl (refl, e)
 room_err false x f e = inr (refl, cc)
 
--- one expansion behind another
 pub onto_append : (before ns : List Node) (m : Expansion)
     → onto before (m >>= λ rest. Ok (ns ++ rest)) ≡ onto (before ++ ns) m
 onto_append before ns (Ok rest) = ap Ok (sym (append_assoc before ns rest))
 onto_append before ns (Err f) = refl
 
--- ---- the list
-
--- descriptors that belong to what came before are passed over
 pub expand_list-skip : (tables : Entries) (deeper : Deeper) (s r skip used : ℕ) (list : List ℕ)
     → expand_list tables deeper s r skip used list
     ≡ expand_list tables deeper s r 0 used (drop skip list)
@@ -63,17 +52,16 @@ expand_list-skip tables deeper s r (suc skip) used [] = refl
 expand_list-skip tables deeper s r (suc skip) used (d ∷ behind) =
     expand_list-skip tables deeper s r skip used behind
 
--- what follows the nodes of the first part
+-- the expansion after the nodes of the first part
 abbrev after_first : Entries → Deeper → ℕ → ℕ → ℕ → List ℕ → ℕ → List Node → Expansion
 after_first tables deeper s r used behind taken first =
     expand_list tables deeper s r taken (used + length first) behind >>= λ rest. Ok (first ++ rest)
 
--- what follows a part
+-- the expansion after a part
 abbrev after_found : Entries → Deeper → ℕ → ℕ → ℕ → List ℕ → FirstPart → Expansion
 after_found tables deeper s r used behind next =
     part_nodes deeper s r used next.part >>= after_first tables deeper s r used behind next.taken
 
--- a list by the part that its first descriptor stands for
 pub expand_list-found : (tables : Entries) (deeper : Deeper) (s r used d : ℕ) (behind : List ℕ)
     (m : Finding) → m ≡ found_at tables d behind
     → expand_list tables deeper s r 0 used (d ∷ behind)
@@ -82,12 +70,11 @@ unfolding expand_list
 expand_list-found tables deeper s r used d behind m e =
     ap (λ (x : Finding). x >>= after_found tables deeper s r used behind) (sym e)
 
--- the nodes so far, and behind them those of a list
+-- the nodes made, and then those of a list
 abbrev pub expanded : Entries → ℕ → ℕ → List Node → List ℕ → Expansion
 expanded tables s r nodes list = onto nodes
     (expand_list tables (expand_within (s + r) tables) s r 0 (length nodes) list)
 
--- the first descriptor stands for nothing
 pub expanded_fault : (tables : Entries) (s r d : ℕ) (nodes : List Node) (behind : List ℕ)
     (f : TemplateFault) → Err f ≡ found_at tables d behind
     → expanded tables s r nodes (d ∷ behind) ≡ Err f
@@ -95,7 +82,6 @@ expanded_fault tables s r d nodes behind f e =
     ap (onto nodes) (expand_list-found tables (expand_within (s + r) tables) s r
     (length nodes) d behind (Err f) e)
 
--- its part has a fault
 pub expanded_part_fault : (tables : Entries) (s r d : ℕ) (nodes : List Node) (behind : List ℕ)
     (next : FirstPart) (e : Failure TemplateFault) → Ok next ≡ found_at tables d behind
     → Fails e (onto nodes (part_nodes (expand_within (s + r) tables) s r (length nodes) next.part))
@@ -110,7 +96,6 @@ expanded_part_fault tables s r d nodes behind next (Fault f) h k =
     (x >>= after_first tables (expand_within (s + r) tables) s r
     (length nodes) behind next.taken)) p
 
--- its part has nodes, and the rest follows them
 pub expanded_more : (tables : Entries) (s r d : ℕ) (nodes after : List Node) (behind : List ℕ)
     (next : FirstPart) → Ok next ≡ found_at tables d behind
     → onto nodes (part_nodes (expand_within (s + r) tables) s r (length nodes) next.part) ≡ Ok after
@@ -133,16 +118,12 @@ expanded_more tables s r d nodes after behind next h k =
     (sym (length-append nodes p.0))
     ∙ ap (λ (ns : List Node). expanded tables s r ns (drop next.taken behind)) (sym p.2)
 
--- no descriptor is left
 pub expanded_nothing : (tables : Entries) (s r : ℕ) (nodes : List Node) (list : List ℕ)
     → length list ≡ 0 → expanded tables s r nodes list ≡ Ok nodes
 unfolding expand_list
 expanded_nothing tables s r nodes [] e = ap Ok (append-nil nodes)
 expanded_nothing tables s r nodes (d ∷ behind) e = absurd (omega arith)
 
--- ---- a replication
-
--- the node of a replication, behind which the nodes of its body stand, has their number in the end
 sized : (nodes ns : List Node) (head : Repetitions)
     → set ((nodes ++ replication_node head 0 ∷ []) ++ ns) (length nodes)
     (replication_node head (length ((nodes ++ replication_node head 0 ∷ []) ++ ns) - length
@@ -158,7 +139,6 @@ sized nodes ns head =
     ∙ ap (λ (l : List Node). set l (length nodes) (replication_node head (length ns))) same
     ∙ set-append_seam nodes (replication_node head 0) ns (replication_node head (length ns))
 
--- the node of a replication and those of its body, by the room for the node
 replicated_by : (b : Bool) (deeper : Deeper) (s p : ℕ) (nodes mid after : List Node)
     (head : Repetitions) (body : List ℕ)
     → onto nodes (cond b (Ok (replication_node head 0 ∷ [])) (Err TooManyNodes)) ≡ Ok mid
@@ -180,7 +160,6 @@ replicated_by true deeper s p nodes mid after head body h k =
     ∙ ap (λ (l : List Node). Ok (set l (length nodes)
     (replication_node head (length l - length nodes - 1)))) (sym all)
 
--- a level further in, where one more replication may stand
 pub replicated : (tables : Entries) (s p r : ℕ) (nodes mid after : List Node) (head : Repetitions)
     (body : List ℕ) → suc p ≡ r → onto nodes (single_nodes (length nodes) (replication_node head 0))
     ≡ Ok mid → onto mid (expand_within (suc (s + p)) tables s p (length mid) body) ≡ Ok after

@@ -1,5 +1,5 @@
--- Each field that a course asks for has a spec within the limits, for `laws::courses_are_steady`: a
--- scale of 127 in the table, 128 more by 202 and 255 more by 207 at most.
+-- Every field of a course has a spec within the limits: at most 127 of the scale come from the
+-- table, 127 from 202 and 255 from 207.
 use Rattle.std.proofs.Common.{◌≡◌, ℕ, zero, suc, ◌+◌, ◌<◌, ◌≤◌, Bool, true, false, cond, ltb}
 use Rattle.std.proofs.Common.{List, ℤ, pos, negsuc, ◌+ℤ◌, Option, Some, None, refl, sym, ◌∙◌, subst}
 use Rattle.std.proofs.Common.{arith}
@@ -14,7 +14,7 @@ use Rattle.bufr_tables.specs.Entries.{Entries}
 use Rattle.bufr_expand.specs.declared.operators.Operators.{Operators}
 use Rattle.bufr_expand.specs.declared.operators.Spec.{Spec}
 use Rattle.bufr_expand.specs.declared.walk.WalkFault.TheVariants.{TooLarge}
-use Rattle.bufr_expand.specs.Limits.{most_items, most_levels}
+use Rattle.bufr_expand.specs.Limits.{most_items, most_sequence_levels, most_replication_levels}
 use Rattle.bufr_expand.specs.OperatorsInForce.{none_in_force, operand, in_force_after, effective}
 use Rattle.bufr_expand.specs.OperatorsInForce.{untouched, factor_spec}
 use Rattle.bufr_expand.specs.Effects.{IsTextSpec, IsAsRow, AsInTable, text, number, Adds}
@@ -29,24 +29,19 @@ use Rattle.bufr_expand.specs.Courses.{course_then, course}
 use Rattle.bufr_expand.specs.Steady.{EachAsked}
 use Rattle.bufr_expand.proofs.SpecFacts.{in_table, effective_found}
 
--- ---- operators in force
-
 -- the operands of 202 and 207 are octets
 record AreSmall (q : Operators) : Type 0 where
   scale : IfSome q.add_scale (λ y. y < 256)
   increase : IfSome q.increase (λ y. y < 256)
 
--- an operand that is put in force
 operand_by : (zero_or_not : Bool) (y : ℕ) → y < 256
     → IfSome (cond zero_or_not None (Some y)) (λ y. y < 256)
 operand_by true y small = tt
 operand_by false y small = small
 
--- an operand of a descriptor
 small_operand : (d : ℕ) → IfSome (operand (y_of d)) (λ y. y < 256)
 small_operand d = operand_by (y_of d == 0) (y_of d) (omega arith)
 
--- one more operator in force, by its X
 small_by : (a b c : Bool) (q : Operators) (d : ℕ) → AreSmall q
     → AreSmall (cond a (record q { add_width = operand (y_of d) })
     (cond b (record q { add_scale = operand (y_of d) })
@@ -57,36 +52,28 @@ small_by false true c q d small = record { scale = small_operand d; increase = s
 small_by false false true q d small = record { scale = small.scale; increase = small_operand d }
 small_by false false false q d small = record { scale = small.scale; increase = small.increase }
 
--- one more operator in force
 small_after : (q : Operators) (d : ℕ) → AreSmall q → AreSmall (in_force_after q d)
 small_after q d small = small_by (x_of d == 1) (x_of d == 2) (x_of d == 7) q d small
 
--- ---- specs
-
--- a sum is no further from 0 than both together
 abs_sum : (a b : ℤ) → unsigned_abs (a +ℤ b) ≤ unsigned_abs a + unsigned_abs b
 abs_sum (pos a) (pos b) = grind (arith, ints)
 abs_sum (pos a) (negsuc b) = grind (arith, ints)
 abs_sum (negsuc a) (pos b) = grind (arith, ints)
 abs_sum (negsuc a) (negsuc b) = grind (arith, ints)
 
--- what 202 adds
 abs_shift : (y : ℕ) → y < 256 → unsigned_abs (pos y -ℤ pos 128) ≤ 128
 abs_shift y small = grind (arith, ints)
 
--- where it is in force or not
 abs_added : (o : Option ℕ) (more : ℤ) → IfSome o (λ y. y < 256) → Adds o more
     → unsigned_abs more ≤ 128
 abs_added None more small h = subst (λ z. unsigned_abs z ≤ 128) (sym h) (omega arith)
 abs_added (Some y) more small h = subst (λ z. unsigned_abs z ≤ 128) (sym h) (abs_shift y small)
 
--- what 207 adds to the scale
 increase_small : (o : Option ℕ) (increase : ℕ) → IfSome o (λ y. y < 256) → Increases o increase
     → increase < 256
 increase_small None increase small h = omega (arith, h)
 increase_small (Some y) increase small h = omega (arith, h, small)
 
--- a text
 text_asked : (spec : Spec) → IsTextSpec spec → CanBeAsked spec
 text_asked spec h = record {
   in_range = record {
@@ -98,7 +85,6 @@ text_asked spec h = record {
   few_bits = λ not. absurd (not h.is_text);
 }
 
--- a number as its row says
 row_asked : (e : Element) (spec : Spec) → (e.kind ≡ kinds.Text → ⊥) → IsAsRow e spec
     → CanBeAsked spec
 row_asked e spec not h =
@@ -113,12 +99,10 @@ row_asked e spec not h =
       few_bits = λ other. h.within.few_bits;
     }
 
--- a field that no operator changes
 in_row : (e : Element) (spec : Spec) → AsInTable e spec → CanBeAsked spec
 in_row e spec (text is same h) = text_asked spec h
 in_row e spec (number not h) = row_asked e spec not h
 
--- a quantity under operators
 changed_asked : (e : Element) (q : Operators) (spec : Spec) → AreSmall q → IsChanged e q spec
     → CanBeAsked spec
 changed_asked e q spec small h =
@@ -138,18 +122,15 @@ changed_asked e q spec small h =
       few_bits = λ other. h.within.few_bits;
     }
 
--- a field under operators
 effective_asked : (d : ℕ) (e : Element) (q : Operators) (spec : Spec) → AreSmall q
     → Effective d e q spec → CanBeAsked spec
 effective_asked d e q spec small (of_text is bits h) = text_asked spec h
 effective_asked d e q spec small (changed is class h) = changed_asked e q spec small h
 effective_asked d e q spec small (unchanged not class h) = row_asked e spec not h
 
--- a factor, whose width is its row's
 factor_in_range : (e : Element) → IsInRange (factor_spec e)
 factor_in_range e = record { scale_within = omega arith; reference_within = omega arith }
 
--- a factor by a row that gives a count
 factor_asked : (e : Element) → IsCountRow e → CanBeAsked (factor_spec e)
 factor_asked e (kind, scale, reference, low, high) = record {
   in_range = factor_in_range e;
@@ -158,9 +139,7 @@ factor_asked e (kind, scale, reference, low, high) = record {
   few_bits = λ other. omega (arith, high);
 }
 
--- ---- factors of a tree
-
--- each factor has a spec such
+-- every factor has such a spec
 unfoldable FactorsHave : (Spec → Type 0) → trees.Tree → Type 0
 FactorsHave Has trees.done = Unit {0}
 FactorsHave Has (trees.element d e rest) = FactorsHave Has rest
@@ -170,7 +149,6 @@ FactorsHave Has (trees.repeated times body rest) = FactorsHave Has body × Facto
 FactorsHave Has (trees.delayed d e body rest) =
     Has (factor_spec e) × FactorsHave Has body × FactorsHave Has rest
 
--- in any tree they are in range
 factors_in_range : (t : trees.Tree) → FactorsHave IsInRange t
 unfolding FactorsHave
 factors_in_range trees.done = tt
@@ -181,7 +159,6 @@ factors_in_range (trees.repeated times body rest) = (factors_in_range body, fact
 factors_in_range (trees.delayed d e body rest) =
     (factor_in_range e, factors_in_range body, factors_in_range rest)
 
--- a tree behind another
 factors_behind : (Has : Spec → Type 0) (a b : trees.Tree) → FactorsHave Has a → FactorsHave Has b
     → FactorsHave Has (followed_by a b)
 unfolding FactorsHave followed_by
@@ -194,7 +171,6 @@ factors_behind Has (trees.repeated times body rest) b h g =
 factors_behind Has (trees.delayed d e body rest) b h g =
     (h.0, h.1, factors_behind Has rest b h.2 g)
 
--- in the tree of a list they have the bits of a count
 factors_asked : (tables : Entries) (s r : ℕ) (list : List ℕ) (t : trees.Tree)
     → Flat tables s r list t → FactorsHave CanBeAsked t
 unfolding FactorsHave
@@ -222,20 +198,16 @@ factors_asked tables s r list t
       factors_asked tables s r _ rest behind,
     )
 
--- ---- courses
-
--- what comes after some nodes has such specs
+-- such specs come after some nodes
 abbrev HaveThen : (Spec → Type 0) → Then → Type 0
 HaveThen Has after = (q : Operators) (used : ℕ) → AreSmall q → EachAsked Has (after q used)
 
--- one more item, where there is room for it
 at_item : (Has : Spec → Type 0) (used : ℕ) (c : Course) → EachAsked Has c
     → EachAsked Has (item used c)
 unfolding EachAsked
 at_item Has used c h =
     cond_both (ltb used most_items) c (stops used TooLarge) (EachAsked Has) (λ e. h) (λ e. tt)
 
--- a field
 at_field : (Has : Spec → Type 0) (spec : Option Spec) (met d : ℕ) (more : ℕ → Course)
     → ((s : Spec) → spec ≡ Some s → Has s) → ((n : ℕ) → EachAsked Has (more n))
     → EachAsked Has (asks_if spec met d more)
@@ -243,12 +215,11 @@ unfolding EachAsked
 at_field Has None met d more fit h = tt
 at_field Has (Some spec) met d more fit h = (fit spec refl, h)
 
--- a part from operators that are octets
+-- such specs come from a part under operands that are octets
 abbrev HaveAll : (Spec → Type 0) → (Operators → ℕ → Then → Course) → Type 0
 HaveAll Has body = (q : Operators) (used : ℕ) (after : Then) → AreSmall q → HaveThen Has after
     → EachAsked Has (body q used after)
 
--- turns of a body
 at_turns : (Has : Spec → Type 0) (n : ℕ) (body : Operators → ℕ → Then → Course)
     → HaveAll Has body → HaveAll Has (turns n body)
 unfolding turns
@@ -257,7 +228,6 @@ at_turns Has (suc n) body each q used after small h =
     at_item Has used _ (each q (used + 1) _ small
     (λ q used small. at_turns Has n body each q used after small h))
 
--- the nodes of a tree, whose factors have such specs
 at_tree : (Has : Spec → Type 0) → ((s : Spec) → CanBeAsked s → Has s)
     → (t : trees.Tree) → FactorsHave Has t → HaveAll Has (course_then t)
 unfolding course_then EachAsked FactorsHave
@@ -287,22 +257,20 @@ at_tree Has fit (trees.delayed d e body rest) factors q used after small h =
           (λ q used small. at_tree Has fit rest factors.2 q used after small h),
     )
 
--- no operator is in force
 none_small : AreSmall none_in_force
 none_small = record { scale = tt; increase = tt }
 
--- the fields of any tree are in range
 pub course_in_range : (tree : trees.Tree) (used : ℕ) → EachAsked IsInRange (course tree used)
 unfolding EachAsked
 course_in_range tree used =
     at_tree IsInRange (λ s h. h.in_range) tree (factors_in_range tree) none_in_force used _
     none_small (λ q n small. tt)
 
--- those of a list's tree are within all limits
 pub course_asked : (tables : Entries) (list : List ℕ) (tree : trees.Tree) (used : ℕ)
     → IsTreeOf tables list tree → EachAsked CanBeAsked (course tree used)
 unfolding EachAsked
 course_asked tables list tree used h =
     at_tree CanBeAsked (λ s is. is) tree
-    (factors_asked tables most_levels most_levels list tree h.0) none_in_force used _
+    (factors_asked tables most_sequence_levels most_replication_levels list tree h.0)
+    none_in_force used _
     none_small (λ q n small. tt)

@@ -1,5 +1,4 @@
--- What a descriptor is read as is found, and a fault is found where the tree of a list has no case,
--- for `laws::expansion_is_the_tree_of_a_list` and `laws::refusal_is_the_first_fault`.
+-- `found_at` finds what `IsRead` says, and a fault exactly if the list begins no tree.
 use Rattle.std.proofs.Common.{◌≡◌, ◌≢◌, ℕ, suc, ◌+◌, ◌-◌, ◌<◌, ◌≤◌, false, cond, eqb, ltb, not}
 use Rattle.std.proofs.Common.{List, [], ◌∷◌, length, take, Option, Some, None, Err, refl, ap}
 use Rattle.std.proofs.Common.{◌∙◌, arith}
@@ -30,15 +29,11 @@ use Rattle.bufr_expand.proofs.ReadingFacts.{IsRead, an_element, an_operator, a_t
 use Rattle.bufr_expand.proofs.ReadingFacts.{a_sequence, a_repeated, a_delayed, decides_count}
 use Rattle.bufr_expand.proofs.ReadingFacts.{is_factor, decides_factor, stays_is, stays_tells}
 
--- ---- which answer is that of a descriptor
-
--- an element by its row, if it has one
 element_is : (tables : Entries) (d : ℕ) (behind : List ℕ) (o : Option Element) → f_of d ≡ 0
     → element tables d ≡ o → found_at tables d behind ≡ element_found d o
 element_is tables d behind o f k =
     ap (λ (n : ℕ). found_by n tables d behind) f ∙ ap (element_found d) k
 
--- a sequence by its list, if it has one
 sequence_is : (tables : Entries) (d : ℕ) (behind : List ℕ) (o : Option (List ℕ)) → 3 ≤ f_of d
     → sequence tables d ≡ o → found_at tables d behind ≡ sequence_found d o
 sequence_is tables d behind o f k =
@@ -52,26 +47,21 @@ operator_by tables d behind x =
     (cond (eqb x 5) (with_operand d (text_found d))
     (cond (eqb x 6) (with_operand d (width_found tables d behind)) (Err (UnsupportedOperator d))))
 
--- that is how it is found
 operator_is : (tables : Entries) (d x : ℕ) (behind : List ℕ) → f_of d ≡ 2 → x_of d ≡ x
     → found_at tables d behind ≡ operator_by tables d behind x
 operator_is tables d x behind f e = ap (λ (n : ℕ). found_by n tables d behind) f
     ∙ ap (operator_by tables d behind) e
 
--- an operand other than 0
 with_some : (d : ℕ) (m : Finding) → 0 < y_of d → with_operand d m ≡ m
 with_some d m y = cond-false (eqb (y_of d) 0) _ _ (ne_eqb (y_of d) 0 (λ e. omega arith))
 
--- an operand of 0
 with_none : (d : ℕ) (m : Finding) → y_of d ≡ 0 → with_operand d m ≡ Err (BadOperand d)
 with_none d m y = cond-true (eqb (y_of d) 0) _ _ (eq-eqb (y_of d) 0 y)
 
--- 206 whose Y is not 0
 width_is : (tables : Entries) (d : ℕ) (behind : List ℕ) → f_of d ≡ 2 → x_of d ≡ 6 → 0 < y_of d
     → found_at tables d behind ≡ width_found tables d behind
 width_is tables d behind f x y = operator_is tables d 6 behind f x ∙ with_some d _ y
 
--- 206 before an element, by its row, if it has one
 local_is : (tables : Entries) (d local : ℕ) (behind : List ℕ) → f_of d ≡ 2 → x_of d ≡ 6
     → 0 < y_of d → f_of local ≡ 0
     → found_at tables d (local ∷ behind) ≡ local_found d local (element tables local)
@@ -79,14 +69,12 @@ local_is tables d local behind f x y l =
     width_is tables d (local ∷ behind) f x y
     ∙ cond-true (eqb (f_of local) 0) _ _ (eq-eqb (f_of local) 0 l)
 
--- 206 before an element without a row of this width
 number_is : (d local : ℕ) (o : Option Element) → ((e : Element) → o ≡ Some e → e.width ≢ y_of d)
     → local_found d local o ≡ number_found d local
 number_is d local None h = refl
 number_is d local (Some e) h =
     cond-false (eqb e.width (y_of d)) _ _ (ne_eqb e.width (y_of d) (h e refl))
 
--- a replication whose X is not 0
 replication_is : (tables : Entries) (d : ℕ) (behind : List ℕ) → f_of d ≡ 1 → 0 < x_of d
     → found_at tables d behind
     ≡ cond (eqb (y_of d) 0) (delayed_found tables d behind) (repeated_found d behind)
@@ -94,21 +82,18 @@ replication_is tables d behind f x =
     ap (λ (n : ℕ). found_by n tables d behind) f
     ∙ cond-false (eqb (x_of d) 0) _ _ (ne_eqb (x_of d) 0 (λ e. omega arith))
 
--- a replication of a number of times
 repeated_is : (tables : Entries) (d : ℕ) (behind : List ℕ) → f_of d ≡ 1 → 0 < x_of d → 0 < y_of d
     → found_at tables d behind ≡ repeated_found d behind
 repeated_is tables d behind f x y =
     replication_is tables d behind f x
     ∙ cond-false (eqb (y_of d) 0) _ _ (ne_eqb (y_of d) 0 (λ e. omega arith))
 
--- a replication by a factor
 delayed_is : (tables : Entries) (d factor : ℕ) (behind : List ℕ) → f_of d ≡ 1 → 0 < x_of d
     → y_of d ≡ 0 → found_at tables d (factor ∷ behind) ≡ delayed_found tables d (factor ∷ behind)
 delayed_is tables d factor behind f x y =
     replication_is tables d (factor ∷ behind) f x
     ∙ cond-true (eqb (y_of d) 0) _ _ (eq-eqb (y_of d) 0 y)
 
--- a factor by its row, if it has one
 row_is : (tables : Entries) (d factor : ℕ) (behind : List ℕ) (o : Option Element) → IsFactor factor
     → element tables factor ≡ o
     → delayed_found tables d (factor ∷ behind) ≡ factor_found d factor behind o
@@ -117,7 +102,6 @@ row_is tables d factor behind o i k =
     ap (factor_found d factor behind) (cond-true (is_factor factor) (element tables factor) None
     ((decides_factor factor).1 i) ∙ k)
 
--- a factor by a row that gives a count
 count_is : (d factor : ℕ) (e : Element) (behind : List ℕ) → IsCountRow e
     → factor_found d factor behind (Some e)
     ≡ cond (ltb (length behind) (x_of d)) (Err (BadReplication d))
@@ -125,9 +109,6 @@ count_is : (d factor : ℕ) (e : Element) (behind : List ℕ) → IsCountRow e
 count_is d factor e behind c =
     cond-false (not (is_factor_row e)) _ _ (not_from_true (is_factor_row e) ((decides_count e).1 c))
 
--- ---- what is read so is found
-
--- the element behind 206 is found as it is read
 element_behind : (tables : Entries) (d local : ℕ) (e : Element) → ReadAt tables local (y_of d) e
     → local_found d local (element tables local) ≡ found (single (nodes.Untouched local e)) 1
 element_behind tables d local e (by_row k w) =
@@ -136,7 +117,6 @@ element_behind tables d local e (as_number h small) =
     number_is d local (element tables local) h
     ∙ cond-false (ltb most_number_bits (y_of d)) _ _ (le-ltb most_number_bits (y_of d) small)
 
--- what is read so is found
 pub found_is : (tables : Entries) (d : ℕ) (behind : List ℕ) (part : Part) (taken : ℕ)
     → IsRead tables d behind part taken → found_at tables d behind ≡ found part taken
 found_is tables d behind part taken (an_element {e} f k) = element_is tables d behind (Some e) f k
@@ -157,16 +137,12 @@ found_is tables d (factor ∷ behind) part taken (a_delayed {e} f x y i k c long
     ∙ count_is d factor e behind c
     ∙ cond-false (ltb (length behind) (x_of d)) _ _ (le-ltb (length behind) (x_of d) long)
 
--- ---- where there is no case, the fault is found
-
--- a descriptor that is no factor
 no_factor : (tables : Entries) (d factor : ℕ) (behind : List ℕ) → is_factor factor ≡ false
     → delayed_found tables d (factor ∷ behind) ≡ Err (BadFactor factor)
 unfolding is_factor
 no_factor tables d factor behind h =
     ap (factor_found d factor behind) (cond-false (is_factor factor) (element tables factor) None h)
 
--- a factor without a row, or whose row gives no count
 bad_factor : (tables : Entries) (d factor : ℕ) (behind : List ℕ) (o : Option Element)
     → element tables factor ≡ o → factor_found d factor behind o ≡ Err (BadFactor factor)
     → delayed_found tables d (factor ∷ behind) ≡ Err (BadFactor factor)
@@ -176,7 +152,6 @@ bad_factor tables d factor behind o k bad =
     (λ (o : Option Element). factor_found d factor behind o ≡ Err (BadFactor factor))
     (λ h. ap (factor_found d factor behind) k ∙ bad) (λ h. refl)
 
--- where the tree has no case the fault is found
 pub fault_found : (tables : Entries) (d : ℕ) (behind : List ℕ) (f : TemplateFault)
     → HasNoCase tables d behind f → found_at tables d behind ≡ Err f
 fault_found tables d behind fault (unknown_element f k) = element_is tables d behind None f k

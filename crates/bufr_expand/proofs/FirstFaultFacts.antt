@@ -1,15 +1,15 @@
--- An expansion answers a fault exactly where this is the first fault of the list, for
--- `laws::refusal_is_the_first_fault`.
+-- An expansion is refused exactly with the first fault of its list.
 use Rattle.std.proofs.Common.{◌≡◌, inl, inr, ℕ, zero, suc, ◌+◌, ◌<◌, ◌≤◌}
 use Rattle.std.proofs.Common.{ltb, List, [], ◌∷◌, ◌++◌, length, take, drop, Ok, Err}
 use Rattle.std.proofs.Common.{refl, sym, ap, subst, ◌∙◌, arith, add-one}
 use Rattle.std.proofs.lemmas.Bool.{ltb-true, ltb-false, le-ltb, cond-false}
 use Rattle.std.proofs.lemmas.List.{take-append-drop, length-take-le}
-use Rattle.bufr_answers.specs.Answers.{◌>>=◌}
+use Rattle.bufr_base.specs.Answers.{◌>>=◌}
 use Rattle.bufr_tables.specs.Descriptors.{x_of, y_of}
 use Rattle.bufr_tables.specs.Entries.{Entries}
-use Rattle.bufr_answers.specs.AnswerLaws.{bind_err}
-use Rattle.bufr_expand.specs.Limits.{most_nodes}
+use Rattle.bufr_base.specs.AnswerLaws.{bind_err}
+use Rattle.bufr_expand.specs.Limits.{most_nodes, most_lists}
+use Rattle.bufr_expand.specs.Limits.{most_sequence_levels, most_replication_levels}
 use Rattle.bufr_expand.specs.declared.node.Node.{Node}
 use Rattle.bufr_expand.specs.declared.node.Node.TheVariants as nodes
 use Rattle.bufr_expand.specs.declared.node.Repetitions.{Repetitions}
@@ -39,15 +39,11 @@ use Rattle.bufr_expand.proofs.FlatFacts.{has_tree_within, replication_ok, Opens,
 use Rattle.bufr_expand.proofs.FlatFacts.{node_behind, replication_fits, body_behind, body_opens}
 use Rattle.bufr_expand.proofs.FlatFacts.{factor_opens, flat_expands, expands_exactly}
 
--- ---- what a list begins with
-
--- what a list begins with, by its part
 HasFirst : Entries → List ℕ → Part → List ℕ → Type 0
 HasFirst tables list (single node) behind = NodeFirst tables list behind
 HasFirst tables list (inner inside) behind = SequenceFirst tables list inside behind
 HasFirst tables list (replication head body) behind = ReplicationFirst tables list body behind
 
--- the part that is found is what the list begins with
 has_first : (tables : Entries) (d : ℕ) (behind : List ℕ) (part : Part) (taken : ℕ)
     → IsRead tables d behind part taken → HasFirst tables (d ∷ behind) part (drop taken behind)
 unfolding HasFirst
@@ -67,15 +63,11 @@ has_first tables d (factor ∷ behind) part taken (a_delayed f x y i k c long) =
     rw add-one (subst P (take-append-drop (x_of d) behind)
     (delayed_body f x y i k c (length-take-le (x_of d) behind long)))
 
--- ---- a fault of an expansion is the first one
-
--- with so many levels a fault is the first one
 AreFirst : Entries → ℕ → Type 0
 AreFirst tables levels =
     (s r used : ℕ) (list : List ℕ) (f : TemplateFault) → s + r < levels → used ≤ most_nodes
     → expand_within levels tables s r used list ≡ Err f → FirstFault tables s r used list f
 
--- the fault of a node is the first
 single_fault : (tables : Entries) (s r used : ℕ) (node : Node) (list behind : List ℕ)
     (f : TemplateFault) → NodeFirst tables list behind → single_nodes used node ≡ Err f
     → FirstFault tables s r used list f
@@ -86,7 +78,6 @@ single_fault tables s r used node list behind f front e =
           (node_too_many front (ltb-false used most_nodes h.0))
     ]
 
--- the fault of a replication or of its body is
 body_fault : (tables : Entries) (levels s r used : ℕ) (head : Repetitions)
     (list body behind : List ℕ) (f : TemplateFault) → AreFirst tables levels → s + suc r ≤ levels
     → ReplicationFirst tables list body behind
@@ -108,7 +99,6 @@ body_fault tables levels s r used head list body behind f all deep front e =
           (replication_too_many front (ltb-false used most_nodes h.0))
     ]
 
--- the fault of a part is
 part_fault : (tables : Entries) (levels s r used : ℕ) (part : Part) (list behind : List ℕ)
     (f : TemplateFault) → AreFirst tables levels → s + r ≤ levels → used ≤ most_nodes
     → HasFirst tables list part behind → part_nodes (expand_within levels tables) s r used part
@@ -128,14 +118,12 @@ part_fault tables levels s (suc r) used
     (replication head body) list behind f all deep fits front e =
     body_fault tables levels s r used head list body behind f all deep front e
 
--- a fault behind a part that has its nodes, of which there are no more than there may be
 Passes : Entries → ℕ → ℕ → ℕ → List ℕ → List ℕ → List Node → Type 0
 Passes tables s r used list behind first =
     (used + length first ≤ most_nodes)
     × ((f : TemplateFault) → FirstFault tables s r (used + length first) behind f
     → FirstFault tables s r used list f)
 
--- a node within the limits leaves the first fault to the rest
 single_passes : (tables : Entries) (s r used : ℕ) (node : Node) (list behind : List ℕ)
     (first : List Node) → NodeFirst tables list behind → single_nodes used node ≡ Ok first
     → Passes tables s r used list behind first
@@ -150,7 +138,6 @@ single_passes tables s r used node list behind first front e =
           (subst (λ (n : ℕ). FirstFault tables s r (used + n) behind f) long g),
     )
 
--- so does a replication
 body_passes : (tables : Entries) (levels s r used : ℕ) (head : Repetitions)
     (list body behind : List ℕ) (first : List Node) → ReplicationFirst tables list body behind
     → replication_nodes (expand_within levels tables) s r used head body ≡ Ok first
@@ -169,7 +156,6 @@ body_passes tables levels s r used head list body behind first front e =
           (subst (λ (n : ℕ). FirstFault tables s (suc r) n behind f) count g),
     )
 
--- so does a part
 part_passes : (tables : Entries) (levels s r used : ℕ) (part : Part) (list behind : List ℕ)
     (first : List Node) → used ≤ most_nodes → HasFirst tables list part behind
     → part_nodes (expand_within levels tables) s r used part ≡ Ok first
@@ -191,7 +177,6 @@ part_passes tables levels s zero used (replication head body) list behind first 
 part_passes tables levels s (suc r) used (replication head body) list behind first fits front e =
     body_passes tables levels s r used head list body behind first front e
 
--- the fault of a list is its first
 list_fault : (tables : Entries) (levels s r skip used : ℕ) (list : List ℕ) (f : TemplateFault)
     → AreFirst tables levels → s + r ≤ levels → used ≤ most_nodes
     → expand_list tables (expand_within levels tables) s r skip used list ≡ Err f
@@ -229,7 +214,6 @@ list_fault tables levels s r zero used (d ∷ behind) f all deep fits e =
           ]
     ]
 
--- at any number of levels
 faults_are_first : (tables : Entries) (levels : ℕ) → AreFirst tables levels
 unfolding AreFirst expand_within
 faults_are_first tables zero = λ s r used list f deep fits e. absurd (omega arith)
@@ -237,9 +221,6 @@ faults_are_first tables (suc levels) =
     λ s r used list f deep fits e. list_fault tables levels s r 0 used list f
     (faults_are_first tables levels) (omega arith) fits e
 
--- ---- a first fault is that of the expansion
-
--- a list that begins with a node
 node_opens : (tables : Entries) (list after : List ℕ) → NodeFirst tables list after → (node : Node)
     × Opens tables list (single node) after
 node_opens tables list after (element_node {fxy = d} {row = e} f k) =
@@ -251,12 +232,10 @@ node_opens tables list after (text_node {fxy = d} f x y) =
 node_opens tables list after (width_node {local} {row = e} f x y l k) =
     (nodes.Untouched local e, opens (a_width f x y l k) refl)
 
--- with a sequence
 sequence_opens : (tables : Entries) (list inside after : List ℕ)
     → SequenceFirst tables list inside after → Opens tables list (inner inside) after
 sequence_opens tables list inside after (sequence_list f k) = opens (a_sequence f k) refl
 
--- with a replication
 replication_opens : (tables : Entries) (list body after : List ℕ)
     → ReplicationFirst tables list body after → (head : Repetitions)
     × Opens tables list (replication head body) after
@@ -265,7 +244,6 @@ replication_opens tables list body after (repeated_body {fxy = d} f x y n) =
 replication_opens tables list body after (delayed_body {fxy = d} {factor} {row = e} f x y i k c n) =
     (repetitions.Factor factor e, factor_opens tables d factor e body after f x y i k c n)
 
--- a fault of the first part is that of the list
 fault_in_front : (tables : Entries) (deeper : Deeper) (s r used : ℕ) (list after : List ℕ)
     (part : Part) (f : TemplateFault) → Opens tables list part after
     → part_nodes deeper s r used part ≡ Err f → expand_list tables deeper s r 0 used list ≡ Err f
@@ -275,7 +253,6 @@ fault_in_front tables deeper s r used list after part f (opens {d} {behind} {tak
     ∙ ap (λ (x : Expansion). x >>= λ first. expand_list tables deeper s r taken
     (used + length first) behind >>= λ rest. Ok (first ++ rest)) p
 
--- a first fault is what the expansion answers
 first_fault_expands : (tables : Entries) (s r used : ℕ) (list : List ℕ) (f : TemplateFault)
     → FirstFault tables s r used list f → (levels : ℕ) → s + r ≤ levels
     → expand_list tables (expand_within levels tables) s r 0 used list ≡ Err f
@@ -343,21 +320,16 @@ first_fault_expands tables s r used list f
     (first_fault_expands tables s (suc below) (used + 1 + length (nodes_of within)) behind f h
     (suc levels) deep)
 
--- ---- what has a tree has a case
-
--- the first descriptor of a list, if there is one, stands for something
 FrontFound : Entries → List ℕ → Type 0
 FrontFound tables [] = Unit {0}
 FrontFound tables (d ∷ behind) = (next : FirstPart) × (found_at tables d behind ≡ Ok next)
 
--- it does where it is read so
 front_found : (tables : Entries) (list after : List ℕ) (part : Part)
     → Opens tables list part after → FrontFound tables list
 unfolding FrontFound
 front_found tables list after part (opens {d} {behind} {taken} read same) =
     (record { part = part; taken = taken }, found_is tables d behind part taken read)
 
--- the tree of a list has a case for its first descriptor
 flat_found : (tables : Entries) (s r : ℕ) (list : List ℕ) (t : Tree) → Flat tables s r list t
     → FrontFound tables list
 unfolding FrontFound
@@ -378,32 +350,29 @@ flat_found tables s r list t
     (delayed_first {fxy = d} {factor} {row = e} {body} {behind} f x y j k c n i g) =
     front_found tables list _ _ (factor_opens tables d factor e body behind f x y j k c n)
 
--- ---- the laws
-
--- the expansion refuses a list exactly for its first fault
 pub refuses_exactly : (tables : Entries) (list : List ℕ) (fault : TemplateFault)
     → RefusesExactly tables list fault
 unfolding AreFirst expand_within
 refuses_exactly tables list fault = (
-  λ e. faults_are_first tables 33 16 16 0 list fault (omega arith) (omega arith) e,
-  λ h. first_fault_expands tables 16 16 0 list fault h 32 (omega arith),
+  λ e. faults_are_first tables most_lists most_sequence_levels most_replication_levels 0 list fault
+      (omega arith) (omega arith) e,
+  λ h. first_fault_expands tables most_sequence_levels most_replication_levels 0 list fault h
+      (most_sequence_levels + most_replication_levels) (omega arith),
 )
 
--- an answer gives a tree or a first fault
 tree_or_fault : (tables : Entries) (list : List ℕ) (answer : Expansion)
     → expansion tables list ≡ answer → HasTreeOrFault tables list
 tree_or_fault tables list (Ok ns) e =
-    let w = has_tree_within tables 33 16 16 0 list ns (omega arith) e in
+    let w = has_tree_within tables most_lists most_sequence_levels most_replication_levels 0 list ns
+    (omega arith) e in
     let size : length (nodes_of w.0) ≡ length ns = ap length w.2 in
     let most : 0 + length ns ≤ most_nodes = w.3 in
     inl (w.0, (w.1, omega arith))
 tree_or_fault tables list (Err f) e = inr (f, (refuses_exactly tables list f).0 e)
 
--- a list has one of them
 pub has_tree_or_fault : (tables : Entries) (list : List ℕ) → HasTreeOrFault tables list
 has_tree_or_fault tables list = tree_or_fault tables list (expansion tables list) refl
 
--- and never both
 pub has_not_both : (tables : Entries) (list : List ℕ) (tree : Tree) (fault : TemplateFault)
     → HasNotBoth tables list tree fault
 has_not_both tables list tree fault h g =
@@ -411,7 +380,6 @@ has_not_both tables list tree fault h g =
     let refused = (refuses_exactly tables list fault).1 g in
     absurd (cc)
 
--- at most one fault is the first
 pub has_one_fault : (tables : Entries) (list : List ℕ) (f g : TemplateFault)
     → HasOneFault tables list f g
 has_one_fault tables list f g h k =
@@ -419,7 +387,6 @@ has_one_fault tables list f g h k =
     let other = (refuses_exactly tables list g).1 k in
     cc
 
--- X1 to X7 name cases without a tree
 pub has_no_tree_at : (tables : Entries) (d : ℕ) (behind : List ℕ) (fault : TemplateFault)
     → HasNoTreeAt tables d behind fault
 unfolding FrontFound

@@ -1,17 +1,17 @@
--- An expansion gives the nodes of a tree exactly where the list has this tree, for
--- `laws::expansion_is_the_tree_of_a_list`.
+-- An expansion is the nodes of a tree exactly if its list has this tree.
 use Rattle.std.proofs.Common.{◌≡◌, ℕ, zero, suc, ◌+◌, ◌<◌, ◌≤◌, cond, ltb, List}
 use Rattle.std.proofs.Common.{[], ◌∷◌, ◌++◌, length, take, drop, Result, Ok, Err, Some, refl, sym}
 use Rattle.std.proofs.Common.{ap, subst, ◌∙◌, arith, add-one, append_assoc, length-append}
 use Rattle.std.proofs.lemmas.Bool.{ltb-true, lt-ltb, cond-true}
 use Rattle.std.proofs.lemmas.List.{take-append-drop, length-take-le, drop_at, take_at}
 use Rattle.std.proofs.lemmas.List.{drop_all}
-use Rattle.bufr_answers.specs.Answers.{◌>>=◌}
+use Rattle.bufr_base.specs.Answers.{◌>>=◌}
 use Rattle.bufr_tables.specs.Descriptors.{f_of, x_of, y_of}
 use Rattle.bufr_tables.specs.declared.element.Element.{Element}
 use Rattle.bufr_tables.specs.Entries.{Entries, element, sequence}
-use Rattle.bufr_answers.specs.AnswerLaws.{bind_ok}
-use Rattle.bufr_expand.specs.Limits.{most_nodes}
+use Rattle.bufr_base.specs.AnswerLaws.{bind_ok}
+use Rattle.bufr_expand.specs.Limits.{most_nodes, most_lists}
+use Rattle.bufr_expand.specs.Limits.{most_sequence_levels, most_replication_levels}
 use Rattle.bufr_expand.specs.declared.node.Node.{Node}
 use Rattle.bufr_expand.specs.declared.node.Node.TheVariants as nodes
 use Rattle.bufr_expand.specs.declared.node.Repetitions.{Repetitions}
@@ -34,7 +34,6 @@ use Rattle.bufr_expand.proofs.ReadingFacts.{IsRead, an_element, an_operator, a_t
 use Rattle.bufr_expand.proofs.ReadingFacts.{a_sequence, a_repeated, a_delayed, reads}
 use Rattle.bufr_expand.proofs.FindingFacts.{found_is}
 
--- the nodes of one tree behind another
 nodes_of-followed_by : (a b : Tree) → nodes_of (followed_by a b) ≡ nodes_of a ++ nodes_of b
 unfolding followed_by nodes_of
 nodes_of-followed_by trees.done b = refl
@@ -55,9 +54,6 @@ nodes_of-followed_by (trees.delayed d e body rest) b =
     ∙ ap (λ (ns : List Node). nodes.Delayed d e (length (nodes_of body)) ∷ ns)
     (sym (append_assoc (nodes_of body) (nodes_of rest) (nodes_of b)))
 
--- ---- a part before the rest
-
--- the tree of a part, by that of the list in it, and of the rest
 with_rest : Part → Tree → Tree → Tree
 with_rest (single (nodes.Element d e)) t rest = trees.element d e rest
 with_rest (single (nodes.Untouched d e)) t rest = trees.untouched d e rest
@@ -68,7 +64,6 @@ with_rest (inner list) t rest = followed_by t rest
 with_rest (replication (repetitions.Times times) body) t rest = trees.repeated times t rest
 with_rest (replication (repetitions.Factor d e) body) t rest = trees.delayed d e t rest
 
--- a tree of the list in a part, where one more level may stand
 InnerFlat : Entries → ℕ → ℕ → Part → Tree → Type 0
 InnerFlat tables s r (single node) t = Unit {0}
 InnerFlat tables zero r (inner list) t = ⊥
@@ -76,7 +71,6 @@ InnerFlat tables (suc s) r (inner list) t = Flat tables s r list t
 InnerFlat tables s zero (replication head body) t = ⊥
 InnerFlat tables s (suc r) (replication head body) t = Flat tables s r body t
 
--- a sequence before the rest
 sequence_next : (tables : Entries) (s r d : ℕ) (behind list : List ℕ) (t rest : Tree) → 3 ≤ f_of d
     → sequence tables d ≡ Some list → InnerFlat tables s r (inner list) t
     → Flat tables s r behind rest → Flat tables s r (d ∷ behind) (followed_by t rest)
@@ -84,7 +78,6 @@ unfolding InnerFlat
 sequence_next tables zero r d behind list t rest f k h g = absurd h
 sequence_next tables (suc s) r d behind list t rest f k h g = sequence_first f k h g
 
--- a body of so many descriptors, behind those that say so, and the list behind it
 body_next : (tables : Entries) (s r x : ℕ) (head : Repetitions) (front behind : List ℕ)
     (t rest : Tree) → x ≤ length behind
     → ((p : ℕ) (body after : List ℕ) → length body ≡ x → Flat tables s p body t
@@ -102,7 +95,6 @@ body_next tables s (suc r) x head front behind t rest long make h g =
     subst P (take-append-drop x behind)
     (make r (take x behind) (drop x behind) (length-take-le x behind long) h g)
 
--- any part before the rest
 flat_next : (tables : Entries) (s r d : ℕ) (behind : List ℕ) (part : Part) (taken : ℕ)
     (t rest : Tree) → IsRead tables d behind part taken → InnerFlat tables s r part t
     → Flat tables s r (drop taken behind) rest
@@ -122,26 +114,20 @@ flat_next tables s r d (factor ∷ behind) part taken t rest (a_delayed {e} f x 
     body_next tables s r (x_of d) (repetitions.Factor factor e) (d ∷ factor ∷ []) behind t rest long
     (λ p body after n b a. delayed_first f x y i k c n b a) h after
 
--- ---- an expansion has a tree
-
--- a tree of a list, these nodes, and no more than there may be
 FlatOf : Entries → ℕ → ℕ → ℕ → List ℕ → List Node → Type 0
 FlatOf tables s r used list ns = (t : Tree) × Flat tables s r list t × (nodes_of t ≡ ns)
     × (used ≤ most_nodes → used + length ns ≤ most_nodes)
 
--- the nodes of an expansion are those of a tree of the list
 AreFlat : Entries → Deeper → Type 0
 AreFlat tables deeper = (s r used : ℕ) (list : List ℕ) (ns : List Node)
     → deeper s r used list ≡ Ok ns → FlatOf tables s r used list ns
 
--- the same of a part, before any rest
 PartFlat : Entries → ℕ → ℕ → ℕ → Part → List Node → Type 0
 PartFlat tables s r used part ns =
     (t : Tree) × InnerFlat tables s r part t
     × ((rest : Tree) → nodes_of (with_rest part t rest) ≡ ns ++ nodes_of rest)
     × (used ≤ most_nodes → used + length ns ≤ most_nodes)
 
--- a part of one node has no body
 leaf_nodes : (tables : Entries) (d taken : ℕ) (behind : List ℕ) (node : Node) (rest : Tree)
     → IsRead tables d behind (single node) taken
     → nodes_of (with_rest (single node) trees.done rest) ≡ (node ∷ []) ++ nodes_of rest
@@ -151,7 +137,6 @@ leaf_nodes tables d taken behind node rest (an_operator f x) = refl
 leaf_nodes tables d taken behind node rest (a_text f x y) = refl
 leaf_nodes tables d taken behind node rest (a_width f x y l k) = refl
 
--- a node that fits
 single_flat : (tables : Entries) (s r used d taken : ℕ) (behind : List ℕ) (node : Node)
     (ns : List Node) → IsRead tables d behind (single node) taken
     → single_nodes used node ≡ Ok ns → PartFlat tables s r used (single node) ns
@@ -168,7 +153,6 @@ single_flat tables s r used d taken behind node ns read e =
       λ fits. omega arith,
     )
 
--- the nodes of a replication's tree
 head_nodes : (head : Repetitions) (body : List ℕ) (t rest : Tree) (ns : List Node) → nodes_of t ≡ ns
     → nodes_of (with_rest (replication head body) t rest) ≡ (replication_node head (length ns) ∷ ns)
     ++ nodes_of rest
@@ -178,7 +162,6 @@ head_nodes (repetitions.Times times) body t rest ns e =
 head_nodes (repetitions.Factor d el) body t rest ns e =
     ap (λ (l : List Node). nodes.Delayed d el (length l) ∷ l ++ nodes_of rest) e
 
--- what a replication that is answered is made of
 pub replication_ok : (deeper : Deeper) (s r used : ℕ) (head : Repetitions) (body : List ℕ)
     (ns : List Node) → replication_nodes deeper s r used head body ≡ Ok ns → (used < most_nodes)
     × (within : List Node) × (deeper s r (used + 1) body ≡ Ok within)
@@ -189,7 +172,6 @@ replication_ok deeper s r used head body ns e =
     let q = bind_ok (deeper s r (used + 1) body) made ns p.1 in
     (ltb-true used most_nodes p.0, q.0, q.1, let own = q.2 in cc)
 
--- a replication that fits
 replication_flat : (tables : Entries) (deeper : Deeper) (s r used : ℕ) (head : Repetitions)
     (body : List ℕ) (ns : List Node) → AreFlat tables deeper
     → replication_nodes deeper s r used head body ≡ Ok ns
@@ -208,7 +190,6 @@ replication_flat tables deeper s r used head body ns all e =
       λ h. omega arith,
     )
 
--- a part that fits
 part_flat : (tables : Entries) (deeper : Deeper) (s r used d taken : ℕ) (behind : List ℕ)
     (part : Part) (ns : List Node) → AreFlat tables deeper → IsRead tables d behind part taken
     → part_nodes deeper s r used part ≡ Ok ns → PartFlat tables s r used part ns
@@ -229,7 +210,6 @@ part_flat tables deeper s zero used d taken behind (replication head body) ns al
 part_flat tables deeper s (suc r) used d taken behind (replication head body) ns all read e =
     replication_flat tables deeper s r used head body ns all e
 
--- a part and the rest
 join_flat : (tables : Entries) (s r used d : ℕ) (behind : List ℕ) (next : FirstPart)
     (first rest ns : List Node) → IsRead tables d behind next.part next.taken → first ++ rest ≡ ns
     → PartFlat tables s r used next.part first
@@ -247,7 +227,6 @@ join_flat tables s r used d behind next first rest ns read same front back =
           omega arith,
     )
 
--- a list that fits
 list_flat : (tables : Entries) (deeper : Deeper) (s r skip used : ℕ) (list : List ℕ)
     (ns : List Node) → AreFlat tables deeper → expand_list tables deeper s r skip used list ≡ Ok ns
     → FlatOf tables s r used (drop skip list) ns
@@ -277,14 +256,12 @@ list_flat tables deeper s r zero used (d ∷ behind) ns all e =
     (used + length first.0) behind rest.0 all rest.1 in
     join_flat tables s r used d behind next.0 first.0 rest.0 ns read same front back
 
--- at any number of levels
 within_flat : (tables : Entries) (levels : ℕ) → AreFlat tables (expand_within levels tables)
 unfolding AreFlat FlatOf expand_within
 within_flat tables zero = λ s r used list ns e. absurd (cc)
 within_flat tables (suc levels) = λ s r used list ns e. list_flat tables
     (expand_within levels tables) s r 0 used list ns (within_flat tables levels) e
 
--- the nodes that are answered are those of a tree
 pub has_tree_within : (tables : Entries) (levels s r used : ℕ) (list : List ℕ) (ns : List Node)
     → used ≤ most_nodes → expand_within levels tables s r used list ≡ Ok ns → (t : Tree)
     × Flat tables s r list t × (nodes_of t ≡ ns) × (used + length ns ≤ most_nodes)
@@ -293,15 +270,12 @@ has_tree_within tables levels s r used list ns fits e =
     let w = within_flat tables levels s r used list ns e in
     (w.0, w.1, w.2, w.3 fits)
 
--- ---- a tree has an expansion
-
--- what the first descriptors of a list are read as, and the list behind them
+-- the part that the first descriptors of a list are, and the list after them
 pub data Opens : Entries → List ℕ → Part → List ℕ → Type 0 where
   opens : {tables : Entries} {d : ℕ} {behind after : List ℕ} {part : Part} {taken : ℕ}
       → IsRead tables d behind part taken → drop taken behind ≡ after
       → Opens tables (d ∷ behind) part after
 
--- behind the nodes of its first part a list is answered as the list behind this part
 pub rest_behind : (tables : Entries) (deeper : Deeper) (s r used : ℕ) (list after : List ℕ)
     (part : Part) (first : List Node) (m : Expansion) → Opens tables list part after
     → part_nodes deeper s r used part ≡ Ok first
@@ -317,7 +291,6 @@ rest_behind tables deeper s r used list after part first m
     (expand_list-skip tables deeper s r taken (used + length first) behind
     ∙ ap (λ (l : List ℕ). expand_list tables deeper s r 0 (used + length first) l) same ∙ q)
 
--- behind a node within the limits
 pub node_behind : (tables : Entries) (deeper : Deeper) (s r used : ℕ) (list after : List ℕ)
     (node : Node) (m : Expansion) → Opens tables list (single node) after → used < most_nodes
     → expand_list tables deeper s r 0 (used + 1) after ≡ m
@@ -326,7 +299,6 @@ node_behind tables deeper s r used list after node m o low q =
     rest_behind tables deeper s r used list after (single node) (node ∷ []) m o
     (cond-true (ltb used most_nodes) _ _ (lt-ltb used most_nodes low)) q
 
--- a replication within the limits is answered as its body
 pub replication_fits : (deeper : Deeper) (s r used : ℕ) (head : Repetitions) (body : List ℕ)
     (m : Expansion) → used < most_nodes → deeper s r (used + 1) body ≡ m
     → replication_nodes deeper s r used head body
@@ -335,7 +307,6 @@ replication_fits deeper s r used head body m low e =
     cond-true (ltb used most_nodes) _ _ (lt-ltb used most_nodes low)
     ∙ ap (λ (x : Expansion). x >>= λ l. Ok (replication_node head (length l) ∷ l)) e
 
--- behind a replication whose body has nodes
 pub body_behind : (tables : Entries) (deeper : Deeper) (s r used : ℕ) (list body after : List ℕ)
     (head : Repetitions) (within : List Node) (m : Expansion)
     → Opens tables list (replication head body) after → used < most_nodes
@@ -350,7 +321,6 @@ body_behind tables deeper s r used list body after head within m o low e q =
     (replication_fits deeper s r used head body (Ok within) low e)
     (subst (λ (n : ℕ). expand_list tables deeper s (suc r) 0 n after ≡ m) count q)
 
--- a replication and its body open a list
 pub body_opens : (tables : Entries) (d : ℕ) (body behind : List ℕ) → f_of d ≡ 1 → 0 < x_of d
     → 0 < y_of d → length body ≡ x_of d
     → Opens tables (d ∷ body ++ behind) (replication (repetitions.Times (y_of d)) body) behind
@@ -361,7 +331,6 @@ body_opens tables d body behind f x y long =
     subst P (take_at body behind (x_of d) long)
     (opens (a_repeated f x y (omega arith)) (drop_at body behind (x_of d) long))
 
--- so they do where the factor stands before the body
 pub factor_opens : (tables : Entries) (d factor : ℕ) (e : Element) (body behind : List ℕ)
     → f_of d ≡ 1 → 0 < x_of d → y_of d ≡ 0 → IsFactor factor → element tables factor ≡ Some e
     → IsCountRow e → length body ≡ x_of d
@@ -374,7 +343,6 @@ factor_opens tables d factor e body behind f x y i k c long =
     subst P (take_at body behind (x_of d) long)
     (opens (a_delayed f x y i k c (omega arith)) (rw add-one (drop_at body behind (x_of d) long)))
 
--- a tree within the limits is answered
 pub flat_expands : (tables : Entries) (s r : ℕ) (list : List ℕ) (t : Tree) → Flat tables s r list t
     → (levels used : ℕ) → s + r ≤ levels → used + length (nodes_of t) ≤ most_nodes
     → expand_list tables (expand_within levels tables) s r 0 used list ≡ Ok (nodes_of t)
@@ -433,21 +401,16 @@ flat_expands tables s r list t (delayed_first {replications = below} {fxy = d} {
     (flat_expands tables s (suc below) behind rest g (suc levels)
     (used + 1 + length (nodes_of within)) deep (omega arith))
 
--- ---- more levels change nothing
-
--- what follows an answer is the same
 bind_same : {A B F : Type 0} (m : Result A F) (f g : A → Result B F) → ((x : A) → f x ≡ g x)
     → (m >>= f) ≡ (m >>= g)
 bind_same (Ok x) f g h = h x
 bind_same (Err e) f g h = refl
 
--- two ways further in that answer the same one level further in
 SameBelow : Deeper → Deeper → ℕ → ℕ → Type 0
 SameBelow a b s r =
     ((p used : ℕ) (list : List ℕ) → s ≡ suc p → a p r used list ≡ b p r used list)
     × ((p used : ℕ) (list : List ℕ) → r ≡ suc p → a s p used list ≡ b s p used list)
 
--- a part does not depend on levels that it does not reach
 part_same : (a b : Deeper) (s r used : ℕ) (part : Part) → SameBelow a b s r
     → part_nodes a s r used part ≡ part_nodes b s r used part
 unfolding SameBelow
@@ -460,7 +423,6 @@ part_same a b s (suc r) used (replication head body) h =
     (x >>= λ l. Ok (replication_node head (length l) ∷ l)) (Err TooManyNodes))
     (h.1 r (used + 1) body refl)
 
--- nor does a list
 list_same : (tables : Entries) (a b : Deeper) (s r skip used : ℕ) (list : List ℕ)
     → SameBelow a b s r → expand_list tables a s r skip used list
     ≡ expand_list tables b s r skip used list
@@ -485,7 +447,6 @@ list_same tables a b s r zero used (d ∷ behind) h =
     (λ first. ap (λ (x : Expansion). x >>= λ rest. Ok (first ++ rest))
     (list_same tables a b s r next.taken (used + length first) behind h)))
 
--- more levels than are reached change nothing
 more_levels : (tables : Entries) (levels more s r used : ℕ) (list : List ℕ) → s + r < levels
     → expand_within (levels + more) tables s r used list ≡ expand_within levels tables s r used list
 unfolding expand_within SameBelow
@@ -499,31 +460,28 @@ more_levels tables (suc levels) more s r used list h =
       λ p used list e. more_levels tables levels more s p used list (omega arith),
     )
 
--- ---- the laws
-
--- the expansion gives the nodes of exactly the tree of the list
 pub expands_exactly : (tables : Entries) (list : List ℕ) (tree : Tree)
     → ExpandsExactly tables list tree
 unfolding AreFlat FlatOf expand_within
 expands_exactly tables list tree = (
-  λ e. let w = within_flat tables 33 16 16 0 list (nodes_of tree) e in
+  λ e. let w = within_flat tables most_lists most_sequence_levels most_replication_levels 0 list
+      (nodes_of tree) e in
       let same : w.0 ≡ tree = sym (tree_of-nodes_of w.0) ∙ ap tree_of w.2 ∙ tree_of-nodes_of tree in
       let fits : 0 + length (nodes_of tree) ≤ most_nodes = w.3 (omega arith) in
-      (subst (Flat tables 16 16 list) same w.1, omega arith),
+      (subst (Flat tables most_sequence_levels most_replication_levels list) same w.1, omega arith),
   λ h. let fits : length (nodes_of tree) ≤ most_nodes = h.1 in
-      flat_expands tables 16 16 list tree h.0 32 0 (omega arith) (omega arith),
+      flat_expands tables most_sequence_levels most_replication_levels list tree h.0
+      (most_sequence_levels + most_replication_levels) 0 (omega arith) (omega arith),
 )
 
--- all that it gives are nodes of a tree
 pub expands_to_trees : (tables : Entries) (list : List ℕ) (ns : List Node)
     → ExpandsToTrees tables list ns
 unfolding AreFlat FlatOf
 expands_to_trees tables list ns e =
-    let w = within_flat tables 33 16 16 0 list ns e in
+    let w = within_flat tables most_lists most_sequence_levels most_replication_levels 0 list ns e in
     let P : List Node → Type 0 = λ l. nodes_of (tree_of l) ≡ l in
     subst P w.2 (ap nodes_of (tree_of-nodes_of w.0))
 
--- a list has at most one tree
 pub has_one_tree : (tables : Entries) (list : List ℕ) (a b : Tree) → HasOneTree tables list a b
 has_one_tree tables list a b h g =
     let e : Ok (nodes_of a) ≡ Ok (nodes_of b) = sym ((expands_exactly tables list a).1 h)
@@ -531,19 +489,24 @@ has_one_tree tables list a b h g =
     let same : nodes_of a ≡ nodes_of b = cc in
     sym (tree_of-nodes_of a) ∙ ap tree_of same ∙ tree_of-nodes_of b
 
--- its 33 levels are enough
 pub has_enough_levels : (tables : Entries) (list : List ℕ) (more : ℕ)
     → HasEnoughLevels tables list more
-has_enough_levels tables list more = more_levels tables 33 more 16 16 0 list (omega arith)
+has_enough_levels tables list more =
+    more_levels tables most_lists more most_sequence_levels most_replication_levels 0 list
+    (omega arith)
 
--- the nodes of a built template are those of its tree
+-- the expansion of a template's list behind so many nodes
+abbrev pub from_levels : Entries → ℕ → List ℕ → Expansion
+from_levels tables used list =
+    expand_within most_lists tables most_sequence_levels most_replication_levels used list
+
 pub built-well_formed : (tables : Entries) (list : List ℕ) (before after : List Node) → before ≡ []
-    → onto before (expand_within 33 tables 16 16 (length before) list) ≡ Ok after
+    → onto before (from_levels tables (length before) list) ≡ Ok after
     → nodes_of (tree_of after) ≡ after
 built-well_formed tables list before after none e =
-    let q = onto_ok before (expand_within 33 tables 16 16 (length before) list) after (sym e) in
+    let q = onto_ok before (from_levels tables (length before) list) after (sym e) in
     let same : after ≡ q.0 = q.2 ∙ ap (λ (l : List Node). l ++ q.0) none in
     let start : length before ≡ 0 = ap length none in
-    let made = ap (λ (n : ℕ). expand_within 33 tables 16 16 n list) (sym start) ∙ q.1 in
+    let made = ap (λ (n : ℕ). from_levels tables n list) (sym start) ∙ q.1 in
     let P : List Node → Type 0 = λ l. nodes_of (tree_of l) ≡ l in
     subst P (sym same) (expands_to_trees tables list q.0 made)

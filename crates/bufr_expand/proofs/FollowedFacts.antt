@@ -1,6 +1,5 @@
--- Behind nodes that are unrolled a course is the one that comes after them, and where a field comes
--- next it shows this field; an item too many stops it. For `laws::courses_are_unrollings` and
--- `laws::courses_begin_unrollings`, by way of `UnrollFacts`.
+-- After the fields of a part its course is that of the rest; the next field shows in it; an item
+-- above the limit stops it.
 use Rattle.std.proofs.Common.{◌≡◌, ℕ, ◌+◌, ◌<◌, ◌≤◌, Option, Some, None, List, [], ◌∷◌}
 use Rattle.std.proofs.Common.{◌++◌}
 use Rattle.std.proofs.Common.{refl, sym, ap, ◌∙◌, subst, inl, inr, arith, append_assoc}
@@ -22,9 +21,7 @@ use Rattle.bufr_expand.specs.NextFields.{Begins}
 use Rattle.bufr_expand.proofs.PassFacts.{item-below, item-above}
 use Rattle.bufr_expand.proofs.TreeParts.{PartCourse, OfPart, IsKept, tree_kept}
 
--- ---- the course after some fields
-
--- what the course is after these fields, as far as it asks for them: else Z
+-- the property P of the course after these fields, or Z if it does not ask for them
 unfoldable pub Comes : Type 0 → (Course → Type 0) → Course → List Told → Type 0
 Comes Z P c [] = P c
 Comes Z P (ends m) (f ∷ fs) = Z
@@ -32,7 +29,6 @@ Comes Z P (stops m fault) (f ∷ fs) = Z
 Comes Z P (asks met d spec more) (f ∷ fs) = (f.fxy ≡ d) × (f.spec ≡ spec)
     × Comes Z P (more f.number) fs
 
--- where a course asks for the fields, what it is then holds of a later course
 pub come_true : (P : Course → Type 0) (c : Course) (fs : List Told) → Comes ⊥ P c fs
     → (later : Course) × After c fs later × P later
 unfolding Comes After
@@ -42,7 +38,6 @@ come_true P (stops m fault) (f ∷ fs) h = absurd h
 come_true P (asks met d spec more) (f ∷ fs) h = let t = come_true P (more f.number) fs h.2 in
     (t.0, (h.0, h.1, t.1), t.2)
 
--- and of the course that is left after them
 pub come_to : (P : Course → Type 0) (c : Course) (fs : List Told) (later : Course)
     → After c fs later → Comes (Unit {0}) P c fs → P later
 unfolding Comes After
@@ -51,18 +46,16 @@ come_to P (ends m) (f ∷ fs) later a h = absurd a
 come_to P (stops m fault) (f ∷ fs) later a h = absurd a
 come_to P (asks met d spec more) (f ∷ fs) later a h = come_to P (more f.number) fs later a.2 h.2
 
--- where an item is too many
+-- an item above the limit
 unfoldable pub Late : Type 0 → (Course → Type 0) → Type 0
 Late Z P = Z × P (stops most_items TooLarge)
 
--- no field stands behind the limit
 stopped : (Z : Type 0) (P : Course → Type 0) (fs : List Told) → Late Z P
     → Comes Z P (stops most_items TooLarge) fs
 unfolding Comes Late
 stopped Z P [] h = h.1
 stopped Z P (f ∷ fs) h = h.0
 
--- behind an item, or at the limit
 in_item : (Z : Type 0) (P : Course → Type 0) (used : ℕ) (c : Course) (fs : List Told)
     → used ≤ most_items → (used < most_items → Comes Z P c fs) → (most_items < used + 1 → Late Z P)
     → Comes Z P (item used c) fs
@@ -77,36 +70,31 @@ in_item Z P used c fs le below above =
           subst Q full (stopped Z P fs (above (omega arith)))
     ]
 
--- with equal fields
 pub with_fields : (Z : Type 0) (P : Course → Type 0) (c : Course) (fs gs : List Told) → fs ≡ gs
     → Comes Z P c fs → Comes Z P c gs
 with_fields Z P c fs gs e h = let Q : List Told → Type 0 = λ l. Comes Z P c l in subst Q e h
 
--- ---- behind nodes that are unrolled
-
--- what comes after so many items, and these fields then
+-- the property of what comes after, within the limit of items
 unfoldable pub Ahead : Type 0 → (Course → Type 0) → Then → Operators → ℕ → List Told → Type 0
 Ahead Z P after r total gs = (total ≤ most_items → Comes Z P (after r total) gs)
     × (most_items < total → Late Z P)
 
--- after as many items, counted in another order
 at_total : (Z : Type 0) (P : Course → Type 0) (after : Then) (r : Operators) (a b : ℕ)
     (gs : List Told) → a ≡ b
     → Ahead Z P after r a gs → Ahead Z P after r b gs
 at_total Z P after r a b gs e h = let Q : ℕ → Type 0 = λ k. Ahead Z P after r k gs in subst Q e h
 
--- behind the fields of a part its course is what comes after it
+-- after the fields of a part its course is what comes after the part
 abbrev pub Follows : Type 0 → (Course → Type 0) → (Unrolled → Type 0) → PartCourse → Type 0
 Follows Z P Here body = (all : Unrolled) (used : ℕ) (after : Then) (gs : List Told) → Here all
     → used ≤ most_items
     → Ahead Z P after all.operators (used + all.items) gs
     → Comes Z P (body used after) (all.fields ++ gs)
 
--- from whatever operators in force
+-- under any operators
 abbrev pub FollowsAll : Type 0 → (Course → Type 0) → UnrollsTo → (Operators → PartCourse) → Type 0
 FollowsAll Z P Body body = (before : Operators) → Follows Z P (Body before) (body before)
 
--- no node
 nothing_follows : (Z : Type 0) (P : Course → Type 0) (before : Operators)
     → Follows Z P (λ all. all ≡ nothing before) (λ used after. after before used)
 unfolding Ahead
@@ -117,7 +105,6 @@ nothing_follows Z P before all used after gs e le a =
     (at_total Z P after before (used + 0) used gs (omega arith) ahead).0 le in
     subst Q (sym e) now a
 
--- an item, and then the rest
 item_follows : (Z : Type 0) (P : Course → Type 0) (Rest : UnrollsTo) (before : Operators)
     (rest : PartCourse)
     → Follows Z P (Rest before) rest
@@ -136,7 +123,6 @@ item_follows Z P Rest before rest step all used after gs h le a =
     (λ above. ahead.1 (omega arith)) in
     subst Q (sym h.in_order) now a
 
--- what stands first, and then the rest
 first_follows : (Z : Type 0) (P : Course → Type 0) (First Rest : UnrollsTo)
     (first rest : Operators → PartCourse)
     → FollowsAll Z P First first → FollowsAll Z P Rest rest
@@ -163,7 +149,6 @@ first_follows Z P First Rest first rest step then before all used after gs h le 
     (others.fields ++ gs) h.is_first le behind) in
     subst Q (sym h.in_order) now a
 
--- a course that asks for a field goes on with what its number decides
 asked_follows : (Z : Type 0) (P : Course → Type 0) (o : Option Spec) (met d : ℕ) (more : ℕ → Course)
     (f : Told)
     (fs : List Told) → o ≡ Some f.spec → f.fxy ≡ d → Comes Z P (more f.number) fs
@@ -174,7 +159,6 @@ asked_follows Z P o met d more f fs e k h =
     let at_spec : Q (Some f.spec) = (k, refl, h) in
     subst Q (sym e) at_spec
 
--- a field, and then the rest
 field_follows : (Z : Type 0) (P : Course → Type 0) (Has : Spec → Type 0) (o : Option Spec) (d : ℕ)
     (Rest : ℕ → UnrollsTo) (before : Operators) (rest : ℕ → PartCourse)
     → ((s : Spec) → Has s → o ≡ Some s)
@@ -198,9 +182,7 @@ field_follows Z P Has o d Rest before rest only step all used after gs h le a =
     (λ above. ahead.1 (omega arith)) in
     subst Q (sym h.in_order) now a
 
--- ---- at what comes next
-
--- what comes next stands in the course, so many items being met
+-- the next field shows in the course after n items
 unfoldable pub Shows : Course → Next → ℕ → Type 0
 Shows (ends m) next n = ⊥
 Shows (stops met fault) (wants k s) n = ⊥
@@ -208,26 +190,24 @@ Shows (stops met fault) (lacks k) n = (met ≡ n) × (fault ≡ EffectiveRange k
 Shows (asks met d spec more) (wants k s) n = (met ≡ n) × (d ≡ k) × (spec ≡ s)
 Shows (asks met d spec more) (lacks k) n = ⊥
 
--- where a course shows what comes next, after so many items, or where they are too many
+-- a course shows the next field, or the items are above the limit
 unfoldable pub Arrives : Type 0 → (Course → Type 0) → Next → ℕ → Type 0
 Arrives Z P next total = ((c : Course) → total ≤ most_items → Shows c next total → P c)
     × (most_items < total → Late Z P)
 
--- after as many items, counted in another order
 of_total : (Z : Type 0) (P : Course → Type 0) (next : Next) (a b : ℕ) → a ≡ b → Arrives Z P next a
     → Arrives Z P next b
 of_total Z P next a b e h = let Q : ℕ → Type 0 = λ k. Arrives Z P next k in subst Q e h
 
--- where something begins, its course shows what comes next
+-- if a part begins so, its course shows the next field
 abbrev pub Meets : Type 0 → (Course → Type 0) → (Begun → Type 0) → PartCourse → Type 0
 Meets Z P Here body = (begun : Begun) (used : ℕ) (after : Then) → Here begun → used ≤ most_items
     → Arrives Z P begun.next (used + begun.items) → Comes Z P (body used after) begun.fields
 
--- from whatever operators in force
+-- under any operators
 abbrev pub MeetsAll : Type 0 → (Course → Type 0) → Beginning → (Operators → PartCourse) → Type 0
 MeetsAll Z P Begin body = (before : Operators) → Meets Z P (Begin before) (body before)
 
--- an item, and behind it the rest
 item_meets : (Z : Type 0) (P : Course → Type 0) (Rest : Beginning) (before : Operators)
     (rest : PartCourse)
     → Meets Z P (Rest before) rest
@@ -245,7 +225,6 @@ item_meets Z P Rest before rest step begun used after h le a =
     (λ above. arrives.1 (omega arith)) in
     subst Q (sym h.in_order) now a
 
--- in what stands first, or behind it
 first_meets : (Z : Type 0) (P : Course → Type 0) (First : UnrollsTo) (Begin Rest : Beginning)
     (first rest : Operators → PartCourse)
     → FollowsAll Z P First first → MeetsAll Z P Begin first → MeetsAll Z P Rest rest
@@ -271,7 +250,6 @@ first_meets Z P First Begin Rest first rest step begin then before begun used af
     step before f used (λ q used. rest q used after) later.fields h.is_first le behind in
     subst Q (sym h.in_order) now a
 
--- what a course shows where it asks for a field or refuses it
 shows : (Has : Spec → Type 0) (o : Option Spec) (met d : ℕ) (more : ℕ → Course) (next : Next)
     → ((s : Spec) → Has s → o ≡ Some s) → ((s : Spec) → o ≡ Some s → Has s) → IsNext d Has next
     → Shows (asks_if o met d more) next met
@@ -282,14 +260,12 @@ shows Has (Some x) met d more (wants k s) only found h = let e : Some x ≡ Some
     (refl, sym h.0, cc)
 shows Has (Some x) met d more (lacks k) only found h = absurd (h.1 x (found x refl))
 
--- a course shows what comes next, where it arrives there
 shown_here : (Z : Type 0) (P : Course → Type 0) (c : Course) (next : Next) (total : ℕ)
     → total ≤ most_items
     → Arrives Z P next total → Shows c next total → Comes Z P c []
 unfolding Comes Arrives
 shown_here Z P c next total fit arrives h = arrives.0 c fit h
 
--- at a field, or behind it
 field_meets : (Z : Type 0) (P : Course → Type 0) (Has : Spec → Type 0) (o : Option Spec) (d : ℕ)
     (Rest : ℕ → Beginning) (before : Operators) (rest : ℕ → PartCourse)
     → ((s : Spec) → Has s → o ≡ Some s) → ((s : Spec) → o ≡ Some s → Has s)
@@ -323,13 +299,10 @@ field_meets Z P Has o d Rest before rest only found step begun used after (inr h
     (λ above. arrives.1 (omega arith)) in
     subst Q (sym h.in_order) now a
 
--- ---- the nodes of a tree
-
--- a part whose course goes on behind its fields, and shows what comes next within it
+-- a part whose course goes on after its fields and shows the next field in it
 abbrev GoesOn : Type 0 → (Course → Type 0) → OfPart
 GoesOn Z P Here Begin body = Follows Z P Here body × Meets Z P Begin body
 
--- so does what is made of such parts
 goes_on_kept : (Z : Type 0) (P : Course → Type 0) → IsKept (GoesOn Z P)
 goes_on_kept Z P = record {
   of_nothing = λ before. (nothing_follows Z P before, λ begun used after h le a. absurd h);
@@ -346,12 +319,10 @@ goes_on_kept Z P = record {
   );
 }
 
--- behind the fields of a tree its course is what comes after it
 pub tree_follows : (Z : Type 0) (P : Course → Type 0) (t : trees.Tree)
     → FollowsAll Z P (Unroll t) (course_then t)
 tree_follows Z P t before = (tree_kept (GoesOn Z P) (goes_on_kept Z P) t before).0
 
--- and within it the course shows what comes next
 pub tree_meets : (Z : Type 0) (P : Course → Type 0) (t : trees.Tree)
     → MeetsAll Z P (Begins t) (course_then t)
 tree_meets Z P t before = (tree_kept (GoesOn Z P) (goes_on_kept Z P) t before).1

@@ -1,6 +1,5 @@
--- The fields that a course asks for are those of some nodes, in front of what comes next or of what
--- is behind these nodes: the way back from a course to an unrolling, for
--- `laws::courses_begin_unrollings`.
+-- The way back from a course to an unrolling: the fields that it asks for are those of some nodes,
+-- up to the next field or past the nodes.
 use Rattle.std.proofs.Common.{◌≡◌, ◌⊎◌, ℕ, ◌+◌, ◌≤◌, Option, Some, None, List, [], ◌∷◌}
 use Rattle.std.proofs.Common.{◌++◌}
 use Rattle.std.proofs.Common.{refl, sym, ap, ◌∙◌, subst, inl, inr, arith, append_assoc}
@@ -22,11 +21,11 @@ use Rattle.bufr_expand.specs.NextFields.{FirstBegins, Begins}
 use Rattle.bufr_expand.proofs.PassFacts.{item-below, item-above}
 use Rattle.bufr_expand.proofs.TreeParts.{PartCourse, OfPart, OfAll, tree_kept}
 
--- no field is told, or the course asks for those that are
+-- there are no more fields, or the course asks for them
 unfoldable pub Still : Course → ℕ → List Told → Course → Type 0
 Still c used fields later = (fields ≡ []) ⊎ ((used ≤ most_items) × After c fields later)
 
--- the fields of some nodes, and those behind them
+-- the fields of some nodes, and the fields after them
 pub record Split (Body : Unrolled → Type 0) (used : ℕ) (after : Then) (fields : List Told)
     (later : Course) : Type 0 where
   pub front : Unrolled
@@ -35,24 +34,22 @@ pub record Split (Body : Unrolled → Type 0) (used : ℕ) (after : Then) (field
   pub here : Body front
   pub behind : Still (after front.operators (used + front.items)) (used + front.items) back later
 
--- what comes next is in some nodes, or these nodes stand whole in front
+-- the next field is in some nodes, or these nodes come whole before it
 abbrev pub Parted : (Unrolled → Type 0) → (Begun → Type 0) → ℕ → Then → List Told → Course → Type 0
 Parted Body Begin used after fields later =
     ((next : Next) × (items : ℕ) × Begin (record { fields = fields; next = next; items = items }))
     ⊎ Split Body used after fields later
 
--- the fields that the course of some nodes asks for are parted so
+-- the fields that the course of some nodes asks for split so
 abbrev pub Finds : OfPart
 Finds Body Begin body = (used : ℕ) (after : Then) (fields : List Told) (later : Course)
     → Still (body used after) used fields later → Parted Body Begin used after fields later
 
--- after as many items, counted in another order
 still_at : (after : Then) (r : Operators) (a b : ℕ) (fields : List Told) (later : Course) → a ≡ b
     → Still (after r a) a fields later → Still (after r b) b fields later
 still_at after r a b fields later e h = let P : ℕ
     → Type 0 = λ k. Still (after r k) k fields later in subst P e h
 
--- no field is told where a course ends or stops
 pub none_told : (n : ℕ) (fields : List Told) (later : Course) (c : Course) → (c ≡ ends n)
     ⊎ ((fault : WalkFault) × (c ≡ stops n fault)) → After c fields later → fields ≡ []
 unfolding After
@@ -62,7 +59,6 @@ none_told n (f ∷ fs) later c (inl e) a = let P : Course → Type 0 = λ v. Aft
 none_told n (f ∷ fs) later c (inr e) a = let P : Course → Type 0 = λ v. After v (f ∷ fs) later in
     absurd (subst P e.1 a)
 
--- behind one more item
 still_item : (used : ℕ) (c : Course) (fields : List Told) (later : Course)
     → Still (item used c) used fields later → Still c (used + 1) fields later
 unfolding Still
@@ -75,7 +71,7 @@ still_item used c fields later (inr h) =
           (inr (TooLarge, item-above used c b)) h.1)
     ]
 
--- the first field that is told, and what is left behind it
+-- the first field, and what is left after it
 record FirstTold (Has : Spec → Type 0) (d met : ℕ) (more : ℕ → Course) (fields : List Told)
     (later : Course) : Type 0 where
   first : Told
@@ -85,7 +81,6 @@ record FirstTold (Has : Spec → Type 0) (d met : ℕ) (more : ℕ → Course) (
   told : Has first.spec
   behind : Still (more first.number) met others later
 
--- a course that asks has told its field, or none
 of_asks : (Has : Spec → Type 0) (spec : Spec) → ((s : Spec) → s ≡ spec → Has s)
     → (d met : ℕ) (more : ℕ → Course) (fields : List Told) (later : Course)
     → Still (asks met d spec more) met fields later → (fields ≡ [])
@@ -104,7 +99,6 @@ of_asks Has spec has d met more (f ∷ fs) later (inr h) =
       behind = inr (h.0, h.1.2);
     })
 
--- the same where the field has a spec or none
 of_asked : (o : Option Spec) (d met : ℕ) (more : ℕ → Course) (fields : List Told) (later : Course)
     → Still (asks_if o met d more) met fields later → (fields ≡ [])
     ⊎ FirstTold (λ s. o ≡ Some s) d met more fields later
@@ -115,13 +109,11 @@ of_asked None d met more fields later (inr h) =
 of_asked (Some spec) d met more fields later a =
     of_asks (λ s. Some spec ≡ Some s) spec (λ s e. ap Some (sym e)) d met more fields later a
 
--- what comes next at a field
 first_next : (Has : Spec → Type 0) (o : Option Spec) (d : ℕ) → ((s : Spec) → Has s → o ≡ Some s)
     → ((s : Spec) → o ≡ Some s → Has s) → (next : Next) × IsNext d Has next
 first_next Has None d only found = (lacks d, (refl, λ s h. let e : None ≡ Some s = only s h in cc))
 first_next Has (Some s) d only found = (wants d s, (refl, found s refl))
 
--- no node
 nothing_finds : (before : Operators) (Begin : Begun → Type 0)
     → Finds (λ all. all ≡ nothing before) Begin (λ used after. after before used)
 nothing_finds before Begin used after fields later a = inr (record {
@@ -132,7 +124,6 @@ nothing_finds before Begin used after fields later a = inr (record {
   behind = still_at after before used (used + 0) fields later (omega arith) a;
 })
 
--- an item, and then the rest
 item_finds : (Rest : UnrollsTo) (Begin : Beginning) (before : Operators) (rest : PartCourse)
     → Finds (Rest before) (Begin before) rest
     → Finds (ItemThen Rest before) (ItemBefore Begin before)
@@ -160,11 +151,10 @@ item_finds Rest Begin before rest find used after fields later a =
       })
     ]
 
--- how some nodes begin, by their fields
+-- the beginning of some nodes, by their fields
 abbrev begun_by : Next → ℕ → List Told → Begun
 begun_by next items fields = record { fields = fields; next = next; items = items }
 
--- what stands first, and then the rest
 first_finds : (First Rest : UnrollsTo) (Begin Behind : Beginning)
     (first rest : Operators → PartCourse)
     → OfAll Finds First Begin first → OfAll Finds Rest Behind rest
@@ -204,7 +194,6 @@ first_finds First Rest Begin Behind first rest find then before used after field
       ]
     ]
 
--- a field, and then the rest
 field_finds : (Has : Spec → Type 0) (o : Option Spec) (d : ℕ) (Rest : ℕ → UnrollsTo)
     (Begin : ℕ → Beginning)
     (before : Operators) (rest : ℕ → PartCourse)
@@ -253,7 +242,6 @@ field_finds Has o d Rest Begin before rest only found find used after fields lat
           ]
     ]
 
--- so the fields that the course of a tree asks for are parted
 pub tree_finds : (t : trees.Tree) → OfAll Finds (Unroll t) (Begins t) (course_then t)
 tree_finds t = tree_kept Finds (record {
   of_nothing = λ before. nothing_finds before (λ begun. ⊥);

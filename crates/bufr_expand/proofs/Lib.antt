@@ -1,4 +1,3 @@
--- The lemmas behind the contracts and laws of this crate: trees, expansions, specs, courses, walks.
 pub mod AskedFacts
 pub mod Between
 pub mod ExpansionFacts

@@ -1,5 +1,4 @@
--- Replications in front of a place, and open replications: what a walk keeps true of itself, for
--- the contract of `Walk::next`.
+-- Replications before a place, and open ones: the invariant of a walk.
 use Rattle.std.proofs.Common.{◌≡◌, ℕ, ◌+◌, ◌≤◌, cond, List, [], ◌∷◌, ◌++◌, length, take, sym, ap}
 use Rattle.std.proofs.Common.{◌∙◌, subst, arith}
 use Rattle.std.proofs.lemmas.List.{take-take, length_push}
@@ -13,12 +12,10 @@ use Rattle.bufr_expand.specs.declared.walk.Walk.{Walk}
 use Rattle.bufr_expand.specs.Places.{repeats, replications, in_front, begins, awaited, IsOpen}
 use Rattle.bufr_expand.specs.Places.{AreOpen}
 
--- no fewer replications stand in front of a later place
 pub in_front-mono : (ns : List Node) (i j : ℕ) → i ≤ j → in_front ns i ≤ in_front ns j
 in_front-mono ns i j h = rw (take-take i j ns h) at
     (sum_by-take-le (λ n. cond (repeats n) 1 0) (take j ns) i)
 
--- one more open replication within so many
 AreOpen-push : (ns : List Node) (depth : ℕ) (os : List Open) (o : Open) (n : ℕ)
     → n ≡ depth + length os → AreOpen ns depth os → IsOpen ns n o → AreOpen ns depth (os ++ o ∷ [])
 unfolding AreOpen
@@ -29,7 +26,6 @@ AreOpen-push ns depth [] o n e h k =
 AreOpen-push ns depth (p ∷ os) o n e h k =
     (h.0, AreOpen-push ns (depth + 1) os o n (omega arith) h.1 k)
 
--- the innermost open replication is left
 AreOpen-pop : (ns : List Node) (depth : ℕ) (os : List Open) (o : Open) (n : ℕ)
     → n ≡ depth + length os → AreOpen ns depth (os ++ o ∷ []) → AreOpen ns depth os × IsOpen ns n o
 unfolding AreOpen
@@ -41,7 +37,6 @@ AreOpen-pop ns depth (p ∷ os) o n e h =
     let r = AreOpen-pop ns (depth + 1) os o n (omega arith) h.1 in
     ((h.0, r.0), r.1)
 
--- one more replication is open
 pub open_more : (ns : List Node) (os all : List Open) (o : Open) → all ≡ os ++ o ∷ []
     → AreOpen ns 0 os → IsOpen ns (length os) o → AreOpen ns 0 all × (length all ≡ length os + 1)
 open_more ns os all o e h k =
@@ -50,7 +45,6 @@ open_more ns os all o e h k =
       ap length e ∙ length_push os o,
     )
 
--- and one fewer, where the innermost is left
 pub open_fewer : (ns : List Node) (os all : List Open) (o : Open) → all ≡ os ++ o ∷ []
     → AreOpen ns 0 all
     → AreOpen ns 0 os × IsOpen ns (length os) o × (length all ≡ length os + 1)
@@ -59,16 +53,12 @@ open_fewer ns os all o e h =
     let r = AreOpen-pop ns 0 os o (length os) (omega arith) (subst P e h) in
     (r.0, r.1, ap length e ∙ length_push os o)
 
--- ---- a walk that waits for nothing
-
--- a walk that goes on waits for no body
 pub inside_of : (s : State) (ns : List Node) (place k : ℕ) → s ≡ states.Going
     → k + awaited s ≤ in_front ns (begins s place) → k ≤ in_front ns place
 inside_of s ns place k e h =
     let P : State → Type 0 = λ v. k + awaited v ≤ in_front ns (begins v place) in
     let g : k + 0 ≤ in_front ns place = subst P e h in omega arith
 
--- and begins at its place, in front of which as many replications stand as are open at least
 pub going_at : (s : State) (ns : List Node) (place k : ℕ) → s ≡ states.Going
     → k ≤ in_front ns place
     → (begins s place ≤ place) × (k + awaited s ≤ in_front ns (begins s place))
@@ -79,7 +69,6 @@ going_at s ns place k e h =
     let i : k + 0 ≤ in_front ns place = omega arith in
     subst P (sym e) (g, i)
 
--- so what a walk keeps true of itself holds at a later place
 pub going_on : (w : Walk) (t : State) (to : ℕ) → w.state ≡ states.Going → t ≡ states.Going
     → w.place ≤ to → to ≤ length w.nodes.now → record {
       within : (to ≤ length w.nodes.now) × (w.stop ≤ length w.nodes.now);

@@ -1,5 +1,4 @@
--- Powers of ten, and numbers within a limit, for the contract of `Operators::effective` and the law
--- `laws::specs_are_effective`.
+-- Powers of ten, and numbers within a limit.
 use Rattle.std.proofs.Common.{◌≡◌, ◌≢◌, ℕ, zero, suc, ◌*◌, ◌^◌, ◌<◌, ◌≤◌, ℤ, pos, negsuc, ◌*ℤ◌}
 use Rattle.std.proofs.Common.{false, Option, Some, None, MatchOption, refl, arith, lit<}
 use Rattle.std.specs.Bool.{Decides}
@@ -12,27 +11,22 @@ use Rattle.std.proofs.Math.Nat.{pow-le-pow_right, mul-le-mul}
 use Rattle.bufr_expand.specs.Limits.{most_reference}
 use Rattle.bufr_expand.specs.OperatorsInForce.{is_within}
 
--- what is multiplied by 10 up to eighteen times fits 64 bits
 pub ten_power_below : (y : ℕ) → y ≤ 18 → 10 ^ y ≤ 1000000000000000000
 ten_power_below y h = pow-le-pow_right {n = 10} (lit< tt) h
 
--- and what is multiplied by it more often is beyond the limit
 pub ten_power_above : (y : ℕ) → 18 < y → 10000000000000000000 ≤ 10 ^ y
 ten_power_above y h = let g : 19 ≤ y = omega arith in pow-le-pow_right {n = 10} (lit< tt) g
 
--- a number within a limit
 pub decides_within : (limit : ℕ) (z : ℤ) → Decides (is_within limit z) (unsigned_abs z ≤ limit)
 decides_within limit (pos n) = (leb-true n limit, le-leb n limit)
 decides_within limit (negsuc n) =
     (λ h. let k = ltb-true n limit h in omega arith, λ h. lt-ltb n limit (omega (arith, h)))
 
--- what is not 0 is 1 from it at least
 abs_from_one : (z : ℤ) → z ≢ pos 0 → 1 ≤ unsigned_abs z
 abs_from_one (pos zero) h = absurd (h refl)
 abs_from_one (pos (suc n)) h = omega arith
 abs_from_one (negsuc n) h = omega arith
 
--- a number other than 0 times 10 to the 19 or more is outside
 pub outside_times : (z : ℤ) (y : ℕ) → z ≢ pos 0 → 18 < y
     → is_within most_reference (z *ℤ pos (10 ^ y)) ≡ false
 outside_times z y h g =
@@ -43,14 +37,12 @@ outside_times z y h g =
     false_from_ne_true (is_within most_reference (z *ℤ pos (10 ^ y)))
     (λ h. let small = (decides_within most_reference (z *ℤ pos (10 ^ y))).0 h in omega arith)
 
--- what does not fit 64 bits is outside
 pub outside_unfit : (z : ℤ) → (FitsSigned w64 z → ⊥) → is_within most_reference z ≡ false
 outside_unfit z h =
     false_from_ne_true (is_within most_reference z)
     (λ e. let small = (decides_within most_reference z).0 e in
     h (fits_signed_from_abs w64 z (omega arith)))
 
--- a checked product is the product, or is outside
 pub checked_is : (o : Option ℤ) (z : ℤ) → SomeIff o (FitsSigned w64 z) z
     → MatchOption o (is_within most_reference z ≡ false) (λ r. r ≡ z)
 checked_is None z h = outside_unfit z h

@@ -1,5 +1,4 @@
--- What a descriptor is found to stand for, or which fault it is, as facts in place of tests, for
--- `laws::expansion_is_the_tree_of_a_list` and `laws::refusal_is_the_first_fault`.
+-- The meaning of a descriptor, or its fault, as facts in place of tests.
 use Rattle.std.proofs.Common.{◌≡◌, ◌≢◌, inl, inr, ℕ, zero, suc, ◌+◌, ◌<◌, ◌≤◌, Bool, true, eqb}
 use Rattle.std.proofs.Common.{ltb, leb, ◌==◌, ◌&&◌, ◌||◌, not, List, [], ◌∷◌, length, take, Option}
 use Rattle.std.proofs.Common.{Some, None, Ok, Err, pos, negsuc, ℤ, refl, ap, subst, ◌∙◌, arith}
@@ -29,7 +28,7 @@ use Rattle.bufr_expand.specs.FirstFaults.{not_a_factor, factor_without_row, fact
 use Rattle.bufr_expand.specs.FirstFaults.{too_few_left, too_few_behind_factor, no_text, no_width}
 use Rattle.bufr_expand.specs.FirstFaults.{width_of_nothing, width_of_no_element, too_wide}
 
--- what a descriptor stands for, and how many behind it belong to it, by cases
+-- the meaning of a descriptor by cases, and the number of descriptors that it takes
 pub data IsRead : Entries → ℕ → List ℕ → Part → ℕ → Type 0 where
   an_element : {tables : Entries} {d : ℕ} {behind : List ℕ} {e : Element} → f_of d ≡ 0
       → element tables d ≡ Some e → IsRead tables d behind (single (nodes.Element d e)) 0
@@ -50,19 +49,14 @@ pub data IsRead : Entries → ℕ → List ℕ → Part → ℕ → Type 0 where
       → x_of d ≤ length behind → IsRead tables d (factor ∷ behind)
       (replication (repetitions.Factor factor e) (take (x_of d) behind)) (x_of d + 1)
 
--- ---- tests as facts
-
--- a text
 decides_text : (k : Kind) → Decides (same_kind k kinds.Text) (k ≡ kinds.Text)
 decides_text kinds.Text = (λ h. refl, λ e. refl)
 decides_text _ = (λ h. cc, λ e. cc)
 
--- an integer that is 0
 decides_zero : (z : ℤ) → Decides (same_integer z (pos 0)) (z ≡ pos 0)
 decides_zero (pos n) = (λ h. ap pos (eqb-true n 0 h), λ e. ap (λ z. same_integer z (pos 0)) e)
 decides_zero (negsuc n) = (λ h. cc, λ e. cc)
 
--- a row that gives a count
 pub decides_count : (e : Element) → Decides (is_factor_row e) (IsCountRow e)
 decides_count e =
     Decides-like (is_factor_row e) (λ h. (h.0.0.0.0, h.0.0.0.1, h.0.0.1, h.0.1, h.1))
@@ -76,12 +70,10 @@ decides_count e =
 unfoldable pub is_factor : ℕ → Bool
 is_factor factor = leb (descriptor 0 31 0) factor && leb factor (descriptor 0 31 2)
 
--- 031000 to 031002 pass it, and no others do
 pub decides_factor : (factor : ℕ) → Decides (is_factor factor) (IsFactor factor)
 unfolding is_factor
 decides_factor factor = Decides-and _ _ (leb-true _ _, le-leb _ _) (leb-true _ _, le-leb _ _)
 
--- an operator that stays in force
 pub stays_is : (x : ℕ) → stays_in_force x ≡ true → StaysInForce x
 stays_is x h =
     elim (or_cases ((x == 1 || x == 2) || x == 7) (x == 8) h) [
@@ -93,35 +85,28 @@ stays_is x h =
       | inr a ↦ inr (inr (inr (eqb-true x 8 a)))
     ]
 
--- and back
 pub stays_tells : (x : ℕ) → StaysInForce x → stays_in_force x ≡ true
 stays_tells x (inl e) = ap stays_in_force e
 stays_tells x (inr (inl e)) = ap stays_in_force e
 stays_tells x (inr (inr (inl e))) = ap stays_in_force e
 stays_tells x (inr (inr (inr e))) = ap stays_in_force e
 
--- ---- what is found is right
-
--- a part is right where it is read so, and a fault where the tree of a list has no case
 IsRight : Entries → ℕ → List ℕ → Finding → Type 0
 IsRight tables d behind (Ok next) = IsRead tables d behind next.part next.taken
 IsRight tables d behind (Err f) = HasNoCase tables d behind f
 
--- an element
 right_element : (tables : Entries) (d : ℕ) (behind : List ℕ) (o : Option Element) → f_of d ≡ 0
     → element tables d ≡ o → IsRight tables d behind (element_found d o)
 unfolding IsRight
 right_element tables d behind None h k = unknown_element h k
 right_element tables d behind (Some e) h k = an_element h k
 
--- a sequence
 right_sequence : (tables : Entries) (d : ℕ) (behind : List ℕ) (o : Option (List ℕ)) → 3 ≤ f_of d
     → sequence tables d ≡ o → IsRight tables d behind (sequence_found d o)
 unfolding IsRight
 right_sequence tables d behind None h k = unknown_sequence h k
 right_sequence tables d behind (Some list) h k = a_sequence h k
 
--- a replication of a number of times
 right_repeated : (tables : Entries) (d : ℕ) (behind : List ℕ) → f_of d ≡ 1 → 0 < x_of d
     → 0 < y_of d → IsRight tables d behind (repeated_found d behind)
 unfolding IsRight
@@ -129,7 +114,6 @@ right_repeated tables d behind f x y =
     cond_both (ltb (length behind) (x_of d)) _ _ (IsRight tables d behind)
     (λ h. too_few_left f y (ltb-true _ _ h)) (λ h. a_repeated f x y (ltb-false _ _ h))
 
--- a replication by a factor with a row or none
 right_delayed : (tables : Entries) (d factor : ℕ) (behind : List ℕ) (o : Option Element)
     → f_of d ≡ 1 → 0 < x_of d → y_of d ≡ 0 → IsFactor factor → element tables factor ≡ o
     → IsRight tables d (factor ∷ behind) (factor_found d factor behind o)
@@ -144,7 +128,6 @@ right_delayed tables d factor behind (Some e) f x y i k =
     (λ g. too_few_behind_factor f y i k count (ltb-true _ _ g))
     (λ g. a_delayed f x y i k count (ltb-false _ _ g)))
 
--- a replication by a factor
 right_factor : (tables : Entries) (d : ℕ) (behind : List ℕ) → f_of d ≡ 1 → 0 < x_of d → y_of d ≡ 0
     → IsRight tables d behind (delayed_found tables d behind)
 unfolding IsRight is_factor
@@ -156,7 +139,6 @@ right_factor tables d (factor ∷ behind) f x y =
     ((decides_factor factor).0 h) refl)
     (λ h. not_a_factor f x y (not_from_Decides (is_factor factor) (decides_factor factor) h))
 
--- any replication
 right_replication : (tables : Entries) (d : ℕ) (behind : List ℕ) → f_of d ≡ 1
     → IsRight tables d behind (replication_found tables d behind)
 unfolding IsRight
@@ -169,7 +151,6 @@ right_replication tables d behind f =
     (λ g. let y : y_of d ≢ 0 = eqb-false (y_of d) 0 g in
     right_repeated tables d behind f (omega arith) (omega arith)))
 
--- 206 before an element without such a row
 right_number : (tables : Entries) (d local : ℕ) (behind : List ℕ) → f_of d ≡ 2 → x_of d ≡ 6
     → 0 < y_of d → f_of local ≡ 0
     → ((e : Element) → element tables local ≡ Some e → e.width ≢ y_of d)
@@ -180,7 +161,6 @@ right_number tables d local behind f x y l other =
     (λ h. too_wide f x (ltb-true _ _ h) l other)
     (λ h. a_width f x y l (as_number other (ltb-false _ _ h)))
 
--- 206 before an element
 right_local : (tables : Entries) (d local : ℕ) (behind : List ℕ) (o : Option Element) → f_of d ≡ 2
     → x_of d ≡ 6 → 0 < y_of d → f_of local ≡ 0 → element tables local ≡ o
     → IsRight tables d (local ∷ behind) (local_found d local o)
@@ -194,7 +174,6 @@ right_local tables d local behind (Some e) f x y l k =
     (λ g q w. let same : e ≡ g = cc in
     eqb-false e.width (y_of d) h (ap (λ (a : Element). a.width) same ∙ w)))
 
--- 206
 right_width : (tables : Entries) (d : ℕ) (behind : List ℕ) → f_of d ≡ 2 → x_of d ≡ 6 → 0 < y_of d
     → IsRight tables d behind (width_found tables d behind)
 unfolding IsRight
@@ -205,7 +184,6 @@ right_width tables d (local ∷ behind) f x y =
     (eqb-true (f_of local) 0 h) refl)
     (λ h. width_of_no_element f x y (eqb-false (f_of local) 0 h))
 
--- any operator
 right_operator : (tables : Entries) (d : ℕ) (behind : List ℕ) → f_of d ≡ 2
     → IsRight tables d behind (operator_found tables d behind)
 unfolding IsRight
@@ -225,7 +203,6 @@ right_operator tables d behind f =
     (λ q. unsupported_operator f (λ s. both_ways (stays_in_force (x_of d)) h
     (stays_tells (x_of d) s)) (eqb-false (x_of d) 5 g) (eqb-false (x_of d) 6 q))))
 
--- any descriptor, by its F
 right_by : (f : ℕ) (tables : Entries) (d : ℕ) (behind : List ℕ) → f_of d ≡ f
     → IsRight tables d behind (found_by f tables d behind)
 right_by zero tables d behind h = right_element tables d behind (element tables d) h refl
@@ -234,14 +211,12 @@ right_by (suc (suc zero)) tables d behind h = right_operator tables d behind h
 right_by (suc (suc (suc f))) tables d behind h =
     right_sequence tables d behind (sequence tables d) (omega arith) refl
 
--- a part that is found is read so
 pub reads : (tables : Entries) (d : ℕ) (behind : List ℕ) (next : FirstPart)
     → found_at tables d behind ≡ Ok next → IsRead tables d behind next.part next.taken
 unfolding IsRight
 reads tables d behind next e = subst (IsRight tables d behind) e
     (right_by (f_of d) tables d behind refl)
 
--- and where a fault is found the tree of a list has no case
 pub has_no_case : (tables : Entries) (d : ℕ) (behind : List ℕ) (f : TemplateFault)
     → found_at tables d behind ≡ Err f → HasNoCase tables d behind f
 unfolding IsRight

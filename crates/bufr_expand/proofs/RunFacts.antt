@@ -1,4 +1,4 @@
--- Runs of fields: how they join, and which nodes and turns are runs, for `Walk::pass_turns`.
+-- How runs join, and which nodes and turns are runs.
 use Rattle.std.proofs.Common.{◌≡◌, ℕ, zero, suc, ◌+◌, ◌*◌, ◌<◌, ◌≤◌, false, List, [], ◌∷◌, ◌++◌}
 use Rattle.std.proofs.Common.{length, drop, take, min, Option, Some, refl, sym, ap, ◌∙◌, subst}
 use Rattle.std.proofs.Common.{length-append, inl, inr, arith}
@@ -37,9 +37,6 @@ use Rattle.bufr_expand.proofs.Between.{tree_of-repeated}
 use Rattle.bufr_expand.proofs.PassFacts.{item-below, left_going, entered}
 use Rattle.bufr_expand.proofs.SpecFacts.{in_table, effective_found}
 
--- ---- from one course to another
-
--- their bits add up
 bits_joined : (xs ys : List Told) (a b c : ℕ) → c ≡ a + b → AddUp xs a → AddUp ys b
     → AddUp (xs ++ ys) c
 unfolding AddUp
@@ -47,7 +44,6 @@ bits_joined [] ys a b c sum h g = let same : b ≡ c = omega (arith, sum, h) in 
 bits_joined (x ∷ xs) ys a b c sum h g =
     (h.0 + b, h.1, bits_joined xs ys h.0 b (h.0 + b) refl h.2 g, omega (arith, sum, h.3))
 
--- one run behind another
 pub leads_joined : (c d e : Course) (r s t : Run) → t.fields ≡ r.fields + s.fields
     → t.bits ≡ r.bits + s.bits → Leads c r d → Leads d s e → Leads c t e
 leads_joined c d e r s t fields bits h g = record {
@@ -58,13 +54,11 @@ leads_joined c d e r s t fields bits h g = record {
   bits_are = bits_joined h.fields g.fields r.bits s.bits t.bits bits h.bits_are g.bits_are;
 }
 
--- no field
 pub leads_nowhere : (c d : Course) (r : Run) → r.fields ≡ 0 → r.bits ≡ 0 → c ≡ d → Leads c r d
 unfolding After AddUp
 leads_nowhere c d r fields bits is =
     record { fields = []; asked = is; fields_are = sym fields; bits_are = bits }
 
--- one field, whose number decides nothing
 leads_field : (met d : ℕ) (spec : Spec) (c later : Course) (r : Run) → r.fields ≡ 1
     → r.bits ≡ spec.width → HasWidth spec → c ≡ asks met d spec (λ n. later) → Leads c r later
 unfolding After AddUp
@@ -77,7 +71,6 @@ leads_field met d spec c later r fields bits has is = record {
   bits_are = (0, has, refl, omega (arith, bits));
 }
 
--- the same fields by another run that has as many, of as many bits
 leads_parts : (c d : Course) (r s : Run) → s.fields ≡ r.fields → s.bits ≡ r.bits → Leads c r d
     → Leads c s d
 leads_parts c d r s fields bits h = record {
@@ -87,18 +80,13 @@ leads_parts c d r s fields bits h = record {
   bits_are = subst (AddUp h.fields) (sym bits) h.bits_are;
 }
 
--- a run by an equal course in front, and an equal one behind
 leads_from : (b c d e : Course) (r : Run) → b ≡ c → d ≡ e → Leads c r d → Leads b r e
 leads_from b c d e r front back h =
     subst (λ x. Leads x r e) (sym front) (subst (Leads c r) back h)
 
--- the same run by its parts
 leads_as : (c d : Course) (r s : Run) → r ≡ s → Leads c r d → Leads c s d
 leads_as c d r s same h = subst (λ x. Leads c x d) same h
 
--- ---- specs
-
--- a text
 text_width : (spec : Spec) → IsTextSpec spec → HasWidth spec
 text_width spec h = record {
   no_count = rw h.is_text refl;
@@ -106,7 +94,6 @@ text_width spec h = record {
   few_bits = λ not. absurd (not h.is_text);
 }
 
--- a number as its row says
 row_width : (e : Element) (spec : Spec) → same_kind spec.kind kinds.Count ≡ false
     → (e.kind ≡ kinds.Text → ⊥) → IsAsRow e spec → HasWidth spec
 row_width e spec kind not h = record {
@@ -115,13 +102,11 @@ row_width e spec kind not h = record {
   few_bits = λ other. h.within.few_bits;
 }
 
--- a field that no operator changes
 table_width : (e : Element) (spec : Spec) → same_kind spec.kind kinds.Count ≡ false
     → AsInTable e spec → HasWidth spec
 table_width e spec kind (text is same h) = text_width spec h
 table_width e spec kind (number not h) = row_width e spec kind not h
 
--- a field under operators
 effective_width : (d : ℕ) (e : Element) (q : Operators) (spec : Spec)
     → same_kind spec.kind kinds.Count ≡ false → Effective d e q spec → HasWidth spec
 effective_width d e q spec kind (of_text is bits h) = text_width spec h
@@ -132,9 +117,6 @@ effective_width d e q spec kind (changed is class h) = record {
 }
 effective_width d e q spec kind (unchanged not class h) = row_width e spec kind not h
 
--- ---- nodes
-
--- no node
 pub begins_nowhere : (t : Tree) (q : Operators) → BeginsRun t q no_run t
 begins_nowhere t q = record {
   few = omega arith;
@@ -143,7 +125,6 @@ begins_nowhere t q = record {
       leads_nowhere _ _ no_run refl refl (ap (λ n. course_then t q n after) same);
 }
 
--- nodes behind nodes
 pub begins_joined : (a b c : Tree) (q : Operators) (r s t : Run) → t ≡ joined_runs r s
     → BeginsRun a q r b → BeginsRun b q s c → BeginsRun a q t c
 begins_joined a b c q r s t is h g =
@@ -157,7 +138,6 @@ begins_joined a b c q r s t is h g =
           (g.leads (used + r.items) after (omega (arith, room))));
     })
 
--- one field, and the rest of the nodes
 field_leads : (d used : ℕ) (found : Option Spec) (later : Course) (r : Run)
     → used < most_items → IsFieldRun found r → ((spec : Spec) → found ≡ Some spec → same_kind spec.kind kinds.Count ≡ false → HasWidth spec)
     → Leads (item used (asks_if found (used + 1) d (λ n. later))) r later
@@ -166,7 +146,6 @@ field_leads d used found later r room (spec, is, kind, same) has =
     (leads_field (used + 1) d spec _ later _ refl refl (has spec is kind)
     (item-below used _ room ∙ ap (λ o. asks_if o (used + 1) d (λ n. later)) is))
 
--- an element
 pub begins_element : (d : ℕ) (e : Element) (rest : List Node) (q : Operators) (r : Run)
     → IsFieldRun (effective d e q) r
     → BeginsRun (tree_of (nodes.Element d e ∷ rest)) q r (tree_of rest)
@@ -182,7 +161,6 @@ begins_element d e rest q r h = record {
       (λ spec is kind. effective_width d e q spec kind (effective_found d e q spec is)));
 }
 
--- one that no operator changes
 pub begins_untouched : (d : ℕ) (e : Element) (rest : List Node) (q : Operators) (r : Run)
     → IsFieldRun (untouched e) r
     → BeginsRun (tree_of (nodes.Untouched d e ∷ rest)) q r (tree_of rest)
@@ -198,13 +176,9 @@ begins_untouched d e rest q r h = record {
       (λ spec is kind. table_width e spec kind (in_table e spec is)));
 }
 
--- ---- turns
-
--- one turn and those behind it
 turn_items : (n b : ℕ) → suc n * (1 + b) ≡ 1 + b + n * (1 + b)
 turn_items n b = grind arith
 
--- turns of a body that is a run
 turns_lead : (n : ℕ) (t : Tree) (q : Operators) (body : Run) → BeginsRun t q body trees.done
     → (used : ℕ) (after : Then) → used + n * (1 + body.items) ≤ most_items
     → Leads (turns n (course_then t) q used after) (turned_run n body)
@@ -226,15 +200,12 @@ turns_lead (suc n) t q body h used after room =
     (h.leads (used + 1) _ (omega (arith, items, room)))
     (leads_from _ _ _ _ _ refl (ap (after q) next) others))
 
--- no more fields than items
 turns_few : (n f i : ℕ) → f ≤ i → n * f ≤ n * (1 + i)
 turns_few n f i h = grind arith
 
--- each turn is an item
 turns_count : (n i : ℕ) → n ≤ n * (1 + i)
 turns_count n i = grind arith
 
--- so turns of nodes are one
 pub turns_of_run : (n : ℕ) (t : Tree) (q : Operators) (body r : Run) → r ≡ turned_run n body
     → BeginsRun t q body trees.done → TurnsRun n t q r
 turns_of_run n t q body r is h =
@@ -245,9 +216,6 @@ turns_of_run n t q body r is h =
       leads = turns_lead n t q body h;
     })
 
--- ---- replications
-
--- the nodes of a body, which ends with those that are there
 body_nodes : (len n : ℕ) (rest : List Node) → n ≡ min len (length rest)
     → (take len rest ≡ take n rest) × (drop len rest ≡ drop n rest)
 body_nodes len n rest is =
@@ -261,7 +229,6 @@ body_nodes len n rest is =
           (ap (λ k. take k rest) same, ap (λ k. drop k rest) same)
     ]
 
--- the turns of a body, and the nodes behind it
 repeated_leads : (times : ℕ) (body rest : Tree) (q : Operators) (turned r : Run)
     → r ≡ behind_item turned → TurnsRun times body q turned
     → BeginsRun (trees.repeated times body rest) q r rest
@@ -279,7 +246,6 @@ repeated_leads times body rest q turned r is h =
           (omega (arith, room))));
     })
 
--- a replication
 pub begins_repeated : (times len n : ℕ) (rest : List Node) (q : Operators) (turned r : Run)
     → n ≡ min len (length rest) → r ≡ behind_item turned
     → TurnsRun times (tree_of (take n rest)) q turned
@@ -292,16 +258,10 @@ begins_repeated times len n rest q turned r size is h =
     ∙ ap (λ l. trees.repeated times (tree_of (take n rest)) (tree_of l)) parts.1))
     (repeated_leads times (tree_of (take n rest)) (tree_of (drop n rest)) q turned r is h)
 
--- ---- all nodes
-
--- the nodes that a loop has left
 pub begins_rest : (t : Tree) (q : Operators) (r : Run) (ns ms : List Node) → ns ≡ ms
     → BeginsRun t q r (tree_of ns) → BeginsRun t q r (tree_of ms)
 begins_rest t q r ns ms is h = subst (λ l. BeginsRun t q r (tree_of l)) is h
 
--- ---- walks
-
--- the last of a list, and those before it
 pub last_apart : {A : Type 0} (xs : List A) (x : A) → slice_get xs (length xs - 1) ≡ Some x
     → xs ≡ take (length xs - 1) xs ++ x ∷ []
 last_apart xs x is =
@@ -312,7 +272,6 @@ last_apart xs x is =
     ∙ take_more xs (length xs - 1) x inside
     ∙ ap (λ y. take (length xs - 1) xs ++ y ∷ []) (get_or_from_slice_get xs (length xs - 1) x x is)
 
--- what comes after the nodes at hand is steady
 steady_behind : (ns : List Node) (os : List Open) (after : Then)
     → ((q : Operators) (used : ℕ) → IsSteady used (after q used)) → (q : Operators) (used : ℕ)
     → IsSteady used (behind ns os after q used)
@@ -324,7 +283,6 @@ steady_behind ns (o ∷ os) after s q used =
     (steady_then (tree_between ns o.from o.to)) q used _
     (λ q used. steady_then (tree_between ns o.to o.stop) q used after s)) q used
 
--- so is what is left at a place
 pub steady_going : (ns : List Node) (place stop : ℕ) (os : List Open) (q : Operators) (used : ℕ)
     → IsSteady used (going ns place stop os q used)
 unfolding IsSteady
@@ -332,7 +290,6 @@ steady_going ns place stop os q used =
     steady_then (tree_between ns place stop) q used (behind_all ns os)
     (steady_behind ns os (λ q used. ends used) (λ q used. tt))
 
--- what is left of a walk in front of turns leads to what is left behind them
 pub turns_passed : (w v : Walk) (turn : Open) (r : Run) → IsInnermost w turn
     → w.items + r.items ≤ most_items
     → TurnsRun turn.turns (tree_between w.nodes.now turn.from turn.to) w.operators r

@@ -1,5 +1,4 @@
--- The spec of an element is the only one for which the equations of Table C and the limits hold,
--- for `laws::specs_are_effective`. The courses of a template use both directions.
+-- The spec of an element is the only one that meets the equations of Table C and the limits.
 use Rattle.std.proofs.Common.{◌≡◌, ◌⊎◌, ℕ, ◌+◌, ◌*◌, ◌/◌, ◌%◌, ◌^◌, ◌≤◌, ℤ, pos, negsuc, ◌+ℤ◌, ◌*ℤ◌}
 use Rattle.std.proofs.Common.{Bool, true, false, Option, Some, None, ◌&&◌, ◌==◌, nat_le}
 use Rattle.std.proofs.Common.{if◌then◌else◌}
@@ -26,15 +25,11 @@ use Rattle.bufr_expand.specs.Effects.{Increases, IsChanged, HasTextBits, Effecti
 use Rattle.bufr_expand.specs.Effects.{changed, unchanged}
 use Rattle.bufr_expand.proofs.Powers.{decides_within}
 
--- ---- tests
-
--- a test before another
 if_then : {A : Type 0} (b : Bool) (x : Option A) (y : A) → (if b then x else None) ≡ Some y
     → (b ≡ true) × (x ≡ Some y)
 if_then true x y h = (refl, h)
 if_then false x y h = cc
 
--- the tests of a number
 decides_number : (width : ℕ) (reference : ℤ)
     → Decides (nat_le 1 width && nat_le width most_number_bits
     && is_within most_reference reference)
@@ -44,7 +39,6 @@ decides_number width reference =
     (leb-true width most_number_bits, le-leb width most_number_bits))
     (decides_within most_reference reference)
 
--- the tests of a text
 decides_octets : (width : ℕ)
     → Decides (nat_le 8 width && nat_le width most_text_bits && (width % 8 == 0))
     (((8 ≤ width) × (width ≤ most_text_bits)) × (width % 8 ≡ 0))
@@ -52,9 +46,7 @@ decides_octets width =
     Decides-and _ _ (Decides-and _ _ (leb-true 8 width, le-leb 8 width)
     (leb-true width most_text_bits, le-leb width most_text_bits)) (Decides-eqb (width % 8) 0)
 
--- ---- numbers and texts
-
--- the spec of a number, by its parts and by the row that it comes from
+-- the spec of a number, by its parts and its row
 record IsNumberOf (row : Element) (kind : Kind) (scale reference width : ℤ)
     (spec : Spec) : Type 0 where
   kind_is : spec.kind ≡ kind
@@ -63,7 +55,6 @@ record IsNumberOf (row : Element) (kind : Kind) (scale reference width : ℤ)
   width_is : pos spec.width ≡ width
   within : IsNumber row spec
 
--- the tests of `number_spec`, as facts of the spec that it gives
 number_parts : (row : Element) (kind : Kind) (scale reference width : ℤ) (spec : Spec)
     → unsigned_abs row.scale ≤ most_scale → number_spec kind scale reference width ≡ Some spec
     → IsNumberOf row kind scale reference width spec
@@ -86,12 +77,11 @@ number_parts row kind scale reference (pos w) spec t h =
       });
     }
 
--- the spec of a number, where the scale of its row is within the limit
+-- the spec of a number, if the scale of its row is within the limit
 abbrev number_by : Element → Kind → ℤ → ℤ → ℤ → Option Spec
 number_by row kind scale reference width =
     if is_within most_scale row.scale then number_spec kind scale reference width else None
 
--- what it gives has these parts
 number_found : (row : Element) (kind : Kind) (scale reference width : ℤ) (spec : Spec)
     → number_by row kind scale reference width ≡ Some spec
     → IsNumberOf row kind scale reference width spec
@@ -101,7 +91,6 @@ number_found row kind scale reference width spec h =
     number_parts row kind scale reference width spec ((decides_within most_scale row.scale).0 p.0)
     p.1
 
--- and back
 number_only : (row : Element) (kind : Kind) (scale reference width : ℤ) (spec : Spec)
     → IsNumberOf row kind scale reference width spec
     → number_by row kind scale reference width ≡ Some spec
@@ -115,7 +104,6 @@ number_only row kind scale reference width spec h =
     ((h.within.some_bit, h.within.few_bits), h.within.reference_within)) in
     rw (sym h.kind_is, sym h.scale_is, sym h.reference_is, sym h.width_is) own
 
--- the tests of `text_spec`, as facts of the spec that it gives
 text_found : (width : ℕ) (spec : Spec) → text_spec width ≡ Some spec
     → (spec.width ≡ width) × IsTextSpec spec
 text_found w spec h =
@@ -133,7 +121,6 @@ text_found w spec h =
       }),
     )
 
--- and back
 text_only : (width : ℕ) (spec : Spec) → spec.width ≡ width → IsTextSpec spec
     → text_spec width ≡ Some spec
 text_only width spec same h =
@@ -150,9 +137,6 @@ text_only width spec same h =
     ((decides_octets w).1 ((h.some_octet, h.few_octets), h.whole_octets)) ∙ ap Some e in
     subst (λ (n : ℕ). text_spec n ≡ Some spec) same own
 
--- ---- fields that no operator changes
-
--- a number with its row's parts is as its row says
 as_row : (e : Element) (spec : Spec)
     → IsNumberOf e e.kind e.scale e.reference (pos e.width) spec → IsAsRow e spec
 as_row e spec h = let same : pos spec.width ≡ pos e.width = h.width_is in record {
@@ -163,7 +147,6 @@ as_row e spec h = let same : pos spec.width ≡ pos e.width = h.width_is in reco
   within = h.within;
 }
 
--- and back
 of_row : (e : Element) (spec : Spec) → IsAsRow e spec
     → IsNumberOf e e.kind e.scale e.reference (pos e.width) spec
 of_row e spec h = record {
@@ -174,18 +157,15 @@ of_row e spec h = record {
   within = h.within;
 }
 
--- an element is a text or not
 text_or_number : (k : Kind) → (k ≡ kinds.Text) ⊎ (k ≡ kinds.Text → ⊥)
 text_or_number kinds.Text = inl refl
 text_or_number _ = inr (λ e. cc)
 
--- an element that is not a text
 number_kind : (k : Kind) (e : Element) → (k ≡ kinds.Text → ⊥)
     → untouched_by k e ≡ number_by e k e.scale e.reference (pos e.width)
 number_kind kinds.Text e not = absurd (not refl)
 number_kind _ e not = refl
 
--- what `untouched` gives is as the row says
 pub in_table : (e : Element) (spec : Spec) → untouched e ≡ Some spec → AsInTable e spec
 in_table e spec h =
     elim (text_or_number e.kind) [
@@ -196,7 +176,6 @@ in_table e spec h =
           spec (sym (number_kind e.kind e not) ∙ h)))
     ]
 
--- and it gives all that is
 pub in_table_only : (e : Element) (spec : Spec) → AsInTable e spec → untouched e ≡ Some spec
 in_table_only e spec (text k same h) =
     ap (λ v. untouched_by v e) k ∙ text_only e.width spec same h
@@ -204,40 +183,32 @@ in_table_only e spec (number not h) =
     number_kind e.kind e not
     ∙ number_only e e.kind e.scale e.reference (pos e.width) spec (of_row e spec h)
 
--- ---- what operators add
-
--- 201 and 202
 adds_is : (o : Option ℕ) (more : ℤ) → Adds o more ↔ (more ≡ added o)
 adds_is None more = (λ h. h, λ h. h)
 adds_is (Some y) more = (λ h. h, λ h. h)
 
--- 207
 increases_is : (o : Option ℕ) (increase : ℕ) → Increases o increase ↔ (increase ≡ increase_of o)
 increases_is None increase = (λ h. h, λ h. h)
 increases_is (Some y) increase = (λ h. h, λ h. h)
 
--- the bits that it adds
 widening_is : (o : Option ℕ) → widening o ≡ (10 * increase_of o + 2) / 3
 widening_is None = refl
 widening_is (Some y) = refl
 
--- 208
 text_bits_are : (o : Option ℕ) (e : Element) (bits : ℕ)
     → HasTextBits o e bits ↔ (bits ≡ text_width e.width o)
 text_bits_are None e bits = (λ h. h, λ h. h)
 text_bits_are (Some y) e bits = (λ h. h, λ h. h)
 
--- ---- fields under operators
-
--- the parts of a quantity under operators, as `quantity` computes them
+-- the scale of a quantity under operators
 abbrev scale_under : ℤ → Operators → ℤ
 scale_under s q = s +ℤ added q.add_scale +ℤ pos (increase_of q.increase)
 
--- its reference value
+-- the reference value of a quantity under operators
 abbrev reference_under : ℤ → Operators → ℤ
 reference_under r q = r *ℤ pos (10 ^ increase_of q.increase)
 
--- and its width
+-- the width of a quantity under operators
 abbrev width_under : ℕ → Operators → ℤ
 width_under w q = pos w +ℤ added q.add_width +ℤ pos (widening q.increase)
 
@@ -247,7 +218,6 @@ IsQuantityOf e q spec =
     IsNumberOf e kinds.Quantity (scale_under e.scale q) (reference_under e.reference q)
     (width_under e.width q) spec
 
--- it is then changed as the equations say
 is_changed : (e : Element) (q : Operators) (spec : Spec) → IsQuantityOf e q spec
     → IsChanged e q spec
 is_changed e q spec h = record {
@@ -265,7 +235,6 @@ is_changed e q spec h = record {
   within = h.within;
 }
 
--- and back
 changed_is : (e : Element) (q : Operators) (spec : Spec) → IsChanged e q spec
     → IsQuantityOf e q spec
 changed_is e q spec h =
@@ -285,7 +254,6 @@ changed_is e q spec h =
       within = h.within;
     }
 
--- an element is a text, a quantity outside class 31, or changed by no operator
 kind_cases : (k : Kind) (d : ℕ) → (k ≡ kinds.Text)
     ⊎ ((k ≡ kinds.Quantity) × (x_of d ≡ 31 → ⊥))
     ⊎ ((k ≡ kinds.Text → ⊥) × (k ≡ kinds.Quantity → x_of d ≡ 31))
@@ -295,7 +263,6 @@ kind_cases kinds.Quantity d =
     [ inl e ↦ inr (inr (λ k. cc, λ k. e)) | inr n ↦ inr (inl (refl, n)) ]
 kind_cases _ d = inr (inr (λ k. cc, λ k. cc))
 
--- a quantity outside class 31
 quantity_kind : (k : Kind) (d : ℕ) (e : Element) (q : Operators) → k ≡ kinds.Quantity
     → (x_of d ≡ 31 → ⊥)
     → effective_by k d e q ≡ number_by e kinds.Quantity (scale_under e.scale q)
@@ -303,7 +270,6 @@ quantity_kind : (k : Kind) (d : ℕ) (e : Element) (q : Operators) → k ≡ kin
 quantity_kind k d e q is not = ap (λ v. effective_by v d e q) is
     ∙ cond-false (x_of d == 31) _ _ (ne_eqb (x_of d) 31 not)
 
--- a number that no operator changes
 plain_kind : (k : Kind) (d : ℕ) (e : Element) (q : Operators) → (k ≡ kinds.Text → ⊥)
     → (k ≡ kinds.Quantity → x_of d ≡ 31) → effective_by k d e q ≡ untouched e
 plain_kind kinds.Text d e q not class = absurd (not refl)
@@ -311,7 +277,6 @@ plain_kind kinds.Quantity d e q not class =
     cond-true (x_of d == 31) _ _ (eq-eqb (x_of d) 31 (class refl))
 plain_kind _ d e q not class = refl
 
--- what `effective` gives meets the equations
 pub effective_found : (d : ℕ) (e : Element) (q : Operators) (spec : Spec)
     → effective d e q ≡ Some spec → Effective d e q spec
 effective_found d e q spec h =
@@ -329,7 +294,6 @@ effective_found d e q spec h =
           (pos e.width) spec (sym (number_kind e.kind e k.0) ∙ same)))
     ]
 
--- what meets the equations is given
 pub effective_only : (d : ℕ) (e : Element) (q : Operators) (spec : Spec) → Effective d e q spec
     → effective d e q ≡ Some spec
 effective_only d e q spec (of_text k bits h) =
@@ -343,7 +307,6 @@ effective_only d e q spec (changed k not h) =
 effective_only d e q spec (unchanged not class h) =
     plain_kind e.kind d e q not class ∙ in_table_only e spec (number not h)
 
--- at most one spec meets them
 pub effective_one : (d : ℕ) (e : Element) (q : Operators) (a b : Spec) → Effective d e q a
     → Effective d e q b
     → a ≡ b

@@ -1,6 +1,6 @@
--- The template of a list, from the laws of its expansion, for `laws::templates_are_trees`.
+-- The laws of templates from the laws of expansions.
 use Rattle.std.proofs.Common.{◌≡◌, ℕ, List, Ok, Err, refl, sym, ap, subst, ◌∙◌}
-use Rattle.bufr_answers.specs.Answers.{result_map}
+use Rattle.bufr_base.specs.Answers.{result_map}
 use Rattle.bufr_tables.specs.Entries.{Entries}
 use Rattle.bufr_expand.specs.declared.node.Node.{Node}
 use Rattle.bufr_expand.specs.declared.node.TemplateFault.{TemplateFault}
@@ -12,19 +12,16 @@ use Rattle.bufr_expand.specs.Templates.{template, BuildsExactly, RefusesExactly}
 use Rattle.bufr_expand.proofs.FlatFacts.{expands_exactly, expands_to_trees}
 use Rattle.bufr_expand.proofs.FirstFaultFacts.{refuses_exactly}
 
--- the nodes that were found, where there is a tree, and the fault, where there is none
 nodes_found : (x : Expansion) (tree : Tree) → result_map tree_of x ≡ Ok tree → (nodes : List Node)
     × (x ≡ Ok nodes) × (tree_of nodes ≡ tree)
 nodes_found (Ok nodes) tree e = (nodes, refl, cc)
 nodes_found (Err fault) tree e = absurd cc
 
--- a template that is refused is an expansion that is
 fault_found : (x : Expansion) (fault : TemplateFault) → result_map tree_of x ≡ Err fault
     → x ≡ Err fault
 fault_found (Ok nodes) fault e = absurd cc
 fault_found (Err other) fault e = cc
 
--- a template is built of exactly the tree of a list
 pub builds_exactly : (tables : Entries) (list : List ℕ) (tree : Tree)
     → BuildsExactly tables list tree
 builds_exactly tables list tree = (there, back)
@@ -41,7 +38,6 @@ builds_exactly tables list tree = (there, back)
     back h = let found = (expands_exactly tables list tree).1 h in
         rw found (ap (λ (t : Tree). Ok t) (tree_of-nodes_of tree))
 
--- and refused exactly for its first fault
 pub template_refuses : (tables : Entries) (list : List ℕ) (fault : TemplateFault)
     → RefusesExactly tables list fault
 template_refuses tables list fault = (

@@ -1,6 +1,5 @@
--- What holds of no node, and of an item, of a field and of what stands first, each with the rest,
--- holds of all nodes of a tree. For `laws::courses_are_unrollings` and
--- `laws::courses_begin_unrollings`, by way of `FollowedFacts` and `FoundFacts`.
+-- An induction on trees: what holds of no node, and passes from the rest to an item, a field or a
+-- first part before it, holds of every tree.
 use Rattle.std.proofs.Common.{◌≡◌, ℕ, zero, suc, ◌+◌, Option, Some, ap, sym}
 use Rattle.bufr_expand.specs.declared.operators.Operators.{Operators}
 use Rattle.bufr_expand.specs.declared.operators.Spec.{Spec}
@@ -15,20 +14,20 @@ use Rattle.bufr_expand.specs.NextFields.{Begun, Beginning, ItemBefore, FieldBegi
 use Rattle.bufr_expand.specs.NextFields.{TurnsBegin, TurnsThenBegin, Begins}
 use Rattle.bufr_expand.proofs.SpecFacts.{effective_found, effective_only, in_table, in_table_only}
 
--- the course of a part, from the items before it and with what comes after it
+-- the course of a part, given the items before it and the course after it
 abbrev pub PartCourse : Type 0
 PartCourse = ℕ → Then → Course
 
--- what is said of a part: of what it is unrolled to, of how it begins and of its course
+-- a property of a part: of its unrollings, its beginnings and its course
 abbrev pub OfPart : Type 1
 OfPart = (Unrolled → Type 0) → (Begun → Type 0) → PartCourse → Type 0
 
--- from whatever operators in force
+-- under any operators
 abbrev pub OfAll : OfPart → UnrollsTo → Beginning → (Operators → PartCourse) → Type 0
 OfAll Holds Body Begin body =
     (before : Operators) → Holds (Body before) (Begin before) (body before)
 
--- it holds of no node, and of what is made of parts of which it holds
+-- it holds of no node, and of what such parts make up
 pub record IsKept (Holds : OfPart) : Type 1 where
   pub of_nothing : (before : Operators)
       → Holds (λ all. all ≡ nothing before) (λ begun. ⊥) (λ used after. after before used)
@@ -48,7 +47,6 @@ pub record IsKept (Holds : OfPart) : Type 1 where
       → Holds (FieldThen d Has Rest before) (FieldBegins d Has Begin before)
       (λ used after. item used (asks_if o (used + 1) d (λ n. rest n (used + 1) after)))
 
--- then it holds of turns of a body
 turns_kept : (Holds : OfPart) → IsKept Holds → (times : ℕ) (Body : UnrollsTo) (Begin : Beginning)
     (body : Operators → PartCourse) → OfAll Holds Body Begin body
     → OfAll Holds (Turns times Body) (TurnsBegin times Body Begin) (turns times body)
@@ -61,7 +59,6 @@ turns_kept Holds kept (suc times) Body Begin body h before =
     (kept.of_first Body (Turns times Body) Begin (TurnsBegin times Body Begin) body
     (turns times body) h (turns_kept Holds kept times Body Begin body h) before)
 
--- of turns of a body, and then the rest
 turns_then_kept : (Holds : OfPart) → IsKept Holds → (times : ℕ) (body rest : trees.Tree)
     → OfAll Holds (Unroll body) (Begins body) (course_then body)
     → OfAll Holds (Unroll rest) (Begins rest) (course_then rest)
@@ -75,11 +72,9 @@ turns_then_kept Holds kept times body rest h g =
     (course_then rest)
     (turns_kept Holds kept times (Unroll body) (Begins body) (course_then body) h) g
 
--- a factor has its one spec
 factor_has : (e : Element) (s : Spec) → Some (factor_spec e) ≡ Some s → s ≡ factor_spec e
 factor_has e s is = cc
 
--- and of the nodes of a tree
 pub tree_kept : (Holds : OfPart) → IsKept Holds → (t : trees.Tree)
     → OfAll Holds (Unroll t) (Begins t) (course_then t)
 unfolding Unroll Begins course_then

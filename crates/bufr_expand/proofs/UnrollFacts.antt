@@ -1,6 +1,5 @@
--- A course asks for the fields of an unrolling one after the other, ends where it ends, and stops
--- where a field has no spec or an item would be too many, for `laws::courses_are_unrollings` and
--- `laws::courses_begin_unrollings`.
+-- A course asks for the fields of an unrolling in order, ends with it, and stops if a field has no
+-- spec or an item is above the limit.
 use Rattle.std.proofs.Common.{◌≡◌, ◌⊎◌, ◌↔◌, ℕ, ◌+◌, ◌<◌, ◌≤◌, List, [], ◌∷◌, ◌++◌, refl, sym, ap}
 use Rattle.std.proofs.Common.{◌∙◌, subst, inl, inr, arith, append-nil}
 use Rattle.bufr_expand.specs.Limits.{most_items}
@@ -18,17 +17,14 @@ use Rattle.bufr_expand.proofs.FollowedFacts.{tree_follows, Shows, Arrives, tree_
 use Rattle.bufr_expand.proofs.PassFacts.{stops_at}
 use Rattle.bufr_expand.proofs.FoundFacts.{Still, none_told, tree_finds}
 
--- a field comes next, within the items of a message or beyond
 AtField : Next → ℕ → Course → Type 0
 AtField next total c = ((total ≤ most_items) × Shows c next total)
     ⊎ ((most_items < total) × (c ≡ stops most_items TooLarge))
 
--- the end comes next, within the items of a message or beyond
 AtEnd : ℕ → Course → Type 0
 AtEnd total c = ((total ≤ most_items) × (c ≡ ends total))
     ⊎ ((most_items < total) × (c ≡ stops most_items TooLarge))
 
--- where a field comes next, the course shows it or is too large
 at_field : (t : trees.Tree) (used : ℕ) (fields : List Told) (next : Next) (n : ℕ) (later : Course)
     → used ≤ most_items → After (course t used) fields later → SubsetBegins t fields next n
     → AtField next (used + n) later
@@ -39,7 +35,6 @@ at_field t used fields next n later le a b =
     (record { fields = fields; next = next; items = n }) used (λ q n. ends n) b le
     (λ c fit s. inl (fit, s), λ over. (tt, inr (over, refl))))
 
--- where the end comes, the course ends or is too large
 at_end : (t : trees.Tree) (used : ℕ) (fields : List Told) (r : Operators) (n : ℕ) (later : Course)
     → used ≤ most_items → After (course t used) fields later → SubsetUnrolls t fields r n
     → AtEnd (used + n) later
@@ -52,7 +47,6 @@ at_end t used fields r n later le a u =
     (record { fields = fields; operators = r; items = n }) used (λ q n. ends n) [] u le
     (λ fit. inl (fit, refl), λ over. (tt, inr (over, refl)))))
 
--- the fields that are told are those before the next one or before the end
 pub goes_on : (t : trees.Tree) (used : ℕ) (fields : List Told) (later : Course) → used ≤ most_items
     → After (course t used) fields later → (n : ℕ) × MeetsItems t fields n
 unfolding Still
@@ -71,7 +65,7 @@ goes_on t used fields later le a =
           (s.front.items, inr (s.front.operators, subst P whole s.here))
     ]
 
--- what a course is behind some fields
+-- what a course can be after some fields
 data Verdict (t : trees.Tree) (used : ℕ) (fields : List Told) (later : Course) : Type 0 where
   at_next : (next : Next) → (n : ℕ) → SubsetBegins t fields next n → used + n ≤ most_items
       → Shows later next (used + n) → Verdict t used fields later
@@ -80,7 +74,6 @@ data Verdict (t : trees.Tree) (used : ℕ) (fields : List Told) (later : Course)
   too_many : (n : ℕ) → MeetsItems t fields n → most_items < used + n
       → later ≡ stops most_items TooLarge → Verdict t used fields later
 
--- one of them is so
 verdict : (t : trees.Tree) (used : ℕ) (fields : List Told) (later : Course) → used ≤ most_items
     → After (course t used) fields later → Verdict t used fields later
 unfolding AtField AtEnd
@@ -95,7 +88,6 @@ verdict t used fields later le a =
           [ inl h ↦ ended u.0 g.0 u.1 h.0 h.1 | inr h ↦ too_many g.0 (inr u) h.0 h.1 ]
     ]
 
--- what is shown as wanted is asked for
 shown_asks : (c : Course) (d : ℕ) (spec : Spec) (n : ℕ) → Shows c (wants d spec) n
     → (more : ℕ → Course) × (c ≡ asks n d spec more)
 unfolding Shows
@@ -107,14 +99,12 @@ shown_asks (asks met k s more) d spec n h = (
       ∙ ap (λ s. asks n d s more) h.2,
 )
 
--- what is shown as lacking is refused
 shown_stops : (c : Course) (d n : ℕ) → Shows c (lacks d) n → c ≡ stops n (EffectiveRange d)
 unfolding Shows
 shown_stops (ends m) d n h = absurd h
 shown_stops (stops m fault) d n h = ap (λ m. stops m fault) h.0 ∙ ap (λ f. stops n f) h.1
 shown_stops (asks met k s more) d n h = absurd h
 
--- what comes next stands where the course stands after the fields
 shown : (t : trees.Tree) (used : ℕ) (fields : List Told) (next : Next) (met : ℕ)
     → BeginsWithin t used fields next met → (later : Course) × After (course t used) fields later
     × Shows later next met
@@ -134,7 +124,6 @@ shown t used fields next met h =
           (no, absurd no),
     ))
 
--- what is asked for comes next
 next_of : (t : trees.Tree) (used : ℕ) (fields : List Told) (met d : ℕ) (spec : Spec)
     (more : ℕ → Course) → Verdict t used fields (asks met d spec more)
     → BeginsWithin t used fields (wants d spec) met
@@ -149,7 +138,6 @@ next_of t used fields met d spec more (at_next (lacks k) n b fit h) = absurd h
 next_of t used fields met d spec more (ended r n u fit e) = cc
 next_of t used fields met d spec more (too_many n g over e) = cc
 
--- a course asks for exactly the field that comes next
 pub asked : (t : trees.Tree) (used : ℕ) (fields : List Told) (met d : ℕ) (spec : Spec)
     → used ≤ most_items → AsksAfter (course t used) fields met d spec
     ↔ BeginsWithin t used fields (wants d spec) met
@@ -162,7 +150,6 @@ asked t used fields met d spec le = (
       (p.0, subst P p.1 s.1),
 )
 
--- what is refused has no spec
 lack_of : (t : trees.Tree) (used : ℕ) (fields : List Told) (met d : ℕ)
     → Verdict t used fields (stops met (EffectiveRange d))
     → BeginsWithin t used fields (lacks d) met
@@ -177,7 +164,6 @@ lack_of t used fields met d (at_next (lacks k) n b fit h) =
 lack_of t used fields met d (ended r n u fit e) = cc
 lack_of t used fields met d (too_many n g over e) = cc
 
--- a course refuses exactly the field that has no spec
 pub lacking : (t : trees.Tree) (used : ℕ) (fields : List Told) (met d : ℕ) → used ≤ most_items
     → After (course t used) fields (stops met (EffectiveRange d))
     ↔ BeginsWithin t used fields (lacks d) met
@@ -189,7 +175,6 @@ lacking t used fields met d le = (
       subst P (shown_stops s.0 d met s.2) s.1,
 )
 
--- what is too large passes the limit
 past_of : (t : trees.Tree) (used : ℕ) (fields : List Told) (met : ℕ)
     → Verdict t used fields (stops met TooLarge) → PassesLimit t used fields
 unfolding Shows
@@ -199,7 +184,6 @@ past_of t used fields met (at_next (lacks k) n b fit h) = let e : TooLarge ≡ E
 past_of t used fields met (ended r n u fit e) = cc
 past_of t used fields met (too_many n g over e) = (n, g, over)
 
--- and back
 past : (t : trees.Tree) (used : ℕ) (fields : List Told) (later : Course) → used ≤ most_items
     → After (course t used) fields later → PassesLimit t used fields
     → later ≡ stops most_items TooLarge
@@ -214,7 +198,6 @@ past t used fields later le a h =
           [ inl f ↦ let fit : used + n ≤ most_items = f.0 in absurd (omega arith) | inr f ↦ f.1 ]
     ]
 
--- a course is too large exactly where an item would pass the limit
 pub too_large : (t : trees.Tree) (used : ℕ) (fields : List Told) (later : Course)
     → used ≤ most_items → After (course t used) fields later → (later ≡ stops most_items TooLarge)
     ↔ PassesLimit t used fields
@@ -225,7 +208,6 @@ too_large t used fields later le a = (
   past t used fields later le a,
 )
 
--- a course ends where an unrolling does
 end_of : (t : trees.Tree) (used : ℕ) (fields : List Told) (m : ℕ) → Verdict t used fields (ends m)
     → Unrolls t used fields m
 unfolding Shows
@@ -234,12 +216,10 @@ end_of t used fields m (ended r n u fit e) = let count : m ≡ used + n = cc in
     (r, n, u, count, omega arith)
 end_of t used fields m (too_many n g over e) = cc
 
--- the fields that a course allows are an unrolling
 pub unrolled : (t : trees.Tree) (used : ℕ) (fields : List Told) (n : ℕ) → used ≤ most_items
     → After (course t used) fields (ends n) → Unrolls t used fields n
 unrolled t used fields n le a = end_of t used fields n (verdict t used fields (ends n) le a)
 
--- and back
 pub allowed : (t : trees.Tree) (used : ℕ) (fields : List Told) (n : ℕ) → Unrolls t used fields n
     → After (course t used) fields (ends n)
 unfolding Ahead Late Comes
@@ -256,12 +236,10 @@ allowed t used fields n h =
     let Q : Course → Type 0 = λ c. After (course t used) fields c in
     subst Q s.2 s.1
 
--- from the limit on a template of some node is too large
 pub full : (t : trees.Tree) (used : ℕ) → (t ≡ trees.done → ⊥) → most_items ≤ used
     → course t used ≡ stops used TooLarge
 full t used some above = stops_at t none_in_force used (λ q n. ends n) some above
 
--- the next one of the fields that a course asks for
 next_asked : (c : Course) (fields others : List Told) (f : Told) (later : Course)
     → After c (fields ++ f ∷ others) later → (met : ℕ) × AsksAfter c fields met f.fxy f.spec
 unfolding After
@@ -275,7 +253,6 @@ next_asked (asks met d spec more) (g ∷ gs) others f later a =
     let p = next_asked (more g.number) gs others f later a.2 in
     (p.0, (p.1.0, (a.0, a.1, p.1.1)))
 
--- the fields before one of an unrolling are its beginning
 pub front : (t : trees.Tree) (used : ℕ) (fields others : List Told) (f : Told) (n : ℕ)
     → Unrolls t used (fields ++ f ∷ others) n → (met : ℕ)
     × BeginsWithin t used fields (wants f.fxy f.spec) met

@@ -1,11 +1,10 @@
--- Which fields are asked for, by their descriptors: whether a node is one of them, and whether a
--- course has one.
+-- Chosen fields, by their descriptors, among nodes and in a course.
 use Rattle.std.specs.Prelude.{◌≡◌, ℕ, Bool, false}
 use Rattle.bufr_expand.specs.declared.node.Node.{Node}
 use Rattle.bufr_expand.specs.declared.node.Node.TheVariants as nodes
 use Rattle.bufr_expand.specs.Courses.{Course, ends, stops, asks}
 
--- whether a node is a field that is asked for: an element, or the factor of a delayed replication
+-- whether a node is a chosen field: an element, or the factor of a delayed replication
 abbrev pub tells : (ℕ → Bool) → Node → Bool
 tells is_asked (nodes.Element d row) = is_asked d
 tells is_asked (nodes.Untouched d row) = is_asked d
@@ -13,7 +12,7 @@ tells is_asked (nodes.Operator d) = false
 tells is_asked (nodes.Repeated times len) = false
 tells is_asked (nodes.Delayed d row len) = is_asked d
 
--- a course has no field that is asked for, whatever numbers its fields have
+-- a course has no chosen field, whatever numbers its fields have
 unfoldable pub TellsNone : (ℕ → Bool) → Course → Type 0
 TellsNone is_asked (ends met) = Unit {0}
 TellsNone is_asked (stops met fault) = Unit {0}

@@ -1,5 +1,5 @@
--- The course of a template: which field it asks for next, given the numbers that its earlier fields
--- have.
+-- The course of a template: the field that it asks for next, given the numbers of its earlier
+-- fields (FM 94 BUFR, regulations 94.5.4 and 94.5.5).
 use Rattle.std.specs.Prelude.{ℕ, zero, suc, ◌+◌, Option, Some, None, nat_lt, if◌then◌else◌}
 use Rattle.bufr_expand.specs.declared.operators.Operators.{Operators}
 use Rattle.bufr_expand.specs.declared.operators.Spec.{Spec}
@@ -10,35 +10,34 @@ use Rattle.bufr_expand.specs.OperatorsInForce.{none_in_force, in_force_after, ef
 use Rattle.bufr_expand.specs.OperatorsInForce.{factor_spec}
 use Rattle.bufr_expand.specs.Trees as trees
 
--- ends met: no further field, after so many items; stops met fault: no further field can stand,
--- after so many items; asks met fxy spec more: after so many items, the last of which is itself, a
--- field of this descriptor and this spec, and more number is the course after it where that is its
--- number
+-- `ends met` is the end after `met` items; `stops met fault` is a fault after `met` items; `asks
+-- met fxy spec more` asks for a field, item `met`, and `more number` is the course after it if it
+-- has that number
 pub data Course : Type 0 where
   ends : ℕ → Course
   stops : ℕ → WalkFault → Course
   asks : ℕ → ℕ → Spec → (ℕ → Course) → Course
 
--- what comes after some nodes: the course from the operators in force and the items so far
+-- a course after some nodes, given the operators in force and the items met
 abbrev pub Then : Type 0
 Then = Operators → ℕ → Course
 
--- one more item, where a message has room for it
+-- one more item, if the message has room for it
 abbrev pub item : ℕ → Course → Course
 item used course = if nat_lt used most_items then course else stops used TooLarge
 
--- a field with a spec is asked for, and one without is refused
+-- asks for a field with a spec; a field without one stops the course
 abbrev pub asks_if : Option Spec → ℕ → ℕ → (ℕ → Course) → Course
 asks_if None met fxy more = stops met (EffectiveRange fxy)
 asks_if (Some spec) met fxy more = asks met fxy spec more
 
--- so many turns of a body, each from the operators in force at the end of the one before
+-- `times` turns of a body, each with the operators in force at the end of the turn before
 unfoldable pub turns : ℕ → (Operators → ℕ → Then → Course) → Operators → ℕ → Then → Course
 turns zero body operators used after = after operators used
 turns (suc times) body operators used after =
     item used (body operators (used + 1) (λ operators used. turns times body operators used after))
 
--- the course of a tree, and then of what comes after it
+-- the course of a tree, and `after` after it
 unfoldable pub course_then : trees.Tree → Operators → ℕ → Then → Course
 course_then trees.done operators used after = after operators used
 course_then (trees.operator fxy rest) operators used after =
@@ -57,6 +56,6 @@ course_then (trees.delayed fxy row body rest) operators used after =
     (λ times. turns times (course_then body) operators (used + 1)
     (λ operators used. course_then rest operators used after)))
 
--- the course of one subset: each begins with no operator in force
+-- the course of one subset, which begins with no operator in force (94.5.5)
 abbrev pub course : trees.Tree → ℕ → Course
 course tree used = course_then tree none_in_force used (λ operators met. ends met)

@@ -6,8 +6,6 @@ pub mod WorkedTables
 pub mod Expansion
 pub mod FirstFaults
 pub mod Flat
-pub mod Kept
-pub mod KeptLaws
 pub mod Limits
 pub mod OperatorsInForce
 pub mod Parts
@@ -21,3 +19,7 @@ pub mod TreeCodes
 pub mod Trees
 pub mod Unrolling
 pub mod Walks
+pub use Rattle.bufr_base.specs.Answers
+pub use Rattle.bufr_tables.specs.Descriptors
+pub use Rattle.bufr_tables.specs.Elements
+pub use Rattle.bufr_tables.specs.Entries

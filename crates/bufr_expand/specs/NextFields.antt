@@ -1,6 +1,6 @@
--- What comes next in an unrolling behind some of its fields (FM 94 BUFR, regulations 94.5.4 and
--- 94.5.5), and how many items are met up to and with it: one for each node and one for each turn,
--- the turn that is begun included.
+-- The next field of an unrolling after some of its fields, and the items met up to it: one for each
+-- node and one for each turn, the turn that has begun included (FM 94 BUFR, regulations 94.5.4 and
+-- 94.5.5).
 use Rattle.std.specs.Prelude.{◌≡◌, ◌⊎◌, ℕ, zero, suc, ◌+◌, ◌<◌, ◌≤◌, List, [], ◌∷◌, ◌++◌}
 use Rattle.bufr_expand.specs.declared.operators.Operators.{Operators}
 use Rattle.bufr_expand.specs.declared.operators.Spec.{Spec}
@@ -14,27 +14,27 @@ use Rattle.bufr_expand.specs.Unrolling.{After}
 
 -- ---- how an unrolling begins
 
--- a field of this descriptor and this spec, or a field of this descriptor that has no spec
+-- the next field: its descriptor with its spec, or without one if it has none
 pub data Next : Type 0 where
   wants : ℕ → Spec → Next
   lacks : ℕ → Next
 
--- the fields before the next one, the next one, and the items up to and with it
+-- the fields before the next one, the next one, and the items up to it
 pub record Begun : Type 0 where
   pub fields : List Told
   pub next : Next
   pub items : ℕ
 
--- an item, and what begins behind it
+-- an item before the beginning of an unrolling
 abbrev pub item_before : Begun → Begun
 item_before later = record { fields = later.fields; next = later.next; items = 1 + later.items }
 
--- a field, which is one item, and what begins behind it
+-- a field, which is one item, before the beginning of an unrolling
 abbrev pub field_before : Told → Begun → Begun
 field_before field later =
     record { fields = field ∷ later.fields; next = later.next; items = 1 + later.items }
 
--- what stands first whole, and what begins behind it
+-- a whole unrolling before the beginning of another
 abbrev pub first_before : Unrolled → Begun → Begun
 first_before first later =
     record {
@@ -43,30 +43,30 @@ first_before first later =
       items = first.items + later.items;
     }
 
--- ---- what begins so
+-- ---- which nodes begin so
 
--- whether something begins so, from the operators in force before it
+-- a set of beginnings, given the operators in force before them
 abbrev pub Beginning : Type 1
 Beginning = Operators → Begun → Type 0
 
--- an item, and behind it the rest begins
+-- an item, and then the rest begins
 pub record ItemBefore (Rest : Beginning) (before : Operators) (begun : Begun) : Type 0 where
   pub later : Begun
   pub in_order : begun ≡ item_before later
   pub rest : Rest before later
 
--- the field of a descriptor comes next: with a spec that it has, or with none, where it has none
+-- the field of a descriptor comes next, with its spec, or without one if it has none
 abbrev pub IsNext : ℕ → (Spec → Type 0) → Next → Type 0
 IsNext fxy Has (wants k spec) = (k ≡ fxy) × Has spec
 IsNext fxy Has (lacks k) = (k ≡ fxy) × ((spec : Spec) → Has spec → ⊥)
 
--- the field itself comes next, and it is one item
+-- the field itself comes next, and is one item
 pub record FieldIsNext (fxy : ℕ) (Has : Spec → Type 0) (begun : Begun) : Type 0 where
   pub none_before : begun.fields ≡ []
   pub is_next : IsNext fxy Has begun.next
   pub one_item : begun.items ≡ 1
 
--- behind the field the rest begins, which its number may decide
+-- the field comes first, and then the rest begins; its number may decide the rest
 pub record FieldBefore (fxy : ℕ) (Has : Spec → Type 0) (Rest : ℕ → Beginning) (before : Operators)
     (begun : Begun) : Type 0 where
   pub field : Told
@@ -76,12 +76,12 @@ pub record FieldBefore (fxy : ℕ) (Has : Spec → Type 0) (Rest : ℕ → Begin
   pub has_spec : Has field.spec
   pub rest : Rest field.number before later
 
--- a field comes next, or what comes next is behind it
+-- the field comes next, or the next field comes after it
 abbrev pub FieldBegins : ℕ → (Spec → Type 0) → (ℕ → Beginning) → Beginning
 FieldBegins fxy Has Rest before begun =
     FieldIsNext fxy Has begun ⊎ FieldBefore fxy Has Rest before begun
 
--- what stands first is met whole, and behind it the rest begins, from the operators in force then
+-- the first part comes whole, and then the rest begins with the operators in force by then
 pub record FirstBefore (First : UnrollsTo) (Rest : Beginning) (before : Operators)
     (begun : Begun) : Type 0 where
   pub first : Unrolled
@@ -90,22 +90,22 @@ pub record FirstBefore (First : UnrollsTo) (Rest : Beginning) (before : Operator
   pub is_first : First before first
   pub rest : Rest first.operators later
 
--- what comes next is in what stands first, or behind it
+-- the next field is in the first part or after it
 abbrev pub FirstBegins : UnrollsTo → Beginning → Beginning → Beginning
 FirstBegins First Begin Rest before begun = Begin before begun ⊎ FirstBefore First Rest before begun
 
--- what comes next is in one of so many turns of a body, each of which is an item and then the body
+-- the next field is in one of `times` turns of a body; each turn is an item and then the body
 unfoldable pub TurnsBegin : ℕ → UnrollsTo → Beginning → Beginning
 TurnsBegin zero Body Begin before begun = ⊥
 TurnsBegin (suc times) Body Begin before begun =
     ItemBefore (FirstBegins Body Begin (TurnsBegin times Body Begin)) before begun
 
--- what comes next is in one of so many turns of a body, or, behind all of them, in the rest
+-- the next field is in one of `times` turns of a body, or in the rest after them
 abbrev pub TurnsThenBegin : ℕ → UnrollsTo → Beginning → Beginning → Beginning
 TurnsThenBegin times Body Begin Rest =
     FirstBegins (Turns times Body) (TurnsBegin times Body Begin) Rest
 
--- what comes next in what the nodes of a tree are unrolled to: in the first node, or behind it
+-- the next field of the nodes of a tree is in the first node or after it (94.5.4)
 unfoldable pub Begins : trees.Tree → Beginning
 Begins trees.done before begun = ⊥
 Begins (trees.operator fxy rest) before begun =
@@ -122,30 +122,29 @@ Begins (trees.delayed fxy row body rest) before begun =
 
 -- ---- whole subsets
 
--- how a subset begins: with no operator in force
+-- how a subset begins, with no operator in force (94.5.5)
 abbrev pub SubsetBegins : trees.Tree → List Told → Next → ℕ → Type 0
 SubsetBegins tree fields next items =
     Begins tree none_in_force (record { fields = fields; next = next; items = items })
 
--- what comes next in a subset that a tree stands for, where so many items of the message are met
--- before it and so many up to and with the next field: no more than a message may have
+-- the next field of a subset, with `used` items of the message before the subset and `met` up to
+-- the field, at most 16,777,216
 abbrev pub BeginsWithin : trees.Tree → ℕ → List Told → Next → ℕ → Type 0
 BeginsWithin tree used fields next met =
     (items : ℕ) × SubsetBegins tree fields next items × (met ≡ used + items) × (met ≤ most_items)
 
--- so many items are met up to and with the next field, or up to the end
+-- `items` items are met up to the next field, or up to the end
 abbrev pub MeetsItems : trees.Tree → List Told → ℕ → Type 0
 MeetsItems tree fields items =
     ((next : Next) × SubsetBegins tree fields next items)
     ⊎ ((operators : Operators) × SubsetUnrolls tree fields operators items)
 
--- an item up to and with the next field, or up to the end, would be more than a message may have
+-- an item up to the next field, or up to the end, is above the limit of a message
 abbrev pub PassesLimit : trees.Tree → ℕ → List Told → Type 0
 PassesLimit tree used fields = (items : ℕ) × MeetsItems tree fields items
     × (most_items < used + items)
 
--- after these fields, a course asks for a field of this descriptor and this spec, the last of so
--- many items
+-- after these fields a course asks for this field, item `met`
 abbrev pub AsksAfter : Course → List Told → ℕ → ℕ → Spec → Type 0
 AsksAfter course fields met fxy spec =
     (more : ℕ → Course) × After course fields (asks met fxy spec more)

@@ -1,5 +1,5 @@
--- Where a walk can stand: open replications have their bodies within the nodes, and more
--- replications stand in front of a body than are open around it.
+-- The places that a walk can have: open bodies lie within the nodes, and before each body there are
+-- more replications than are open around it.
 use Rattle.std.specs.Prelude.{ℕ, ◌+◌, ◌≤◌, Bool, true, false, List, [], ◌∷◌, length, take, Option}
 use Rattle.std.specs.Prelude.{Some, None, count_by}
 use Rattle.std.specs.Coded.{×_prop, Unit-prop, le_prop}
@@ -9,7 +9,7 @@ use Rattle.bufr_expand.specs.declared.standing.Open.{Open}
 use Rattle.bufr_expand.specs.declared.standing.State.{State}
 use Rattle.bufr_expand.specs.declared.standing.State.TheVariants as states
 
--- a replication, fixed or delayed
+-- whether a node is a replication, fixed or delayed
 abbrev pub repeats : Node → Bool
 repeats (nodes.Repeated times len) = true
 repeats (nodes.Delayed d e len) = true
@@ -17,25 +17,25 @@ repeats (nodes.Element d e) = false
 repeats (nodes.Untouched d e) = false
 repeats (nodes.Operator d) = false
 
--- how many nodes are replications
+-- the number of replications among nodes
 abbrev pub replications : List Node → ℕ
 replications nodes = count_by repeats nodes
 
--- how many replications stand in front of a place
+-- the number of replications before a place
 abbrev pub in_front : List Node → ℕ → ℕ
 in_front nodes place = replications (take place nodes)
 
--- a replication that is open within so many others
+-- an open replication with `depth` others open around it
 abbrev pub IsOpen : List Node → ℕ → Open → Type 0
 IsOpen nodes depth o = ((depth + 1 ≤ in_front nodes o.from) × (o.from ≤ o.to))
     × ((o.to ≤ length nodes) × (o.stop ≤ length nodes))
 
--- open replications, the outermost first, of which so many stand around the first
+-- open replications, outermost first, with `depth` others open around the first
 unfoldable pub AreOpen : List Node → ℕ → List Open → Type 0
 AreOpen nodes depth [] = Unit {0}
 AreOpen nodes depth (o ∷ os) = IsOpen nodes depth o × AreOpen nodes (depth + 1) os
 
--- this is a fact, however it is shown
+-- `AreOpen` has one proof at most
 pub AreOpen-prop : (nodes : List Node) (depth : ℕ) (os : List Open)
     → IsProp (AreOpen nodes depth os)
 unfolding AreOpen
@@ -44,23 +44,23 @@ AreOpen-prop nodes depth (o ∷ os) =
     ×_prop (×_prop (×_prop le_prop le_prop) (×_prop le_prop le_prop))
     (AreOpen-prop nodes (depth + 1) os)
 
--- where the body begins that waits for its count, or the place at hand
+-- the start of the body that waits for its count, or the place
 abbrev pub begin_or : Option ℕ → ℕ → ℕ
 begin_or None place = place
 begin_or (Some from) place = from
 
--- where the nodes at hand begin
+-- the first node at hand, by the state of the walk
 abbrev pub begins : State → ℕ → ℕ
 begins states.Going place = place
 begins (states.Waiting asked) place = begin_or asked.body place
 begins (states.Stopped fault) place = place
 
--- how many bodies wait for a count: one or none
+-- the number of bodies that wait for a count: 1 or 0
 abbrev pub one_if : Option ℕ → ℕ
 one_if None = 0
 one_if (Some from) = 1
 
--- of a state
+-- the number of bodies that wait for a count, by the state of the walk
 abbrev pub awaited : State → ℕ
 awaited states.Going = 0
 awaited (states.Waiting asked) = one_if asked.body

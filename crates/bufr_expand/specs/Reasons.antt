@@ -1,4 +1,4 @@
--- What is printed of a refusal: its number, its name and its values.
+-- The printed refusals of lists: number, name and values.
 use Rattle.std.specs.Prelude.{ℕ, List, ◌++◌, codes}
 use Rattle.bufr_tables.specs.Descriptors.{six_digits}
 use Rattle.bufr_expand.specs.declared.node.TemplateFault.{TemplateFault}
@@ -9,7 +9,7 @@ use Rattle.bufr_expand.specs.declared.node.TemplateFault.TheVariants.{BadReplica
 use Rattle.bufr_expand.specs.declared.node.TemplateFault.TheVariants.{BadOperand, Dangling206}
 use Rattle.bufr_expand.specs.declared.node.TemplateFault.TheVariants.{TooDeep, TooManyNodes}
 
--- the reason that a list of descriptors has no template
+-- the printed refusal of a list of descriptors
 unfoldable pub template_reason : TemplateFault → List ℕ
 template_reason (UnknownElement d) = codes "X1 UnknownElement " ++ six_digits d
 template_reason (UnknownSequence d) = codes "X2 UnknownSequence " ++ six_digits d

@@ -1,6 +1,5 @@
--- Runs of fields, none of which is a count: whatever the data are, their nodes ask for the same
--- fields, so at each turn of a replication they have as many bits and items (FM 94 BUFR,
--- regulations 94.5.4 and 94.5.5).
+-- Runs: nodes without counts. They ask for equal fields whatever the data are, so each turn of a
+-- replication has equal bits and items (FM 94 BUFR, regulations 94.5.4 and 94.5.5).
 use Rattle.std.specs.Prelude.{◌≡◌, ℕ, ◌+◌, ◌*◌, ◌%◌, ◌<◌, ◌≤◌, false, List, [], ◌∷◌, ◌++◌}
 use Rattle.std.specs.Prelude.{length, take, ◌-◌, Option, Some}
 use Rattle.std.proofs.Common.{sym, subst}
@@ -21,21 +20,20 @@ use Rattle.bufr_expand.specs.Walks.{left, waits, items_met}
 
 -- ---- from one course to another
 
--- a field of this spec has its width in bits, whatever the data are: it is no count, a text has
--- whole octets, and a number has 63 bits at most
+-- a field whose bits are its width, whatever the data are: no count, a text in whole octets, or a
+-- number of at most 63 bits
 pub record HasWidth (spec : Spec) : Type 0 where
   pub no_count : same_kind spec.kind kinds.Count ≡ false
   pub whole_octets : spec.kind ≡ kinds.Text → spec.width % 8 ≡ 0
   pub few_bits : (spec.kind ≡ kinds.Text → ⊥) → spec.width ≤ most_number_bits
 
--- fields, each such, whose widths add up to so many bits
+-- the widths of such fields add up to `bits`
 unfoldable pub AddUp : List Told → ℕ → Type 0
 AddUp [] bits = bits ≡ 0
 AddUp (field ∷ fields) bits =
     (others : ℕ) × HasWidth field.spec × AddUp fields others × (bits ≡ field.spec.width + others)
 
--- a course asks for so many fields of so many bits in all, none of which is a count, and then a
--- later course is left
+-- a course asks for the fields of a run, none a count, and leaves a later course
 pub record Leads (course : Course) (run : Run) (later : Course) : Type 0 where
   pub fields : List Told
   pub asked : After course fields later
@@ -44,11 +42,11 @@ pub record Leads (course : Course) (run : Run) (later : Course) : Type 0 where
 
 -- ---- runs of nodes
 
--- no node
+-- the run of no nodes
 abbrev pub no_run : Run
 no_run = record { fields = 0; items = 0; bits = 0 }
 
--- one run behind another
+-- a run after another
 abbrev pub joined_runs : Run → Run → Run
 joined_runs first others = record {
   fields = first.fields + others.fields;
@@ -56,7 +54,7 @@ joined_runs first others = record {
   bits = first.bits + others.bits;
 }
 
--- so many turns of a body, each of which is an item
+-- `times` turns of a body, each of them one more item
 abbrev pub turned_run : ℕ → Run → Run
 turned_run times body = record {
   fields = times * body.fields;
@@ -64,26 +62,26 @@ turned_run times body = record {
   bits = times * body.bits;
 }
 
--- the node of a replication, which is an item and no field, and then its turns
+-- the node of a replication, an item but no field, and then its turns
 abbrev pub behind_item : Run → Run
 behind_item turns =
     record { fields = turns.fields; items = 1 + turns.items; bits = turns.bits }
 
--- the run of a field that has a spec, and is no count
+-- the run of a field that has a spec and is no count
 abbrev pub IsFieldRun : Option Spec → Run → Type 0
 IsFieldRun found run = (spec : Spec) × (found ≡ Some spec)
     × (same_kind spec.kind kinds.Count ≡ false)
     × (run ≡ record { fields = 1; items = 1; bits = spec.width })
 
--- nodes are a run under the operators in force, behind which the rest of them stands: where a
--- message has room for its items, their course leads to that of the rest, whatever comes after it
+-- the first nodes of a tree are a run under operators, and `rest` follows: within the limit of
+-- items, their course leads to the course of `rest`
 pub record BeginsRun (nodes : Tree) (operators : Operators) (run : Run) (rest : Tree) : Type 0 where
   pub few : run.fields ≤ run.items
   pub leads : (used : ℕ) (after : Then) → used + run.items ≤ most_items
       → Leads (course_then nodes operators used after) run
       (course_then rest operators (used + run.items) after)
 
--- so many turns of nodes are a run under the operators in force, in the same way
+-- turns of nodes are a run under operators, and their course leads to what comes after
 pub record TurnsRun (times : ℕ) (nodes : Tree) (operators : Operators) (run : Run) : Type 0 where
   pub few : run.fields ≤ run.items
   pub each_counts : times ≤ run.items
@@ -93,7 +91,7 @@ pub record TurnsRun (times : ℕ) (nodes : Tree) (operators : Operators) (run : 
 
 -- ---- walks
 
--- a walk has passed a run, some item at least, within the items of a message, and can go on
+-- a walk has passed a run with at least one item, within the limit of items, and can go on
 pub record PassesRun (old : Walk) (run : Run) (new : Walk) : Type 0 where
   pub leads : Leads (left old) run (left new)
   pub answered : waits new ≡ false
@@ -103,15 +101,15 @@ pub record PassesRun (old : Walk) (run : Run) (new : Walk) : Type 0 where
   pub items_are : items_met new ≡ items_met old + run.items
   pub within : items_met new ≤ most_items
 
--- all nodes at hand are passed, and this replication is the innermost that is open
+-- all nodes at hand are passed, and this replication is the innermost open one
 pub record IsInnermost (w : Walk) (turn : Open) : Type 0 where
   pub goes : w.state ≡ Going
   pub passed : w.stop ≤ w.place
   pub loops_are : w.loops.items ≡ take (length w.loops.items - 1) w.loops.items ++ turn ∷ []
 
--- ---- the law of fields behind fields, for proofs about walks
+-- ---- a law for proofs about walks
 
--- what is asked for first, and what is asked for from there on
+-- fields asked for in two parts are asked for in a row
 pub after_joined : (c d e : Course) (xs ys : List Told) → After c xs d → After d ys e
     → After c (xs ++ ys) e
 unfolding After

@@ -1,4 +1,4 @@
--- The tables and the operators of the examples.
+-- Sample tables and operators for worked values.
 use Rattle.std.specs.Prelude.{ℕ, List, [], ◌∷◌, fold, Option, Some, ℤ, pos, negsuc}
 use Rattle.bufr_tables.specs.declared.element.Element.{Element}
 use Rattle.bufr_tables.specs.declared.element.Kind.{Kind}
@@ -16,7 +16,7 @@ abbrev pub row : Kind → ℤ → ℤ → ℕ → Element
 row kind scale reference width =
     record { kind = kind; scale = scale; reference = reference; width = width }
 
--- a number with neither scale nor reference value
+-- a number without scale and reference value
 abbrev pub number_row : ℕ → Element
 number_row width = row kinds.Quantity (pos 0) (pos 0) width
 
@@ -32,7 +32,7 @@ latitude_row = row kinds.Quantity (pos 2) (negsuc 8999) 15
 abbrev pub call_sign_row : Element
 call_sign_row = row kinds.Text (pos 0) (pos 0) 72
 
--- elements and sequences of Tables B and D
+-- sample elements and sequences of Tables B and D
 abbrev pub sample : Entries
 sample = record {
   elements =
@@ -52,7 +52,7 @@ sample = record {
       ∷ (descriptor 3 1 250, descriptor 3 1 250 ∷ []) ∷ [];
 }
 
--- a table in which the factor 031002 has this row
+-- a table with this row for the factor 031002
 abbrev pub with_factor : Element → Entries
 with_factor factor = record {
   elements = (descriptor 0 12 101, temperature_row) ∷ (descriptor 0 31 2, factor) ∷ [];
@@ -61,7 +61,7 @@ with_factor factor = record {
 
 -- ---- specs under operators
 
--- an operator of Table C
+-- operator 2 XX YYY of Table C
 abbrev pub operator : ℕ → ℕ → ℕ
 operator x y = descriptor 2 x y
 
@@ -69,31 +69,31 @@ operator x y = descriptor 2 x y
 abbrev pub in_force : List ℕ → Operators
 in_force operators = fold in_force_after none_in_force operators
 
--- the temperature, the latitude, the call sign and a number of class 31 under operators
+-- the temperature under operators
 abbrev pub temperature_under : List ℕ → Option Spec
 temperature_under operators = effective (descriptor 0 12 101) temperature_row (in_force operators)
 
--- the latitude
+-- the latitude under operators
 abbrev pub latitude_under : List ℕ → Option Spec
 latitude_under operators = effective (descriptor 0 5 2) latitude_row (in_force operators)
 
--- the call sign
+-- the call sign under operators
 abbrev pub call_sign_under : List ℕ → Option Spec
 call_sign_under operators = effective (descriptor 0 1 11) call_sign_row (in_force operators)
 
--- a number of class 31
+-- a number of class 31 under operators
 abbrev pub factor_under : List ℕ → Option Spec
 factor_under operators = effective (descriptor 0 31 1) (number_row 8) (in_force operators)
 
--- a row of a quantity or of a text under no operator
+-- a quantity or a text under no operator
 abbrev pub in_table : Element → Option Spec
 in_table element = effective (descriptor 0 12 101) element none_in_force
 
--- the spec of a quantity: its scale, its reference value and its width
+-- the spec of a quantity: its scale, reference value and width
 abbrev pub quantity : ℤ → ℤ → ℕ → Option Spec
 quantity scale reference width =
     Some (record { kind = kinds.Quantity; scale = scale; reference = reference; width = width })
 
--- the spec of a text of so many bits
+-- the spec of a text of `width` bits
 abbrev pub text : ℕ → Option Spec
 text width = Some (record { kind = kinds.Text; scale = pos 0; reference = pos 0; width = width })

@@ -1,6 +1,5 @@
--- Courses go on steadily: each field is one more item at least, and only a count decides what comes
--- after it (FM 94 BUFR, regulation 94.5.4). What is said of each field that a course asks for. For
--- the law `courses_are_steady`.
+-- Steady courses: each field is at least one more item, and only counts decide what comes after
+-- them (FM 94 BUFR, regulation 94.5.4). For `courses_are_steady`.
 use Rattle.std.proofs.Common.{◌≡◌, ℕ, zero, suc, ◌+◌, ◌<◌, ◌≤◌, false, ltb}
 use Rattle.std.proofs.Common.{Option, Some, None, refl, arith}
 use Rattle.std.proofs.lemmas.Bool.{ltb-true, cond_both}
@@ -15,8 +14,8 @@ use Rattle.bufr_expand.specs.Trees as trees
 use Rattle.bufr_expand.specs.Courses.{Course, ends, stops, asks, Then, item, asks_if, turns}
 use Rattle.bufr_expand.specs.Courses.{course_then, course}
 
--- a course after so many items: a field that it asks for comes after more items, no more than a
--- message may have; where it is no count, its number decides nothing; and the course goes on so
+-- a steady course after `used` items: each field comes after more items, within the limit of a
+-- message, and the number of a field that is no count decides nothing
 unfoldable pub IsSteady : ℕ → Course → Type 0
 IsSteady used (ends met) = Unit {0}
 IsSteady used (stops met fault) = Unit {0}
@@ -25,7 +24,7 @@ IsSteady used (asks met fxy spec more) =
     × (same_kind spec.kind kinds.Count ≡ false → (number : ℕ) → more number ≡ more 0)
     × ((number : ℕ) → IsSteady met (more number))
 
--- each field that a course asks for has a spec such, whatever numbers the fields before it have
+-- every field that a course asks for has such a spec, whatever numbers the fields before it have
 unfoldable pub EachAsked : (Spec → Type 0) → Course → Type 0
 EachAsked Has (ends met) = Unit {0}
 EachAsked Has (stops met fault) = Unit {0}
@@ -33,7 +32,6 @@ EachAsked Has (asks met fxy spec more) = Has spec × ((number : ℕ) → EachAsk
 
 -- ---- the law, which `laws::courses_are_steady` states, for proofs about walks
 
--- after fewer items too
 earlier : (used later : ℕ) (c : Course) → used ≤ later → IsSteady later c → IsSteady used c
 unfolding IsSteady
 earlier used later (ends n) le s = tt
@@ -44,7 +42,6 @@ earlier used later (asks met d spec more) le s = (omega (arith, s.0), s.1, s.2, 
 abbrev IsSteadyThen : Then → Type 0
 IsSteadyThen after = (q : Operators) (used : ℕ) → IsSteady used (after q used)
 
--- one more item, where there is room for it
 steady_item : (used : ℕ) (c : Course) → (used < most_items → IsSteady used c)
     → IsSteady used (item used c)
 unfolding IsSteady
@@ -52,7 +49,6 @@ steady_item used c s =
     cond_both (ltb used most_items) c (stops used TooLarge) (IsSteady used)
     (λ e. s (ltb-true used most_items e)) (λ e. tt)
 
--- a field whose number decides nothing
 steady_field : (used d : ℕ) (spec : Option Spec) (c : Course) → used < most_items
     → IsSteady (used + 1) c
     → IsSteady used (asks_if spec (used + 1) d (λ n. c))
@@ -60,7 +56,6 @@ unfolding IsSteady
 steady_field used d None c room s = tt
 steady_field used d (Some spec) c room s = (omega arith, omega arith, λ other n. refl, λ n. s)
 
--- turns of a body
 pub steady_turns : (n : ℕ) (body : Operators → ℕ → Then → Course)
     → ((q : Operators) (used : ℕ) (after : Then) → IsSteadyThen after
     → IsSteady used (body q used after))
@@ -72,7 +67,6 @@ steady_turns (suc n) body each q used after s =
     steady_item used _ (λ room. earlier used (used + 1) _ (omega arith)
     (each q (used + 1) _ (λ q used. steady_turns n body each q used after s)))
 
--- the nodes of a tree
 pub steady_then : (t : trees.Tree) (q : Operators) (used : ℕ) (after : Then) → IsSteadyThen after
     → IsSteady used (course_then t q used after)
 unfolding course_then IsSteady

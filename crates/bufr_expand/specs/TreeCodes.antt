@@ -1,5 +1,4 @@
--- A tree is told by its nodes in depth-first order: for what contracts see of a `Template`, and the
--- law `templates_are_trees`.
+-- A tree is determined by its nodes in depth-first order: for what contracts see of a `Template`.
 use Rattle.std.proofs.Common.{◌≡◌, ℕ, zero, suc, ◌≤◌, List, ◌++◌, length, take, drop, refl, ap}
 use Rattle.std.proofs.Common.{arith, length-append}
 use Rattle.std.proofs.lemmas.List.{take_at, drop_at}
@@ -9,7 +8,6 @@ use Rattle.bufr_expand.specs.contracts.node.Node as node
 use Rattle.bufr_expand.specs.Trees.{Tree, done, element, untouched, operator, repeated, delayed}
 use Rattle.bufr_expand.specs.Trees.{nodes_of, tree_within, tree_of}
 
--- the nodes of a body and those behind it are parted where the body ends
 parted : (join : Tree → Tree → Tree) (body rest : Tree) (k : ℕ)
     → tree_within k (nodes_of body) ≡ body → tree_within k (nodes_of rest) ≡ rest
     → join (tree_within k (take (length (nodes_of body)) (nodes_of body ++ nodes_of rest)))
@@ -23,7 +21,6 @@ parted join body rest k front back =
       back,
     ) refl
 
--- the tree of the nodes of a tree, however far it may go on
 pub tree_within-nodes_of : (t : Tree) (k : ℕ) → length (nodes_of t) ≤ k
     → tree_within k (nodes_of t) ≡ t
 unfolding nodes_of tree_within
@@ -53,6 +50,6 @@ tree_within-nodes_of (delayed d e body rest) (suc k) h =
 pub tree_of-nodes_of : (t : Tree) → tree_of (nodes_of t) ≡ t
 tree_of-nodes_of t = tree_within-nodes_of t (length (nodes_of t)) (omega arith)
 
--- so a tree has a code
+-- the code of trees by their nodes
 abbrev pub tree_code : Coded Tree
 tree_code = code_by (List Node) (coded_list node.the_row.coded) nodes_of tree_of tree_of-nodes_of

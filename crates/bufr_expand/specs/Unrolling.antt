@@ -1,6 +1,5 @@
--- The fields that a tree stands for (FM 94 BUFR, regulations 94.5.4 and 94.5.5), each with the
--- number that it has, the operators in force after them, and how many items are met: one for each
--- node and one for each turn.
+-- Unrollings of a tree: its fields with their numbers, the operators in force after them, and the
+-- items met, one for each node and one for each turn (FM 94 BUFR, regulations 94.5.4 and 94.5.5).
 use Rattle.std.specs.Prelude.{◌≡◌, ℕ, zero, suc, ◌+◌, ◌≤◌, List, [], ◌∷◌, ◌++◌}
 use Rattle.bufr_expand.specs.declared.operators.Operators.{Operators}
 use Rattle.bufr_expand.specs.declared.operators.Spec.{Spec}
@@ -12,29 +11,29 @@ use Rattle.bufr_expand.specs.Trees as trees
 
 -- ---- what nodes are unrolled to
 
--- a field: its descriptor, its spec, and its number, which counts where the field is a factor
+-- a field: its descriptor, its spec, and its number, which counts turns if it is a factor
 pub record Told : Type 0 where
   pub fxy : ℕ
   pub spec : Spec
   pub number : ℕ
 
--- what some nodes are unrolled to: their fields one after the other, the operators in force behind
--- them, and how many items are met
+-- an unrolling of nodes: their fields in order, the operators in force after them, and the number
+-- of items
 pub record Unrolled : Type 0 where
   pub fields : List Told
   pub operators : Operators
   pub items : ℕ
 
--- nothing: no field, the operators that are in force before, and no item
+-- the unrolling of no nodes
 abbrev pub nothing : Operators → Unrolled
 nothing before = record { fields = []; operators = before; items = 0 }
 
--- one item, and what comes behind it
+-- one item before an unrolling
 abbrev pub item_then : Unrolled → Unrolled
 item_then others =
     record { fields = others.fields; operators = others.operators; items = 1 + others.items }
 
--- a field, which is one item, and what comes behind it
+-- a field, which is one item, before an unrolling
 abbrev pub field_then : Told → Unrolled → Unrolled
 field_then field others =
     record {
@@ -43,7 +42,7 @@ field_then field others =
       items = 1 + others.items;
     }
 
--- what comes first, and what comes behind it
+-- an unrolling before another
 abbrev pub first_then : Unrolled → Unrolled → Unrolled
 first_then first others = record {
   fields = first.fields ++ others.fields;
@@ -51,9 +50,9 @@ first_then first others = record {
   items = first.items + others.items;
 }
 
--- ---- what stands for what
+-- ---- which nodes have which unrollings
 
--- whether something is unrolled to this, from the operators in force before it
+-- a set of unrollings, given the operators in force before them
 abbrev pub UnrollsTo : Type 1
 UnrollsTo = Operators → Unrolled → Type 0
 
@@ -63,7 +62,7 @@ pub record ItemThen (Rest : UnrollsTo) (before : Operators) (all : Unrolled) : T
   pub in_order : all ≡ item_then others
   pub rest : Rest before others
 
--- a field of a descriptor, with a spec that it has, and then the rest, which its number may decide
+-- a field with a spec that it has, and then the rest; its number may decide the rest
 pub record FieldThen (fxy : ℕ) (Has : Spec → Type 0) (Rest : ℕ → UnrollsTo) (before : Operators)
     (all : Unrolled) : Type 0 where
   pub field : Told
@@ -73,7 +72,7 @@ pub record FieldThen (fxy : ℕ) (Has : Spec → Type 0) (Rest : ℕ → Unrolls
   pub has_spec : Has field.spec
   pub rest : Rest field.number before others
 
--- what stands first, and then the rest, from the operators in force behind the first
+-- the first part, and then the rest with the operators in force by then
 pub record FirstThen (First Rest : UnrollsTo) (before : Operators) (all : Unrolled) : Type 0 where
   pub first : Unrolled
   pub others : Unrolled
@@ -81,20 +80,20 @@ pub record FirstThen (First Rest : UnrollsTo) (before : Operators) (all : Unroll
   pub is_first : First before first
   pub rest : Rest first.operators others
 
--- so many turns of a body: each is an item and then the body, from the operators in force at the
--- end of the turn before
+-- `times` turns of a body: each is an item and then the body, with the operators in force at the
+-- end of the turn before (94.5.4)
 unfoldable pub Turns : ℕ → UnrollsTo → UnrollsTo
 Turns zero Body before all = all ≡ nothing before
 Turns (suc times) Body before all = ItemThen (FirstThen Body (Turns times Body)) before all
 
--- so many turns of a body, and then the rest
+-- `times` turns of a body, and then the rest
 abbrev pub TurnsThen : ℕ → UnrollsTo → UnrollsTo → UnrollsTo
 TurnsThen times Body Rest = FirstThen (Turns times Body) Rest
 
--- what the nodes of a tree are unrolled to. An operator is an item, and from then on it is in
--- force. An element is a field with its effective spec; one that no operator changes is as its row
--- says. A replication is an item, and then its body stands as often as it says; by a factor, it is
--- the factor's field, and then the body stands as often as that field's number says
+-- the unrollings of a tree. An operator is an item and acts from then on. An element is a field
+-- with its effective spec, or its row's if no operator changes it. A replication is an item and
+-- then its turns; a delayed one is its factor's field, whose number counts the turns (94.5.4,
+-- 94.5.5)
 unfoldable pub Unroll : trees.Tree → UnrollsTo
 Unroll trees.done before all = all ≡ nothing before
 Unroll (trees.operator fxy rest) before all = ItemThen (Unroll rest) (in_force_after before fxy) all
@@ -110,13 +109,13 @@ Unroll (trees.delayed fxy row body rest) before all =
 
 -- ---- whole subsets
 
--- what a subset is unrolled to: each begins with no operator in force
+-- the unrollings of a subset, which begins with no operator in force (94.5.5)
 abbrev pub SubsetUnrolls : trees.Tree → List Told → Operators → ℕ → Type 0
 SubsetUnrolls tree fields operators items =
     Unroll tree none_in_force (record { fields = fields; operators = operators; items = items })
 
--- the fields of a subset that a tree stands for, where so many items of the message are met before
--- them and so many behind them: no more than a message may have
+-- the fields of a subset unroll its tree, with `used` items of the message before them and `met`
+-- after them, at most 16,777,216
 abbrev pub Unrolls : trees.Tree → ℕ → List Told → ℕ → Type 0
 Unrolls tree used fields met =
     (operators : Operators) × (items : ℕ) × SubsetUnrolls tree fields operators items
@@ -124,8 +123,7 @@ Unrolls tree used fields met =
 
 -- ---- the fields that a course asks for
 
--- a course asks for these fields one after the other; once their numbers are told, a later course
--- is left
+-- a course asks for these fields in order and leaves a later course once it has their numbers
 unfoldable pub After : Course → List Told → Course → Type 0
 After course [] later = course ≡ later
 After (ends met) (field ∷ fields) later = ⊥
@@ -133,6 +131,6 @@ After (stops met fault) (field ∷ fields) later = ⊥
 After (asks met fxy spec more) (field ∷ fields) later =
     (field.fxy ≡ fxy) × (field.spec ≡ spec) × After (more field.number) fields later
 
--- fields that a course asks for up to its end, which comes after so many items
+-- a course asks for these fields and ends after `met` items
 abbrev pub Allows : Course → List Told → ℕ → Type 0
 Allows course fields met = After course fields (ends met)

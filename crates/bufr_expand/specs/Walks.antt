@@ -1,4 +1,4 @@
--- A walk, by the course that it has left.
+-- A walk, as the course that it has left.
 use Rattle.std.specs.Prelude.{◌≡◌, ℕ, ◌+◌, ◌*◌, ◌-◌, ◌<◌, ◌^◌, Bool, true, false, List, [], ◌∷◌}
 use Rattle.std.specs.Prelude.{length, take, drop, Option, Some, None, Result, Ok, Err, MatchBool}
 use Rattle.bufr_tables.specs.declared.element.Kind.TheVariants as kinds
@@ -15,70 +15,70 @@ use Rattle.bufr_expand.specs.Limits.{most_items}
 use Rattle.bufr_expand.specs.Trees.{Tree, tree_of}
 use Rattle.bufr_expand.specs.Courses.{Course, ends, stops, asks, Then, turns, course_then}
 
--- the tree of the nodes from one place to another
+-- the tree of the nodes from one index to another
 abbrev pub tree_between : List Node → ℕ → ℕ → Tree
 tree_between nodes from to = tree_of (take (to - from) (drop from nodes))
 
--- the nodes from one place to another, and then what comes after them
+-- the course of the nodes from one index to another, and then `after`
 abbrev pub rest_then : List Node → ℕ → ℕ → Then → Then
 rest_then nodes from to after = λ q used. course_then (tree_between nodes from to) q used after
 
--- so many turns of the nodes from one place to another, the nodes behind them, and then what comes
--- after these
+-- n turns of the nodes from one index to another, the nodes after them up to `stop`, and then
+-- `after`
 abbrev pub turns_then : List Node → ℕ → ℕ → ℕ → ℕ → Then → Then
 turns_then nodes n from to stop after =
     λ q used. turns n (course_then (tree_between nodes from to)) q used
     (rest_then nodes to stop after)
 
--- what comes after the nodes at hand: for each open replication, the outermost first, the turns
--- that it has left and the nodes behind it
+-- what comes after the nodes at hand: for each open replication, outermost first, its turns left
+-- and the nodes after it
 unfoldable pub behind : List Node → List Open → Then → Then
 behind nodes [] after = after
 behind nodes (o ∷ os) after = behind nodes os (turns_then nodes o.turns o.from o.to o.stop after)
 
--- what comes after the nodes at hand, to the end
+-- what comes after the nodes at hand, to the end of the subset
 abbrev pub behind_all : List Node → List Open → Then
 behind_all nodes os = behind nodes os (λ q used. ends used)
 
--- the course at a place
+-- the course at a node
 abbrev pub going : List Node → ℕ → ℕ → List Open → Then
 going nodes place stop os = rest_then nodes place stop (behind_all nodes os)
 
--- the course after a number is told: a body stands as often as it says
+-- the course after a count's number: its body is repeated that often
 abbrev pub told : Option ℕ → List Node → ℕ → ℕ → List Open → ℕ → Then
 told None nodes place stop os n = going nodes place stop os
 told (Some from) nodes place stop os n = turns_then nodes n from place stop (behind_all nodes os)
 
--- the course that is left, by what the walk does next
+-- the course left, by the state of the walk
 abbrev pub left_in : State → List Node → ℕ → ℕ → List Open → Then
 left_in states.Going nodes place stop os q used = going nodes place stop os q used
 left_in (states.Waiting asked) nodes place stop os q used =
     asks used asked.fxy asked.spec (λ n. told asked.body nodes place stop os n q used)
 left_in (states.Stopped fault) nodes place stop os q used = stops used fault
 
--- the course that is left
+-- the course left to a walk
 unfoldable pub left : Walk → Course
 left w = left_in w.state w.nodes.now w.place w.stop w.loops.items w.operators w.items
 
--- whether the last step was a count that has had no answer
+-- whether the last step was a count without its number yet, by the state of the walk
 abbrev pub is_waiting : State → Bool
 is_waiting states.Going = false
 is_waiting (states.Waiting asked) = true
 is_waiting (states.Stopped fault) = false
 
--- the same of a walk
+-- whether a walk waits for the number of a count
 unfoldable pub waits : Walk → Bool
 waits w = is_waiting w.state
 
--- the items of the message by now
+-- the items of the message met by a walk
 unfoldable pub items_met : Walk → ℕ
 items_met w = w.items
 
--- at most so many nodes, turns and ends of replications are passed before the next field
+-- a bound on the nodes, turns and ends of replications before the next field
 unfoldable pub steps_left : Walk → ℕ
 steps_left w = 2 * (most_items - w.items) + length w.loops.items
 
--- what one step answers and leaves: at a count the walk waits
+-- what a step returns and leaves; at a count the walk waits
 abbrev pub Goes : Course → Result Step WalkFault → Walk → Type 0
 Goes (ends n) answer w = (answer ≡ Ok steps.End) × (left w ≡ ends n) × (waits w ≡ false)
     × (items_met w ≡ n)
@@ -91,7 +91,7 @@ Goes (asks met d spec more) answer w =
     ((answer ≡ Ok (steps.Field d spec)) × (left w ≡ more 0) × (waits w ≡ false)
     × (items_met w ≡ met))
 
--- what the answer to a count leaves
+-- what the number of a count leaves
 abbrev pub Counted : Course → ℕ → Walk → Type 0
 Counted (asks met d spec more) n w = (left w ≡ more n) × (waits w ≡ false) × (items_met w ≡ met)
 Counted (ends m) n w = Unit {0}

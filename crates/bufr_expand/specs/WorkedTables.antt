@@ -1,9 +1,8 @@
--- What the tables of examples give, and what becomes of it: lists of descriptors, their fields, and
--- specs under operators.
+-- Tables of worked values: lists of descriptors, their fields, and specs under operators.
 use Rattle.std.specs.Prelude.{◌≡◌, ℕ, zero, suc, ◌+◌, List, [], ◌∷◌, map, length, Option, Some}
 use Rattle.std.specs.Prelude.{None, ℤ, pos}
 use Rattle.std.specs.Prelude.{negsuc, Result, Ok, Err}
-use Rattle.bufr_answers.specs.Answers.{result_map}
+use Rattle.bufr_base.specs.Answers.{result_map}
 use Rattle.bufr_tables.specs.declared.element.Element.{Element}
 use Rattle.bufr_tables.specs.declared.element.Kind.{Kind}
 use Rattle.bufr_tables.specs.declared.element.Kind.TheVariants as kinds
@@ -19,13 +18,15 @@ use Rattle.bufr_expand.specs.declared.run.Run.{Run}
 use Rattle.bufr_expand.specs.declared.walk.WalkFault.TheVariants.{TooLarge, EffectiveRange}
 use Rattle.bufr_expand.specs.Courses.{Course, ends, stops, asks, course}
 use Rattle.bufr_expand.specs.Expansion.{Expansion, expansion, expand_within}
+use Rattle.bufr_expand.specs.Limits.{most_items, most_nodes, most_lists}
+use Rattle.bufr_expand.specs.Limits.{most_sequence_levels, most_replication_levels}
 use Rattle.bufr_expand.specs.OperatorsInForce.{none_in_force, effective}
 use Rattle.bufr_expand.specs.Samples.{sample, row, number_row, temperature_row}
 use Rattle.bufr_expand.specs.Samples.{operator, in_force, latitude_under, call_sign_under}
 use Rattle.bufr_expand.specs.Samples.{quantity, text}
 use Rattle.bufr_expand.specs.Templates.{template}
 
--- a table of examples: each row has what is given, and what it becomes
+-- each row of a table pairs an argument with its result
 abbrev pub Becomes : {X Y : Type 0} → (X → Y) → List (X × Y) → Type 0
 Becomes f rows = map (λ row. f row.0) rows ≡ map (λ row. row.1) rows
 
@@ -51,7 +52,7 @@ code = descriptor 0 2 1
 abbrev pub factor : ℕ
 factor = descriptor 0 31 1
 
--- 001250, which the sample tables do not have
+-- 001250, which the sample tables lack
 abbrev pub local : ℕ
 local = descriptor 0 1 250
 
@@ -63,7 +64,7 @@ temperature_node = nodes.Element temperature temperature_row
 abbrev pub block_node : Node
 block_node = nodes.Element block (number_row 7)
 
--- a field that no operator changes, alone
+-- one field that no operator changes
 abbrev pub untouched_alone : ℕ → Element → Expansion
 untouched_alone d row = Ok (nodes.Untouched d row ∷ [])
 
@@ -89,7 +90,7 @@ unsupported x y = Err (UnsupportedOperator (descriptor 2 x y))
 abbrev pub operator_alone : ℕ → ℕ → Expansion
 operator_alone x y = Ok (nodes.Operator (descriptor 2 x y) ∷ [])
 
--- 206 YYY and a descriptor behind it
+-- 206 YYY and a descriptor after it
 abbrev pub behind_206 : ℕ × ℕ → Expansion
 behind_206 given = expansion sample (descriptor 2 6 given.0 ∷ given.1 ∷ [])
 
@@ -99,7 +100,7 @@ behind_206 given = expansion sample (descriptor 2 6 given.0 ∷ given.1 ∷ [])
 abbrev pub bad_replication : ℕ → ℕ → Expansion
 bad_replication x y = Err (BadReplication (descriptor 1 x y))
 
--- factors, and neighbours of theirs that are none: each with a row by which a factor could be read
+-- factors and their neighbours, each with a row that a factor can have
 abbrev pub with_neighbours : Entries
 with_neighbours = record {
   elements =
@@ -113,11 +114,11 @@ with_neighbours = record {
   sequences = (descriptor 3 31 1, descriptor 0 31 1 ∷ []) ∷ [];
 }
 
--- a temperature by a factor
+-- a temperature repeated by a factor
 abbrev pub by_factor : Entries → ℕ → Expansion
 by_factor tables factor = expansion tables (descriptor 1 1 0 ∷ factor ∷ temperature ∷ [])
 
--- its nodes, where the factor is one
+-- its nodes, if the factor is one
 abbrev pub delayed : ℕ → Element → Expansion
 delayed factor row = Ok (nodes.Delayed factor row 1 ∷ temperature_node ∷ [])
 
@@ -127,7 +128,7 @@ bad_factor factor = Err (BadFactor factor)
 
 -- ---- levels
 
--- replications of all that follows in each other, so many
+-- n levels of replications around a list
 unfoldable pub nested : ℕ → List ℕ → List ℕ
 nested zero list = list
 nested (suc n) list = descriptor 1 (suc n) 2 ∷ nested n list
@@ -137,7 +138,7 @@ unfoldable pub nested_nodes : ℕ → Node → List Node
 nested_nodes zero node = node ∷ []
 nested_nodes (suc n) node = nodes.Repeated 2 (suc n) ∷ nested_nodes n node
 
--- sequences in each other from this one on, so many: each has the next alone, and the last a list
+-- sequences from d on, each with the next alone in it, and the last with a list
 unfoldable pub chained : ℕ → ℕ → List ℕ → List (ℕ × List ℕ)
 chained zero d list = (d, list) ∷ []
 chained (suc n) d list = (d, (d + 1) ∷ []) ∷ chained n (d + 1) list
@@ -146,17 +147,17 @@ chained (suc n) d list = (d, (d + 1) ∷ []) ∷ chained n (d + 1) list
 abbrev pub chain : List ℕ → Entries
 chain list = record {
   elements = (block, number_row 7) ∷ (temperature, temperature_row) ∷ [];
-  sequences = chained 16 (descriptor 3 1 201) list;
+  sequences = chained most_sequence_levels (descriptor 3 1 201) list;
 }
 
--- a list behind so many nodes, in no sequence and in no replication
+-- a list after a number of nodes, in no sequence and no replication
 abbrev pub behind_nodes : ℕ × List ℕ → Expansion
-behind_nodes given = expand_within 33 sample 16 16 given.0 given.1
+behind_nodes given =
+    expand_within most_lists sample most_sequence_levels most_replication_levels given.0 given.1
 
--- a list behind as many nodes as there may be, where so many sequences and so many replications may
--- still stand in each other
+-- a list after the most nodes, with levels of sequences and replications still allowed
 abbrev pub behind_all_nodes : ℕ × ℕ × List ℕ → Expansion
-behind_all_nodes given = expand_within 33 sample given.0 given.1 65536 given.2
+behind_all_nodes given = expand_within most_lists sample given.0 given.1 most_nodes given.2
 
 -- ---- fields
 
@@ -165,34 +166,33 @@ abbrev pub spec : Kind → ℤ → ℤ → ℕ → Spec
 spec kind scale reference width =
     record { kind = kind; scale = scale; reference = reference; width = width }
 
--- the fields that a course asks for, each by its descriptor and its spec, where each count has this
--- number, and how it ends
+-- the fields of a course and its end, if each count has this number
 unfoldable pub walked : ℕ → Course → List (ℕ × Spec) × Course
 walked number (ends met) = ([], ends met)
 walked number (stops met fault) = ([], stops met fault)
 walked number (asks met fxy spec more) =
     let later = walked number (more number) in ((fxy, spec) ∷ later.0, later.1)
 
--- the same of a list of descriptors, after so many items
+-- the fields of a list of descriptors after `used` items, and its end
 abbrev pub walk : Entries → ℕ → ℕ → List ℕ → Result (List (ℕ × Spec) × Course) TemplateFault
 walk tables used number list =
     result_map (λ tree. walked number (course tree used)) (template tables list)
 
--- the same by the sample tables, where each count has the number that stands in front of the list
+-- the fields of a list by the sample tables, if each count has the number beside the list
 abbrev pub counting : ℕ → ℕ × List ℕ → Result (List (ℕ × Spec) × Course) TemplateFault
 counting used given = walk sample used given.0 given.1
 
--- how many fields a list of descriptors asks for after so many items, and how it ends
+-- the number of fields of a list after `used` items, and its end
 abbrev pub ending : Entries → ℕ → List ℕ → ℕ → Result (ℕ × Course) TemplateFault
 ending tables number list used =
     result_map (λ all. (length all.0, all.1)) (walk tables used number list)
 
--- a table in which each of these has the same result
+-- a table in which all rows have one result
 abbrev pub rows_of : {X Y : Type 0} → List X → Y → List (X × Y)
 rows_of given result = map (λ x. (x, result)) given
 
--- the temperature, the latitude and the call sign with rows that are outside the limits on fields,
--- each in one part: 64 bits, a scale of 128, and a text of 12 bits
+-- the temperature, the latitude and the call sign with rows outside the limits, one part each: 64
+-- bits, a scale of 128, and a text of 12 bits
 abbrev pub without_specs : Entries
 without_specs = record {
   elements =
@@ -202,45 +202,45 @@ without_specs = record {
   sequences = [];
 }
 
--- V1 at the first field, which is of this descriptor, with so many items by then
+-- V1 at the first field, which is item `met`
 abbrev pub refused : ℕ → ℕ → Result (List (ℕ × Spec) × Course) TemplateFault
 refused met fxy = Ok ([], stops met (EffectiveRange fxy))
 
--- V6, with all the items that a message may have
+-- V6, with the most items of a message
 abbrev pub full : Course
-full = stops 16777216 TooLarge
+full = stops most_items TooLarge
 
 -- the field of the factor 031001
 abbrev pub count : ℕ × Spec
 count = (factor, spec kinds.Count (pos 0) (pos 0) 8)
 
--- a field of the temperature: its scale and its width
+-- the field of the temperature, by its scale and width
 abbrev pub kelvin : ℕ → ℕ → ℕ × Spec
 kelvin scale width = (temperature, spec kinds.Quantity (pos scale) (pos 0) width)
 
--- a field of the block number: its width
+-- the field of the block number, by its width
 abbrev pub blocks : ℕ → ℕ × Spec
 blocks width = (block, spec kinds.Quantity (pos 0) (pos 0) width)
 
--- a run of so many fields, items and bits
+-- a run of fields, items and bits
 abbrev pub run : ℕ → ℕ → ℕ → Run
 run fields items bits = record { fields = fields; items = items; bits = bits }
 
 -- ---- specs under operators
 
--- two bits more
+-- 201 with two bits more
 abbrev pub wider : ℕ
 wider = operator 1 130
 
--- three digits more
+-- 202 with three digits more
 abbrev pub finer : ℕ
 finer = operator 2 131
 
--- ten times as fine
+-- 207 with Y = 1
 abbrev pub increased : ℕ
 increased = operator 7 1
 
--- texts of four characters
+-- 208 with four characters
 abbrev pub shorter : ℕ
 shorter = operator 8 4
 
@@ -248,18 +248,18 @@ shorter = operator 8 4
 abbrev pub latitude_and_call_sign : List ℕ → Option Spec × Option Spec
 latitude_and_call_sign operators = (latitude_under operators, call_sign_under operators)
 
--- a latitude of this scale, of a reference value of -1 less this, and of this width; and a call
--- sign of so many bits
+-- a latitude of this scale, of the reference value -1 - `below` and of this width, and a call sign
+-- of `bits` bits
 abbrev pub both : ℕ → ℕ → ℕ → ℕ → Option Spec × Option Spec
 both scale below width bits = (quantity (pos scale) (negsuc below) width, text bits)
 
--- an element under each of the four operators alone: 201, 202, 207 and 208
+-- an element under 201, 202, 207 and 208, one at a time
 abbrev pub under_each : ℕ → Element → List (Option Spec)
 under_each fxy row =
     map (λ operator. effective fxy row (in_force (operator ∷ [])))
     (wider ∷ finer ∷ increased ∷ shorter ∷ [])
 
--- a number of this kind as its row has it: a scale of 3, a reference value of -5 and six bits
+-- a number of a kind as its row has it: scale 3, reference value -5 and six bits
 abbrev pub as_row : Kind → Option Spec
 as_row kind = Some (spec kind (pos 3) (negsuc 4) 6)
 
@@ -267,21 +267,21 @@ as_row kind = Some (spec kind (pos 3) (negsuc 4) 6)
 abbrev pub under_none : ℕ → Element → Option Spec
 under_none fxy row = effective fxy row none_in_force
 
--- rows of numbers of this kind at each limit on fields: in width, scale and reference value
+-- rows of a kind at each limit, in width, scale and reference value
 abbrev pub at_limits : Kind → List Element
 at_limits kind =
     row kind (pos 0) (pos 0) 1 ∷ row kind (pos 0) (pos 0) 63 ∷ row kind (pos 127) (pos 0) 8
     ∷ row kind (negsuc 126) (pos 0) 8 ∷ row kind (pos 0) (pos 4611686018427387904) 8
     ∷ row kind (pos 0) (negsuc 4611686018427387903) 8 ∷ row kind (pos 3) (negsuc 4) 6 ∷ []
 
--- rows beyond each
+-- rows of a kind above each limit
 abbrev pub beyond_limits : Kind → List Element
 beyond_limits kind =
     row kind (pos 0) (pos 0) 0 ∷ row kind (pos 0) (pos 0) 64 ∷ row kind (pos 128) (pos 0) 8
     ∷ row kind (negsuc 127) (pos 0) 8 ∷ row kind (pos 0) (pos 4611686018427387905) 8
     ∷ row kind (pos 0) (negsuc 4611686018427387904) 8 ∷ []
 
--- the spec that is as a row has it
+-- the spec of a row as it is
 abbrev pub some_spec : Element → Option Spec
 some_spec row = Some (spec row.kind row.scale row.reference row.width)
 
@@ -289,7 +289,7 @@ some_spec row = Some (spec row.kind row.scale row.reference row.width)
 abbrev pub no_spec : Element → Option Spec
 no_spec row = None
 
--- a row of one bit with a reference value, under 207 YYY and eight bits less
+-- a row of one bit with a reference value, under 207 YYY and 201 with eight bits less
 abbrev pub increased_reference : ℕ × ℤ → Option Spec
 increased_reference given =
     effective temperature (row kinds.Quantity (pos 0) given.1 1)

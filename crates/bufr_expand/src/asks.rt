@@ -1,15 +1,15 @@
-//! Which fields are asked for.
+//! Picks fields by descriptor.
 
 ghost use Rattle.std.specs.Prelude.{◌≡◌, ℕ, Bool};
 
 use bufr_tables::Fxy;
 
-/// A choice of fields by their descriptors.
+/// A choice of descriptors.
 pub trait Asks {
-    /// The descriptors of the fields that are asked for.
+    /// The chosen descriptors.
     ghost is_asked: { ℕ → Bool };
 
-    /// Whether a field of this descriptor is asked for.
+    /// Returns whether a descriptor is chosen.
     fn asks(fxy: Fxy) -> bool
         ensures { result ≡ is_asked fxy };
 }

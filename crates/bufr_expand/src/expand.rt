@@ -1,7 +1,7 @@
-//! The nodes of a list of descriptors.
+//! Expands descriptors into nodes, in depth-first order.
 
 ghost use Rattle.std.specs.Prelude.{◌≡◌, ◌+◌, suc, length};
-ghost use Rattle.bufr_answers.specs.Answers.{Gives};
+ghost use Rattle.bufr_base.specs.Answers.{Gives};
 ghost use Rattle.bufr_expand.specs.Expansion.{onto, expand_within, part_nodes};
 ghost use Rattle.bufr_expand.specs.Expansion.{single_nodes, replication_node};
 ghost use Rattle.bufr_expand.specs.Parts.{seen_part};
@@ -9,13 +9,13 @@ ghost use Rattle.bufr_expand.specs.Parts.{seen_part};
 use crate::limits::MOST_NODES;
 use crate::node::{Node, Repetitions, TemplateFault};
 use crate::part::{Part, found_at};
-use bufr_answers::Failure;
+use bufr_base::Failure;
 use bufr_tables::{Fxy, Tables};
 
-/// Adds the nodes of a list of descriptors, or tells its first fault, X1 to X9. So many sequences
-/// and replications may still stand in each other.
+/// Appends the nodes of a list, or returns its first fault. The counts are the levels still
+/// allowed.
 #[cycle(expand)]
-pub fn expand(
+pub(crate) fn expand(
     tables: &Tables,
     sequences: u8,
     replications: u8,
@@ -39,8 +39,7 @@ pub fn expand(
     Ok(())
 }
 
-/// Adds the nodes of a part: that of a replication gets the number of nodes of its body once these
-/// stand behind it. X8 and X9, and the first fault of a list in it.
+/// Appends the nodes of a part; a replication's node gets the size of its body.
 #[cycle(expand)]
 fn add_part(
     tables: &Tables,
@@ -75,7 +74,7 @@ fn add_part(
     }
 }
 
-/// Adds one node. X9 where there are 65,536.
+/// Appends a node, within the limit.
 fn add_node(node: &Node, nodes: &mut Vec<Node>) -> Result<(), Failure<TemplateFault>>
     ensures { Gives (λ _. nodes.new.items) result
         (onto nodes.old.items (single_nodes (length nodes.old.items) node.now)) }
@@ -87,7 +86,6 @@ fn add_node(node: &Node, nodes: &mut Vec<Node>) -> Result<(), Failure<TemplateFa
     Ok(())
 }
 
-/// The node of a replication whose body has so many nodes.
 fn replication_node(repetitions: &Repetitions, size: u64) -> Node
     ensures { result ≡ replication_node repetitions.now size }
 {

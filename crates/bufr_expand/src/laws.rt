@@ -1,4 +1,4 @@
-//! Laws of the definitions. Each is a function with nothing to do, whose clauses are the law.
+//! Laws of the definitions.
 
 ghost use Rattle.std.specs.Prelude.{◌≡◌, ◌≤◌, ◌↔◌, ℕ, List, ◌∷◌, ◌++◌, Some};
 ghost use Rattle.bufr_tables.specs.declared.element.Element.{Element};
@@ -24,8 +24,8 @@ ghost use Rattle.bufr_expand.specs.Unrolling.{Told, After, Allows, Unrolls};
 ghost use Rattle.bufr_expand.specs.NextFields.{wants, lacks, BeginsWithin, MeetsItems, PassesLimit};
 ghost use Rattle.bufr_expand.specs.NextFields.{AsksAfter};
 
-/// A list of descriptors is expanded exactly where it has a tree within the limits, to the nodes of
-/// this tree, the only one. No list is refused for want of levels in the definition.
+/// A list expands to the nodes of its tree, exactly if it has one within the limits. It has one
+/// tree at most, and the definition never runs out of levels.
 pub fn expansion_is_the_tree_of_a_list()
     ensures exactly { (tables : Entries) (list : List ℕ) (tree : Tree)
         → ExpandsExactly tables list tree }
@@ -36,9 +36,8 @@ pub fn expansion_is_the_tree_of_a_list()
         → HasEnoughLevels tables list more }
 {}
 
-/// A list of descriptors is refused exactly by its first fault in depth-first order, X1 to X9. It
-/// has a tree within the limits or a first fault, never both, and at most one fault. Where X1 to X7
-/// stand at its first descriptor it has no tree, whatever the limits.
+/// A list is refused exactly with its first fault. It has either a tree within the limits or one
+/// first fault; X1 to X7 at its first descriptor leave it no tree, whatever the limits.
 pub fn refusal_is_the_first_fault()
     ensures exactly { (tables : Entries) (list : List ℕ) (fault : TemplateFault)
         → first_faults.RefusesExactly tables list fault }
@@ -51,9 +50,8 @@ pub fn refusal_is_the_first_fault()
         → HasNoTreeAt tables first behind fault }
 {}
 
-/// A list of descriptors has a template exactly where it has a tree within the limits, which is
-/// then the template's; else it is refused exactly for its first fault. This is what data and
-/// messages know of templates.
+/// The template of a list is its tree within the limits; else the list is refused with its first
+/// fault.
 pub fn templates_are_trees()
     ensures built { (tables : Entries) (list : List ℕ) (tree : Tree)
         → BuildsExactly tables list tree }
@@ -61,8 +59,7 @@ pub fn templates_are_trees()
         → RefusesExactly tables list fault }
 {}
 
-/// The spec of an element under operators is the one for which the equations of Table C and the
-/// limits hold, and there is at most one.
+/// The spec of an element is the one that meets the equations of Table C and the limits.
 pub fn specs_are_effective()
     ensures found { (fxy : ℕ) (row : Element) (operators : Operators) (spec : Spec)
         → effective fxy row operators ≡ Some spec → Effective fxy row operators spec }
@@ -76,13 +73,8 @@ pub fn specs_are_effective()
         → untouched row ≡ Some spec }
 {}
 
-/// The fields that a template asks for, given the numbers of the counts, are those that its tree
-/// stands for: with the items that are then met, and within the items that a message may have.
-///
-/// `unrolled` asks that the items met before are no more than a message may have, since a template
-/// of no node asks for no field and ends even then, while an unrolling is within the limit. Any
-/// other template is too large from the limit on (`full`). No walk of a message begins beyond it:
-/// its first subset begins after no item, and each other where the one before it ended.
+/// The fields that a template asks for unroll its tree, within the limit of items. `unrolled`
+/// assumes that `used` is within it: a template without nodes ends even above.
 pub fn courses_are_unrollings()
     ensures unrolled { (tree : Tree) (used : ℕ) (fields : List Told) (met : ℕ)
         → used ≤ most_items → Allows (course tree used) fields met → Unrolls tree used fields met }
@@ -92,11 +84,8 @@ pub fn courses_are_unrollings()
         → course tree used ≡ stops used TooLarge }
 {}
 
-/// After some fields a template asks for the one that comes next in an unrolling, or refuses it
-/// where it has no spec: with the items that are then met. Exactly where an item up to and with
-/// this field, or up to the end, would be more than a message may have, it is too large instead. So
-/// the fields asked for are always the front of an unrolling. Where it ends is said by
-/// `courses_are_unrollings`, and why the items before are within the limit.
+/// After some fields a template asks for the next field of an unrolling, or refuses it for lack of
+/// a spec. It is too large exactly if an item up to there is above the limit.
 pub fn courses_begin_unrollings()
     ensures asked { (tree : Tree) (used : ℕ) (fields : List Told) (met fxy : ℕ) (spec : Spec)
         → used ≤ most_items → AsksAfter (course tree used) fields met fxy spec
@@ -117,10 +106,8 @@ pub fn courses_begin_unrollings()
         → (met : ℕ) × BeginsWithin tree used fields (wants field.fxy field.spec) met }
 {}
 
-/// The course of a template goes on steadily: each field that it asks for is one item more at
-/// least, no more than a message may have, and only the number of a count decides what comes after
-/// it. Whatever numbers the counts have, each field has a spec in range, and that of a list of
-/// descriptors one within all limits.
+/// Each field of a course is at least one more item, and only numbers of counts decide what
+/// follows. Every spec is in range, and within all limits for the tree of a list.
 pub fn courses_are_steady()
     ensures steady { (tree : Tree) (used : ℕ) → IsSteady used (course tree used) }
     ensures in_range { (tree : Tree) (used : ℕ) → EachAsked IsInRange (course tree used) }

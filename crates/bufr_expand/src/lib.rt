@@ -1,9 +1,9 @@
-//! Templates: descriptors expanded by the tables, and the fields that they ask for.
+//! Templates: descriptors expanded by the tables, and the fields that they ask for. Every call that
+//! allocates can return `OutOfMemory`.
 #![tactic(auto)]
 
 mod asks;
 mod expand;
-mod kept_templates;
 pub mod laws;
 mod limits;
 mod node;
@@ -16,10 +16,10 @@ mod walk;
 mod worked_values;
 
 pub use asks::Asks;
-pub use kept_templates::KeptTemplates;
+pub use bufr_base::{Failure, OutOfMemory};
 pub use limits::{
-    MOST_FACTOR_BITS, MOST_ITEMS, MOST_LEVELS, MOST_NODES, MOST_NUMBER_BITS, MOST_REFERENCE,
-    MOST_SCALE, MOST_TEXT_BITS,
+    MOST_FACTOR_BITS, MOST_ITEMS, MOST_NODES, MOST_NUMBER_BITS, MOST_REFERENCE,
+    MOST_REPLICATION_LEVELS, MOST_SCALE, MOST_SEQUENCE_LEVELS, MOST_TEXT_BITS,
 };
 pub use node::{Node, TemplateFault};
 pub use operators::{EffectiveRange, Operators, Spec};

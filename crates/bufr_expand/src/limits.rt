@@ -1,26 +1,28 @@
-//! The limits of templates, fields and messages. The definitions cite them by these names
-//! (`specs/Limits.antt`), and `worked_values` pins each number.
+//! The limits of templates, fields and messages, cited by the definitions.
 
-/// A message has at most so many items: a node that is met is one, and so is a turn that is begun.
+/// The most items of a message: nodes met and turns begun.
 pub const MOST_ITEMS: u64 = 16_777_216;
 
-/// A template has at most so many nodes.
+/// The most nodes of a template.
 pub const MOST_NODES: usize = 65_536;
 
-/// Sequences stand in each other at most so deep, and so do replications.
-pub const MOST_LEVELS: u8 = 16;
+/// The most levels of sequences.
+pub const MOST_SEQUENCE_LEVELS: u8 = 16;
 
-/// A number has at most so many bits.
+/// The most levels of replications.
+pub const MOST_REPLICATION_LEVELS: u8 = 16;
+
+/// The most bits of a number.
 pub const MOST_NUMBER_BITS: u32 = 63;
 
-/// A text has at most so many bits: 8,191 octets.
+/// The most bits of a text: 8,191 octets.
 pub const MOST_TEXT_BITS: u32 = 65_528;
 
-/// A delayed replication factor has at most so many bits.
+/// The most bits of a delayed replication factor.
 pub const MOST_FACTOR_BITS: u32 = 16;
 
-/// The scale of a row of Table B is at most so far above or below 0.
+/// The greatest scale in Table B, above or below 0.
 pub const MOST_SCALE: u64 = 127;
 
-/// A reference value is at most so far above or below 0: 2 to the power of 62.
+/// The greatest reference value, above or below 0: 2 to the 62.
 pub const MOST_REFERENCE: u64 = 4_611_686_018_427_387_904;

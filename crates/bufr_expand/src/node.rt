@@ -1,4 +1,4 @@
-//! The nodes of a template.
+//! The nodes of a template, and the faults of a list.
 
 ghost use Rattle.std.specs.Prelude.{Some};
 ghost use Rattle.bufr_expand.specs.Reasons.{template_reason};
@@ -7,53 +7,50 @@ use bufr_tables::{Element, Fxy};
 use std::error::Error;
 use std::fmt;
 
-/// A node of a template. The nodes of a replication's body follow it, as many as it says.
+/// A node of a template. The nodes of its body follow a replication.
 #[derive(Clone, Copy, Debug, PartialEq, Eq)]
 pub enum Node {
     /// An element of Table B.
     Element(Fxy, Element),
-    /// A field that no operator changes: the characters of 205, or the element behind 206.
+    /// A field that no operator changes: the text of 205, or the element after 206.
     Untouched(Fxy, Element),
-    /// An operator 201, 202, 207 or 208, which stays in force.
+    /// An operator 201, 202, 207 or 208.
     Operator(Fxy),
-    /// A replication: how many times, and how many nodes its body has.
+    /// A replication: its turns, and the nodes in its body.
     Repeated(u64, u64),
-    /// A delayed replication: its factor with the row of Table B, and how many nodes its body has.
+    /// A delayed replication: its factor with the row, and the nodes in its body.
     Delayed(Fxy, Element, u64),
 }
 
-/// How often a replication's body stands: a number of times, or as its factor says.
+/// A number of turns.
 #[derive(Clone, Copy)]
-pub enum Repetitions {
-    /// So many turns.
+pub(crate) enum Repetitions {
+    /// A fixed number.
     Times(u64),
-    /// As many turns as the data say at this factor (class 31).
+    /// The number at this factor in the data.
     Factor(Fxy, Element),
 }
 
-/// The first fault of a list of descriptors, X1 to X9, with the descriptor that it is about.
+/// A fault of a list of descriptors, the first.
 #[derive(Clone, Copy, Debug, PartialEq, Eq)]
 pub enum TemplateFault {
-    /// X1: an element that Table B does not have.
+    /// X1: Table B lacks the element.
     UnknownElement(Fxy),
-    /// X2: a sequence that Table D does not have.
+    /// X2: Table D lacks the sequence.
     UnknownSequence(Fxy),
     /// X3: an operator other than 201, 202, 205, 206, 207 and 208.
     UnsupportedOperator(Fxy),
-    /// X4: a replication of no descriptor, without its factor, or of more descriptors than are left
-    /// in the same list.
+    /// X4: a replication of nothing, without its factor, or of more descriptors than the list has.
     BadReplication(Fxy),
-    /// X5: a factor that is not 031000, 031001 or 031002, or whose row of Table B does not give a
-    /// count.
+    /// X5: a factor other than 031000, 031001 and 031002, or whose row is no count.
     BadFactor(Fxy),
-    /// X6: 205000, 206000, or a width over 63 before an element that Table B does not have with
-    /// that width.
+    /// X6: 205000, 206000, or more than 63 bits for an element without a row of that width.
     BadOperand(Fxy),
-    /// X7: 206 with no element behind it in the same list.
+    /// X7: no element after 206.
     Dangling206(Fxy),
-    /// X8: a sequence or a replication at the 17th level of its kind.
+    /// X8: a sequence or a replication at a level past the last of its kind.
     TooDeep,
-    /// X9: the 65,537th node.
+    /// X9: a node past the last that a template may have.
     TooManyNodes,
 }
 

@@ -1,4 +1,4 @@
-//! Operators in force, and what they make of an element.
+//! Applies operators to elements (FM 94 BUFR, Table C).
 
 ghost use Rattle.std.specs.Prelude.{◌≡◌, ◌⊎◌, ◌≤ℤ◌, pos, negsuc};
 ghost use Rattle.std.specs.Prelude.{Some, None, MatchResult};
@@ -10,40 +10,40 @@ use crate::limits::{MOST_NUMBER_BITS, MOST_REFERENCE, MOST_SCALE, MOST_TEXT_BITS
 use bufr_tables::{Element, Fxy, Kind};
 use thiserror::Error;
 
-/// How a field stands in the data: `width` bits, of which a number means
-/// (raw + `reference`) times 10 to the power of minus `scale`. A text has scale and reference 0.
+/// A coding of a field. A raw number means (raw + `reference`) times 10 to the power of minus
+/// `scale`; texts have 0 for both.
 #[derive(Clone, Copy, Debug, PartialEq, Eq)]
 pub struct Spec {
-    /// What its values are.
+    /// The kind of its values.
     pub kind: Kind,
     /// The decimal scale.
     pub scale: i32,
     /// The reference value.
     pub reference: i64,
-    /// The data width, in bits.
+    /// The data width in bits.
     pub width: u32,
 }
 
-/// No field of this element can stand in the data: its spec is outside the limits.
+/// A fault: the spec of this element is outside the limits.
 #[derive(Clone, Copy, Debug, Error, PartialEq, Eq)]
 #[error("V1 EffectiveRange {0}")]
 pub struct EffectiveRange(pub Fxy);
 
-/// The operands in force of the operators 201, 202, 207 and 208.
+/// A set of operands in force, of 201, 202, 207 and 208.
 #[derive(Clone, Copy, Debug, PartialEq, Eq)]
 pub struct Operators {
-    /// The Y of 201, which adds Y - 128 to the width.
+    /// The Y of 201: adds Y - 128 to the width.
     pub add_width: Option<u8>,
-    /// The Y of 202, which adds Y - 128 to the scale.
+    /// The Y of 202: adds Y - 128 to the scale.
     pub add_scale: Option<u8>,
-    /// The Y of 207, which adds to the scale and the width and multiplies the reference value.
+    /// The Y of 207: increases scale, reference value and width.
     pub increase: Option<u8>,
-    /// The Y of 208, the octets of each text.
+    /// The Y of 208: the octets of each text.
     pub characters: Option<u8>,
 }
 
 impl Operators {
-    /// None in force.
+    /// Starts with no operator in force.
     pub fn none() -> Operators
         ensures { result ≡ none_in_force }
     {
@@ -55,8 +55,7 @@ impl Operators {
         }
     }
 
-    /// Puts one of the operators 201, 202, 207 and 208 in force in place of its own former Y, or
-    /// cancels it, where Y is 0.
+    /// Applies 201, 202, 207 or 208; a Y of 0 cancels.
     pub fn apply(&mut self, op: Fxy)
         requires operator { f_of op ≡ 2 }
         requires stays { (x_of op ≡ 1) ⊎ (x_of op ≡ 2) ⊎ (x_of op ≡ 7) ⊎ (x_of op ≡ 8) }
@@ -65,8 +64,7 @@ impl Operators {
         self.put(op);
     }
 
-    /// The spec of an element under these operators. `EffectiveRange` comes exactly where that spec
-    /// is outside the limits.
+    /// Returns the spec of an element, if it is within the limits.
     pub fn effective(&self, element: &Element, fxy: Fxy) -> Result<Spec, EffectiveRange>
         ensures { MatchResult result (λ s. effective fxy element.now self.now ≡ Some s)
             (λ e. (e ≡ record { 0 = fxy }) × (effective fxy element.now self.now ≡ None)) }
@@ -79,8 +77,7 @@ impl Operators {
         spec.ok_or(EffectiveRange(fxy))
     }
 
-    /// Puts an operator in force by its X; a Y of 0 cancels. A walk puts each operator of its nodes in force, of
-    /// which it does not know which they are; `apply` asks its caller for one of the four.
+    /// Applies an operator by its X. A walk can't prove that X is one of the four.
     pub(crate) fn put(&mut self, op: Fxy)
         ensures { self.new ≡ in_force_after self.old op }
     {
@@ -94,8 +91,8 @@ impl Operators {
         }
     }
 
-    /// The spec of a quantity, to which all that is in force adds up. A reference value other than 0 is
-    /// outside the limits once it is multiplied by 10 to the power of 19.
+    /// Returns the spec of a quantity. Any reference value but 0 is too large times 10 to the power
+    /// of 19.
     fn quantity(&self, element: &Element) -> Option<Spec>
         ensures { result ≡ operating.quantity element.now self.now }
     {
@@ -119,7 +116,6 @@ impl Operators {
     }
 }
 
-/// What 201 and 202 add.
 fn added(operand: Option<u8>) -> i32
     ensures value { result ≡ operating.added operand }
     ensures low { negsuc 127 ≤ℤ result }
@@ -131,7 +127,6 @@ fn added(operand: Option<u8>) -> i32
     }
 }
 
-/// The spec of a number, where it is within the limits.
 fn number_spec(kind: Kind, scale: i32, reference: i64, width: i64) -> Option<Spec>
     ensures { result ≡ operating.number_spec kind scale reference width }
 {
@@ -149,7 +144,6 @@ fn number_spec(kind: Kind, scale: i32, reference: i64, width: i64) -> Option<Spe
     })
 }
 
-/// The spec of a text, where it is within the limits.
 fn text_spec(width: u32) -> Option<Spec>
     ensures { result ≡ operating.text_spec width }
 {
@@ -164,7 +158,7 @@ fn text_spec(width: u32) -> Option<Spec>
     })
 }
 
-/// The spec of an element that no operator changes, where it is within the limits.
+/// Returns the spec of an element that no operator changes.
 pub(crate) fn untouched(element: &Element) -> Option<Spec>
     ensures { result ≡ untouched element.now }
 {

@@ -1,7 +1,7 @@
-//! What one descriptor of a list stands for.
+//! Finds what one descriptor of a list means.
 
 ghost use Rattle.std.specs.Prelude.{◌≡◌, ◌≤◌, length, pos, IfOk};
-ghost use Rattle.bufr_answers.specs.Answers.{result_map};
+ghost use Rattle.bufr_base.specs.Answers.{result_map};
 ghost use Rattle.bufr_tables.specs.Descriptors.{x_of, y_of};
 ghost use Rattle.bufr_expand.specs.Expansion.{found_at, delayed_found};
 ghost use Rattle.bufr_expand.specs.Expansion.{width_found};
@@ -11,9 +11,9 @@ use crate::limits::{MOST_FACTOR_BITS, MOST_NUMBER_BITS};
 use crate::node::{Node, Repetitions, TemplateFault};
 use bufr_tables::{Element, Fxy, Kind, Tables};
 
-/// One node, the list of a sequence, or a replication of the descriptors of a list.
+/// A meaning of a descriptor.
 #[derive(Clone, Copy)]
-pub enum Part<'a> {
+pub(crate) enum Part<'a> {
     /// One node.
     Single(Node),
     /// The descriptors of a sequence.
@@ -22,19 +22,18 @@ pub enum Part<'a> {
     Replication(Repetitions, &'a [Fxy]),
 }
 
-/// A part, and how many of the descriptors behind its first belong to it.
+/// A part, and the number of descriptors that it takes after the first.
 #[derive(Clone, Copy)]
-pub struct FirstPart<'a> {
-    /// What stands there.
+pub(crate) struct FirstPart<'a> {
+    /// The part.
     pub part: Part<'a>,
-    /// How many descriptors it takes.
+    /// The number of descriptors taken.
     pub taken: usize,
 }
 
-/// What a descriptor stands for, by those behind it in the same list: an element of Table B, a
-/// replication, an operator or the list of Table D. A replication is by a factor where Y is 0, else
-/// of the next X descriptors, Y times. X1 to X7 where it stands for nothing.
-pub fn found_at<'a>(
+/// Finds the meaning of `first`: an element of Table B, a replication of the next X descriptors, an
+/// operator or a sequence of Table D; or one of X1 to X7.
+pub(crate) fn found_at<'a>(
     tables: &'a Tables,
     first: Fxy,
     behind: &'a [Fxy],
@@ -73,9 +72,8 @@ pub fn found_at<'a>(
     Ok(FirstPart { part, taken })
 }
 
-/// A replication of `count` descriptors by a factor: 031000, 031001 or 031002, with a row of Table B
-/// by which it can be read, a number of 1 to 16 bits with neither scale nor reference value. X4
-/// where nothing follows, X5 where that is no such factor, then X4 where fewer descriptors are left.
+/// Finds a delayed replication of `count` descriptors. `BadReplication` comes if nothing follows,
+/// `BadFactor` at a wrong factor, then `BadReplication` if the list is too short.
 fn delayed_found<'a>(
     tables: &Tables,
     first: Fxy,
@@ -111,8 +109,8 @@ fn delayed_found<'a>(
     })
 }
 
-/// The element behind 206 with this width: by its row where that has the width, else as a number of
-/// so many bits. X7 where there is none, X6 where the number would have over 63 bits.
+/// Finds the element after 206: by its row if that has the width, else as a number. `Dangling206`
+/// without an element, `BadOperand` above 63 bits.
 fn width_found<'a>(
     tables: &Tables,
     first: Fxy,
@@ -138,7 +136,6 @@ fn width_found<'a>(
     })
 }
 
-/// An element of so many bits, with neither scale nor reference value.
 fn plain(kind: Kind, width: u32) -> Element
     ensures { result ≡ record { kind = kind; scale = pos 0; reference = pos 0; width = width } }
 {

@@ -1,5 +1,4 @@
-//! Runs of fields, none of which is a count, so that they have as many bits and items at each turn
-//! of a replication.
+//! Sums fields that no data can change.
 
 ghost use Rattle.std.specs.Prelude.{◌≤◌, ◌∷◌, length, drop, IfSome};
 ghost use Rattle.bufr_expand.specs.Runs.{BeginsRun, TurnsRun};
@@ -9,21 +8,21 @@ use crate::node::Node;
 use crate::operators::{Operators, untouched};
 use bufr_tables::Kind;
 
-/// Fields one after the other, none of which is a count.
+/// A run: the sums of some fields in a row, none a count.
 #[derive(Clone, Copy, Debug, PartialEq, Eq)]
 pub struct Run {
-    /// How many fields.
+    /// The number of fields.
     pub fields: u64,
-    /// How many items: one for each node and one for each turn.
+    /// The number of items: nodes and turns.
     pub items: u64,
-    /// How many bits the fields have.
+    /// The number of bits.
     pub bits: u128,
 }
 
-/// The run of so many turns of some nodes, unless an operator, a count, a field that has no spec or
-/// a delayed replication is among them, or that is too much to count.
+/// Sums `times` turns of nodes. `None` if they include an operator, a count, a field without a spec
+/// or a delayed replication, or a sum overflows.
 #[cycle(run_of)]
-pub fn turns_run(times: u64, nodes: &[Node], operators: &Operators) -> Option<Run>
+pub(crate) fn turns_run(times: u64, nodes: &[Node], operators: &Operators) -> Option<Run>
     ensures { IfSome result (TurnsRun times (tree_of nodes.now) operators.now) }
 {
     let body = run_of(nodes, operators)?;
@@ -38,8 +37,7 @@ pub fn turns_run(times: u64, nodes: &[Node], operators: &Operators) -> Option<Ru
     })
 }
 
-/// The run of some nodes, unless an operator, a count, a field that has no spec or a delayed
-/// replication is among them.
+/// Sums some nodes, likewise.
 #[cycle(run_of)]
 fn run_of(nodes: &[Node], operators: &Operators) -> Option<Run>
     ensures { IfSome result (λ run. BeginsRun (tree_of nodes.now) operators.now run done) }
@@ -65,8 +63,7 @@ fn run_of(nodes: &[Node], operators: &Operators) -> Option<Run>
     Some(run)
 }
 
-/// The run of the first node, with its body where it is a replication, and how many nodes the body
-/// has.
+/// Sums the first node, a replication with its body, and returns the nodes in the body.
 #[cycle(run_of)]
 fn first_run(first: Node, behind: &[Node], operators: &Operators) -> Option<(Run, usize)>
     ensures within { IfSome result (λ found. found.1 ≤ length behind.now) }

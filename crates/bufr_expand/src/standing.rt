@@ -1,41 +1,40 @@
-//! Where a walk stands.
+//! The state of a walk.
 
 use crate::operators::Spec;
 use crate::walk::WalkFault;
 use bufr_tables::Fxy;
 
-/// A replication that the walk is in.
+/// A replication that the walk is inside.
 #[derive(Clone, Copy, Debug)]
-pub struct Open {
-    /// How many more turns there are.
+pub(crate) struct Open {
+    /// The turns left.
     pub turns: u64,
     /// The first node of the body.
     pub from: usize,
     /// The node after the body.
     pub to: usize,
-    /// The node after all nodes of the list that the replication stands in.
+    /// The node after the enclosing list.
     pub stop: usize,
 }
 
-/// A number that was asked for and has not been told yet.
+/// A count whose number the walk waits for.
 #[derive(Clone, Copy, Debug)]
-pub struct Asked {
+pub(crate) struct Asked {
     /// The descriptor of its field.
     pub fxy: Fxy,
     /// The spec of its field.
     pub spec: Spec,
-    /// Where the body begins that stands as often as the number says; it ends at the place of the
-    /// walk. None for an element that only counts.
+    /// The first node of the body that it repeats, if any.
     pub body: Option<usize>,
 }
 
-/// What a walk does next.
+/// A state of a walk.
 #[derive(Clone, Copy, Debug)]
-pub enum State {
-    /// It goes on to the next node.
+pub(crate) enum State {
+    /// Goes on to the next node.
     Going,
-    /// It waits for a number.
+    /// Waits for a number.
     Waiting(Asked),
-    /// It was refused and stays where it is.
+    /// Stopped at a fault.
     Stopped(WalkFault),
 }

@@ -1,21 +1,21 @@
 //! Templates.
 
 ghost use Rattle.std.specs.Prelude.{◌≡◌, length, IfOk};
-ghost use Rattle.bufr_answers.specs.Answers.{Gives};
+ghost use Rattle.bufr_base.specs.Answers.{Gives};
 ghost use Rattle.bufr_expand.specs.Templates.{template};
 ghost use Rattle.bufr_expand.specs.Trees.{nodes_of};
 
 use crate::expand::expand;
-use crate::limits::MOST_LEVELS;
+use crate::limits::{MOST_REPLICATION_LEVELS, MOST_SEQUENCE_LEVELS};
 use crate::node::{Node, TemplateFault};
-use bufr_answers::{Failure, OutOfMemory};
+use bufr_base::{Failure, OutOfMemory};
 use bufr_tables::{Fxy, Tables};
 use std::alloc::Global;
 use std::marker::Model;
 use std::rc::Rc;
 
-/// The expansion of a list of descriptors. Contracts see it as a tree. It keeps how many of its
-/// nodes are replications, so that a walk takes room for all levels with no look at the nodes.
+/// A template: a list of descriptors, expanded. Contracts see a tree; `levels` counts its
+/// replications.
 #[derive(Debug, Drop)]
 pub struct Template {
     pub(crate) nodes: Rc<Vec<Node>>,
@@ -39,7 +39,7 @@ impl Model for Template {
 }
 
 impl Template {
-    /// The template of a list of descriptors, or its first fault in depth-first order, X1 to X9.
+    /// Expands a list, or returns its first fault in depth-first order.
     pub fn build(
         alloc: Global,
         tables: &Tables,
@@ -48,7 +48,13 @@ impl Template {
         ensures { Gives (λ t. t) result (template tables.now list.now) }
     {
         let mut nodes = Vec::new(alloc);
-        expand(tables, MOST_LEVELS, MOST_LEVELS, list, &mut nodes)?;
+        expand(
+            tables,
+            MOST_SEQUENCE_LEVELS,
+            MOST_REPLICATION_LEVELS,
+            list,
+            &mut nodes,
+        )?;
         let levels = nodes
             .iter()
             .filter(|node| matches!(node, Node::Repeated(_, _) | Node::Delayed(_, _, _)))
@@ -60,8 +66,7 @@ impl Template {
         })
     }
 
-    /// The same template once more: its nodes are shared, not copied. `OutOfMemory` where a template
-    /// is shared more often than can be counted.
+    /// Shares the nodes. `OutOfMemory` comes if the count of shares overflows.
     pub fn share(&self) -> Result<Template, OutOfMemory>
         ensures { IfOk result (λ t. t ≡ self.now) }
     {
@@ -72,7 +77,7 @@ impl Template {
         })
     }
 
-    /// How many nodes it has. Those of a replication's body count once.
+    /// Returns the number of nodes; those of a body count once.
     pub fn nodes(&self) -> usize
         ensures { result ≡ length (nodes_of self.now) }
     {

@@ -1,4 +1,4 @@
-//! Steps through a template.
+//! Walks through a template, field by field.
 
 ghost use Rattle.std.specs.Prelude.{◌≡◌, ◌≤◌, ◌+◌, ◌-◌, min, length};
 ghost use Rattle.std.specs.Vec.{vec_capacity};
@@ -13,36 +13,34 @@ use crate::operators::{Operators, Spec, untouched};
 use crate::run::{Run, turns_run};
 use crate::standing::{Asked, Open, State};
 use crate::template::Template;
-use bufr_answers::OutOfMemory;
+use bufr_base::OutOfMemory;
 use bufr_tables::{Element, Fxy, Kind};
 use std::alloc::Global;
 use thiserror::Error;
 
-/// What a walk meets next.
+/// A step of a walk.
 #[derive(Clone, Copy, Debug, PartialEq, Eq)]
 pub enum Step {
-    /// A field of this descriptor and this spec.
+    /// The next field.
     Field(Fxy, Spec),
-    /// A field whose number says how often what follows stands: the walk waits for `Walk::count`.
+    /// A field whose number repeats what follows. The walk waits for `Walk::count`.
     Count(Fxy, Spec),
-    /// No further field.
+    /// The end of the subset.
     End,
 }
 
-/// Why a walk stops.
+/// A fault of a walk.
 #[derive(Clone, Copy, Debug, Error, PartialEq, Eq)]
 pub enum WalkFault {
-    /// An item up to and with the next field, or up to the end, would be more than a message may
-    /// have.
+    /// An item up to the next field, or the end, is above the limit.
     #[error("V6 TooLarge")]
     TooLarge,
-    /// The spec of the next field, of the element of this descriptor, is outside the limits.
+    /// The spec of the next field is outside the limits.
     #[error("V1 EffectiveRange {0}")]
     EffectiveRange(Fxy),
 }
 
-/// A walk through a template: it meets the fields of one subset in their order, given the counts
-/// that were read.
+/// A walk over the fields of one subset, given the numbers of its counts.
 #[derive(Debug, Drop)]
 pub struct Walk<'t> {
     nodes: &'t [Node],
@@ -73,8 +71,7 @@ impl<'t> Walk<'t> {
     ghost use Rattle.bufr_expand.specs.Runs.{PassesRun};
     ghost use Rattle.bufr_expand.specs.declared.standing.State.TheVariants.{Going};
 
-    /// At the front of a template, after so many items of the message. It takes the room for all
-    /// levels.
+    /// Starts a walk after `used` items of the message, with room for all levels.
     pub fn start(alloc: Global, template: &'t Template, used: u64) -> Result<Walk<'t>, OutOfMemory>
         ensures course { IfOk result (λ w. left w ≡ course template.now used) }
         ensures answered { IfOk result (λ w. waits w ≡ false) }
@@ -93,8 +90,7 @@ impl<'t> Walk<'t> {
         })
     }
 
-    /// What comes next: operators, turns and ends of replications are passed. After a refusal or
-    /// `Step::End` it answers the same again.
+    /// Steps to the next field, count or end. After a fault or the end it returns the same again.
     #[tactic(auto, unfolding(crate::specs::Walks::left, crate::specs::Walks::waits, crate::specs::Walks::items_met))]
     pub fn next(&mut self) -> Result<Step, WalkFault>
         requires { waits self.old ≡ false }
@@ -113,7 +109,7 @@ impl<'t> Walk<'t> {
         }
     }
 
-    /// The number of the count that was met.
+    /// Takes the number for the count that the walk waits for.
     pub fn count(&mut self, n: u64)
         requires asked { waits self.old ≡ true }
         requires fits { IsBelowCount (left self.old) n }
@@ -127,10 +123,8 @@ impl<'t> Walk<'t> {
         }
     }
 
-    /// Passes all turns that are left of a replication at once, where the next one of them is what
-    /// comes next, each has the same fields whatever the data are, and these have at most so many
-    /// bits in all. It answers how many fields, items and bits these turns have; else the walk stays
-    /// where it is.
+    /// Passes all turns left of a replication, if they have equal fields whatever the data are, in
+    /// at most `most` bits.
     pub fn pass_turns(&mut self, most: u128) -> Option<Run>
         requires { waits self.old ≡ false }
         ensures passed { IfSome result (λ run. PassesRun self.old run self.new) }
@@ -157,7 +151,7 @@ impl<'t> Walk<'t> {
         Some(run)
     }
 
-    /// The items of the message by now: what a refused step met counts too.
+    /// Returns the items of the message met.
     #[tactic(auto, unfolding(crate::specs::Walks::items_met))]
     pub fn items(&self) -> u64
         ensures { result ≡ items_met self.now }
@@ -166,8 +160,7 @@ impl<'t> Walk<'t> {
         met
     }
 
-    /// Whether no field that is left is asked for, so far as the nodes ahead tell: no replication is
-    /// open, and none of them is such a field. No memory is taken.
+    /// Returns true if the nodes ahead show that no chosen field is left.
     pub fn tells_no_more<A: Asks>(&self) -> bool
         ensures { OnTrue result (TellsNone A.is_asked (left self.now)) }
     {
@@ -185,7 +178,7 @@ impl<'t> Walk<'t> {
         }
     }
 
-    /// Visits the node at the place.
+    /// Visits the next node.
     fn visit(&mut self) -> Option<Result<Step, WalkFault>>
         requires goes { self.old.state ≡ Going }
         requires more { self.old.place < self.old.stop }
@@ -220,7 +213,7 @@ impl<'t> Walk<'t> {
         }
     }
 
-    /// Ends a turn: goes on with the next one, or with the nodes behind the replication.
+    /// Ends a turn: begins the next one, or leaves the replication.
     fn turn(&mut self) -> Option<Result<Step, WalkFault>>
         requires goes { self.old.state ≡ Going }
         requires passed { self.old.stop ≤ self.old.place }
@@ -253,7 +246,6 @@ impl<'t> Walk<'t> {
         None
     }
 
-    /// Stops at a fault.
     #[tactic(auto, unfolding(crate::specs::Walks::left, crate::specs::Walks::waits, crate::specs::Walks::items_met))]
     fn refuse(&mut self, fault: WalkFault)
         requires goes { self.old.state ≡ Going }
@@ -264,7 +256,6 @@ impl<'t> Walk<'t> {
         self.state = State::Stopped(fault);
     }
 
-    /// Meets a field that stands once, if it has a spec.
     #[tactic(auto, unfolding(crate::specs::Walks::left, crate::specs::Walks::waits, crate::specs::Walks::items_met, crate::specs::Walks::steps_left))]
     fn field(&mut self, fxy: Fxy, spec: Option<Spec>) -> Result<Step, WalkFault>
         requires goes { self.old.state ≡ Going }
@@ -293,7 +284,7 @@ impl<'t> Walk<'t> {
         }
     }
 
-    /// Meets the factor of a replication, which has this row and is a count. The body follows it.
+    /// Meets the factor of a delayed replication.
     #[tactic(auto, unfolding(crate::specs::Walks::left, crate::specs::Walks::waits, crate::specs::Walks::items_met, crate::specs::Walks::steps_left))]
     fn ask(&mut self, fxy: Fxy, element: &Element, len: u64) -> Result<Step, WalkFault>
         requires goes { self.old.state ≡ Going }
@@ -324,8 +315,7 @@ impl<'t> Walk<'t> {
         Ok(Step::Count(fxy, spec))
     }
 
-    /// Enters a replication of the nodes in front of the place, so many turns of which are still to
-    /// come.
+    /// Enters a replication; its body ends at the walk's place.
     #[tactic(auto, unfolding(crate::specs::Walks::left, crate::specs::Walks::waits, crate::specs::Walks::items_met, crate::specs::Walks::steps_left))]
     fn enter(&mut self, turns: u64, from: usize)
         requires room { length self.old.loops.items + 1 ≤ in_front self.old.nodes.now from }
@@ -350,7 +340,7 @@ impl<'t> Walk<'t> {
     }
 }
 
-/// Where a body ends, whose nodes stand in front of the end of its list.
+/// Returns the end of a body, at most the end of its list.
 fn body_end(from: usize, stop: usize, len: u64) -> usize
     requires { from ≤ stop }
     ensures { result ≡ from + min len (stop - from) }

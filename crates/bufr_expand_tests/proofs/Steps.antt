@@ -1,5 +1,4 @@
--- What an answer of a step says of the walk, for callers of `Walk::next` that test which number it
--- asks for, as the tests do.
+-- What the step of a walk says of the walk, for callers who test for the number of a count.
 use Rattle.std.proofs.Common.{◌≡◌, ℕ, Some, None, ◌<◌, ◌^◌, Bool, true, false, Result, Ok, sym, ap}
 use Rattle.std.proofs.Common.{◌∙◌, subst}
 use Rattle.std.specs.Bool.{MatchBool}
@@ -14,13 +13,12 @@ use Rattle.bufr_expand.specs.Courses.{Course, ends, stops, asks}
 use Rattle.bufr_expand_tests.specs.StepAnswers.{asked_width}
 use Rattle.bufr_expand.specs.Walks.{left, waits, items_met, Goes, Counted, IsBelowCount}
 
--- a walk that waits for a number of so many bits
+-- a walk that waits for a number of `width` bits
 pub record AsksBits (width : ℕ) (w : Walk) : Type 0 where
   pub waiting : waits w ≡ true
   pub below : (n : ℕ) → n < 2 ^ width → IsBelowCount (left w) n
   pub answered : (n : ℕ) (v : Walk) → Counted (left w) n v → waits v ≡ false
 
--- a walk that has met a count asks for its number
 asks_for : (met d k : ℕ) (s : Spec) (more : ℕ → Course) (w : Walk) → k ≡ s.width
     → left w ≡ asks met d s more → waits w ≡ true → AsksBits k w
 asks_for met d k s more w same l h = record {
@@ -30,7 +28,7 @@ asks_for met d k s more w same l h = record {
   answered = λ n v k. let P : Course → Type 0 = λ c. Counted c n v in (subst P l k).1;
 }
 
--- what a step at a field leaves, by the kind of the field
+-- what a step at a field leaves, by its kind
 abbrev GoesAt : Bool → ℕ → ℕ → Spec → (ℕ → Course) → Result Step WalkFault → Walk → Type 0
 GoesAt counts met d s more answer w =
     MatchBool counts
@@ -39,7 +37,6 @@ GoesAt counts met d s more answer w =
     ((answer ≡ Ok (steps.Field d s)) × (left w ≡ more 0) × (waits w ≡ false)
     × (items_met w ≡ met))
 
--- a width is asked for only at a count
 bits_at : (counts : Bool) (met d : ℕ) (s : Spec) (more : ℕ → Course)
     (answer : Result Step WalkFault) (w : Walk) (k : ℕ) → GoesAt counts met d s more answer w
     → Some k ≡ asked_width answer → AsksBits k w
@@ -49,7 +46,6 @@ bits_at true met d s more answer w k h e =
 bits_at false met d s more answer w k h e =
     let none : Some k ≡ None = e ∙ ap asked_width h.0 in absurd cc
 
--- at a count a width is asked for
 none_at : (counts : Bool) (met d : ℕ) (s : Spec) (more : ℕ → Course)
     (answer : Result Step WalkFault) (w : Walk) → GoesAt counts met d s more answer w
     → None ≡ asked_width answer → waits w ≡ false
@@ -57,7 +53,6 @@ none_at true met d s more answer w h e =
     let width : None ≡ Some s.width = e ∙ ap asked_width h.0 in absurd cc
 none_at false met d s more answer w h e = h.2
 
--- a width is asked for where the walk waits
 pub asks_bits : (c : Course) (answer : Result Step WalkFault) (w : Walk) (k : ℕ) → Goes c answer w
     → Some k ≡ asked_width answer → AsksBits k w
 asks_bits (ends n) answer w k h e =
@@ -67,7 +62,6 @@ asks_bits (stops n fault) answer w k h e =
 asks_bits (asks met d s more) answer w k h e =
     bits_at (same_kind s.kind kinds.Count) met d s more answer w k h e
 
--- and none where it does not
 pub asks_none : (c : Course) (answer : Result Step WalkFault) (w : Walk) → Goes c answer w
     → None ≡ asked_width answer → waits w ≡ false
 asks_none (ends n) answer w h e = h.2

@@ -1,4 +1,4 @@
-//! Tests of the public calls of bufr_expand. It has tests only.
+//! Tests of the public calls of bufr_expand.
 #![tactic(auto)]
 
 #[cfg(test)]

@@ -1,4 +1,4 @@
-//! Templates and walks, row by row of the description, and tables that are the same.
+//! Tests of templates, walks and tables.
 
 mod runs;
 mod samples;
@@ -9,8 +9,7 @@ mod walks;
 use std::fmt::Debug;
 use std::process::Abort;
 
-/// Stops the test where the two differ. It is a function, since a comparison written out in a test
-/// makes the proof of that test more than twice as long.
+/// Stops the test if the two differ. Written out in each test, it would double the proof.
 fn same<T: PartialEq + Debug + Drop>(rt: &impl Abort, found: T, wanted: T) {
     assert_eq!(rt; found, wanted);
 }

@@ -1,7 +1,7 @@
--- What opens the definitions on literals: for the worked examples.
+-- Unfolds definitions on literals, for worked values.
 use Rattle.std.specs.Fmt.{digits}
 
--- opens the definitions on decimals
+-- unfolds the definitions of decimals
 unfoldable pub decimals_on_literals : Unit {0}
 unfolding digits
 decimals_on_literals = tt

@@ -1,6 +1,5 @@
--- Fields that a course asks for in turn are those with which a subset can begin, as the template's
--- tree tells of them: for the first refusals of data (`read_refusals_follow_the_tree`,
--- `write_refusals_follow_the_tree`) and of listings above.
+-- Fields that a course asks for in turn can begin a subset by the template's tree, and the other
+-- way round: for the first refusals of data and of listings.
 use Rattle.std.proofs.Common.{◌≡◌, ℕ, ◌+◌, ◌≤◌, List, [], ◌∷◌, ◌++◌, refl, sym, ap, subst, ◌∙◌}
 use Rattle.std.proofs.Common.{◌⊎◌, inl, inr}
 use Rattle.std.specs.Prelude.{map, ◌↔◌}
@@ -22,40 +21,40 @@ use Rattle.bufr_fields.specs.Asked.{Passes, Begin}
 
 -- ---- what bufr_expand says of courses and trees
 
--- what the lower layer says of courses and unrollings
+-- each course that allows fields is an unrolling (a law of bufr_expand)
 abbrev pub AreUnrolled : Type 0
 AreUnrolled = (tree : Tree) (used : ℕ) (fields : List Told) (n : ℕ) → used ≤ most_items
     → Allows (course tree used) fields n → Unrolls tree used fields n
 
--- what the lower layer says of unrollings: the course allows them
+-- each unrolling is one that the course allows (a law of bufr_expand)
 abbrev pub AreAllowed : Type 0
 AreAllowed = (tree : Tree) (used : ℕ) (fields : List Told) (n : ℕ) → Unrolls tree used fields n
     → Allows (course tree used) fields n
 
--- what the lower layer says of what comes next
+-- the field that the course asks for next comes next in the tree (a law of bufr_expand)
 abbrev pub IsAskedNext : Type 0
 IsAskedNext = (t : Tree) (used : ℕ) (fields : List Told) (met d : ℕ) (spec : Spec)
     → used ≤ most_items → AsksAfter (course t used) fields met d spec
     ↔ BeginsWithin t used fields (wants d spec) met
 
--- that the course stops at an element is that it comes next and has no spec
+-- the course stops at an element exactly if it comes next and has no spec (a law of bufr_expand)
 abbrev pub IsLackingNext : Type 0
 IsLackingNext = (t : Tree) (used : ℕ) (fields : List Told) (met d : ℕ) → used ≤ most_items
     → After (course t used) fields (stops met (walks.EffectiveRange d))
     ↔ BeginsWithin t used fields (lacks d) met
 
--- that the course is too large is that an item is past the limit
+-- the course is too large exactly if an item is above the limit (a law of bufr_expand)
 abbrev pub IsTooLargeNext : Type 0
 IsTooLargeNext = (t : Tree) (used : ℕ) (fields : List Told) (later : Course) → used ≤ most_items
     → After (course t used) fields later → (later ≡ stops most_items walks.TooLarge)
     ↔ PassesLimit t used fields
 
--- whatever the course is, some items are met
+-- every course meets a number of items (a law of bufr_expand)
 abbrev pub IsOnward : Type 0
 IsOnward = (t : Tree) (used : ℕ) (fields : List Told) (later : Course) → used ≤ most_items
     → After (course t used) fields later → (n : ℕ) × MeetsItems t fields n
 
--- the laws of the lower layer that these proofs cite
+-- the laws of bufr_expand that these proofs cite
 pub record Laws : Type 0 where
   pub unrolled : AreUnrolled
   pub allowed : AreAllowed
@@ -66,11 +65,11 @@ pub record Laws : Type 0 where
 
 -- ---- fields that a course asks for in turn
 
--- each raw value has its spec's form
+-- each raw value fits its spec
 abbrev pub Formed : List Field → Type 0
 Formed fields = AllByRecursion (λ f. HasForm f.spec f.raw) fields
 
--- fields that pass are those after which the course goes on, each of its spec's form
+-- `Passes` is `After` with raw values that fit
 pub passes_after : (c : Course) (fields : List Field) (next : Course) → Passes c fields next
     → After c (map told_of fields) next × Formed fields
 unfolding After
@@ -81,7 +80,7 @@ passes_after (asks met d spec more) (f ∷ fields) next h =
     let others = passes_after (more (number_of f.raw)) fields next h.1 in
     ((h.0.0, h.0.1, others.0), (subst (λ (s : Spec). HasForm s f.raw) (sym h.0.1) h.0.2, others.1))
 
--- and the other way round
+-- `After` with raw values that fit is `Passes`
 pub after_passes : (c : Course) (fields : List Field) (next : Course)
     → After c (map told_of fields) next → Formed fields → Passes c fields next
 unfolding After
@@ -102,7 +101,6 @@ one_left (ends n) (f ∷ fields) a b h k = absurd h
 one_left (stops n w) (f ∷ fields) a b h k = absurd h
 one_left (asks met d spec more) (f ∷ fields) a b h k = one_left (more f.number) fields a b h.2 k.2
 
--- the course before a field that passes asks for it
 split_asks : (c : Course) (before others : List Field) (f : Field) (next : Course)
     → After c (map told_of (before ++ f ∷ others)) next
     → (met : ℕ) × AsksAfter c (map told_of before) met f.fxy f.spec
@@ -117,7 +115,6 @@ split_asks (asks met d spec more) (g ∷ before) others f next h =
     let r = split_asks (more (number_of g.raw)) before others f next h.2 in
     (r.0, (r.1.0, (h.0, h.1, r.1.1)))
 
--- and what is left after it
 after_one : (c : Course) (before : List Field) (f : Field) (met : ℕ) (more : ℕ → Course)
     → After c (map told_of before) (asks met f.fxy f.spec more)
     → After c (map told_of (before ++ f ∷ [])) (more (number_of f.raw))
@@ -129,7 +126,6 @@ after_one (stops n w) (g ∷ before) f met more h = absurd h
 after_one (asks k d spec on) (g ∷ before) f met more h =
     (h.0, h.1, after_one (on (number_of g.raw)) before f met more h.2)
 
--- a list is empty or has a last element
 last_of : (fields : List Field)
     → (fields ≡ []) ⊎ ((before : List Field) × (f : Field) × (fields ≡ before ++ f ∷ []))
 last_of [] = inl refl
@@ -154,14 +150,13 @@ begun laws tree used fields next le h =
       formed = a.1;
     }
 
--- no field leaves the course itself
 nothing_before : (c : Course) (fields : List Field) → fields ≡ []
     → (next : Course) × After c (map told_of fields) next
 unfolding After
 nothing_before c fields e =
     (c, subst (λ (fs : List Field). After c (map told_of fs) c) (sym e) refl)
 
--- fields with which a subset can begin leave some course
+-- fields that can begin a subset leave a course
 pub begun_after : Laws → (tree : Tree) (used : ℕ) (fields : List Field) → used ≤ most_items
     → Begin tree used fields → (next : Course) × After (course tree used) (map told_of fields) next
 begun_after laws tree used fields le b =
@@ -181,7 +176,6 @@ begun_after laws tree used fields le b =
 
 -- ---- no room
 
--- a course that is too large has no next field within the limit
 next_anyway : Laws → (tree : Tree) (used k n : ℕ) (fields : List Told) (next : Next)
     → used ≤ most_items → used + k ≤ most_items → SubsetBegins tree fields next k
     → After (course tree used) fields (stops n walks.TooLarge) → ⊥
@@ -196,7 +190,6 @@ next_anyway laws tree used k n fields (lacks d) le room begins stopped =
     one_left (course tree used) fields _ _ stopped r in
     cc
 
--- nor an end within the limit
 end_anyway : Laws → (tree : Tree) (used k n : ℕ) (fields : List Told) (r : Operators)
     → used + k ≤ most_items → SubsetUnrolls tree fields r k
     → After (course tree used) fields (stops n walks.TooLarge) → ⊥
@@ -206,7 +199,6 @@ end_anyway laws tree used k n fields r room unrolled stopped =
     one_left (course tree used) fields _ _ stopped a in
     cc
 
--- nor either of them
 anyway : Laws → (tree : Tree) (used k n : ℕ) (fields : List Told) → used ≤ most_items
     → used + k ≤ most_items → MeetsItems tree fields k
     → After (course tree used) fields (stops n walks.TooLarge) → ⊥
@@ -215,7 +207,7 @@ anyway laws tree used k n fields le room (inl next) stopped =
 anyway laws tree used k n fields le room (inr end) stopped =
     end_anyway laws tree used k n fields end.0 room end.1 stopped
 
--- so an item is past the limit
+-- a course that is too large meets an item above the limit
 pub limit_passed : Laws → (tree : Tree) (used n : ℕ) (fields : List Told) → used ≤ most_items
     → After (course tree used) fields (stops n walks.TooLarge) → PassesLimit tree used fields
 limit_passed laws tree used n fields le stopped =

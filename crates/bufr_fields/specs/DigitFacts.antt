@@ -1,5 +1,4 @@
--- A number's digits are its front and its last ones: for the text of a `Decimal`, and for whoever
--- reads one.
+-- The digits of a number are its front and its last ones: for all who print or read decimals.
 use Rattle.std.proofs.Common.{◌≡◌, ℕ, zero, suc, ◌+◌, ◌-◌, ◌/◌, ◌%◌, ◌^◌, ◌<◌, List, [], ◌∷◌, ◌++◌}
 use Rattle.std.proofs.Common.{length, replicate, refl, sym, ap, ◌∙◌, arith, append_assoc}
 use Rattle.std.proofs.Common.{append-nil, length-append, inl, inr, add-one}
@@ -14,7 +13,6 @@ use Rattle.std.proofs.lemmas.Fmt.{decimal_digit, decimal_step_wide}
 use Rattle.bufr_fields.specs.Digits.{last_digits}
 use Rattle.bufr_fields.specs.Values.{pointed, sign_of, size_of, digits_by, text_of}
 
--- one place more is a division by ten first
 div-pow_suc : (n s : ℕ) → n / 10 ^ suc s ≡ n / 10 / 10 ^ s
 div-pow_suc n s =
     ap (λ k. n / k) (let e = pow-suc 10 s in omega (arith, e))
@@ -26,16 +24,14 @@ pub last_digits-push : (s n : ℕ)
 last_digits-push zero n = ap (λ k. (48 + k % 10) ∷ []) (omega arith)
 last_digits-push (suc s) n = rw (div-pow_suc n s, last_digits-push s n) refl
 
--- they are so many
 pub length-last_digits : (s n : ℕ) → length (last_digits s n) ≡ s
 length-last_digits zero n = refl
 length-last_digits (suc s) n = ap suc (length-last_digits s n)
 
--- digits with zeros before them, more than so many in all
+-- digits with zeros before them, at least s + 1
 abbrev filled : ℕ → ℕ → List ℕ
 filled s n = replicate (suc s - length (decimal n)) 48 ++ decimal n
 
--- a number has a digit
 some_digits : (n : ℕ) → n < 10 ^ 64 → 0 < length (decimal n)
 some_digits n small =
     elim (cases_lt n 10) [
@@ -45,7 +41,6 @@ some_digits n small =
           (omega (arith, length-append (decimal (n / 10)) ((48 + n % 10) ∷ [])))
     ]
 
--- the digits filled with zeros are those of the tenth and one more
 filled-push : (s n : ℕ) → n < 10 ^ 64 → filled (suc s) n ≡ filled s (n / 10) ++ (48 + n % 10) ∷ []
 filled-push s n small =
     elim (cases_lt n 10) [
@@ -70,7 +65,7 @@ filled-push s n small =
           ((48 + n % 10) ∷ []))
     ]
 
--- they are the digits of the front, and then the last ones
+-- filled digits are those of the front, and then the last ones
 pub filled_is : (s n : ℕ) → n < 10 ^ 64 → filled s n ≡ decimal (n / 10 ^ s) ++ last_digits s n
 filled_is zero n small =
     let some = some_digits n small in
@@ -83,7 +78,7 @@ filled_is (suc s) n small =
     ∙ append_assoc (decimal (n / 10 / 10 ^ s)) (last_digits s (n / 10)) ((48 + n % 10) ∷ [])
     ∙ (λ i. decimal (sym (div-pow_suc n s) i) ++ sym (last_digits-push s n) i)
 
--- so a point stands between these two
+-- the point comes between the front and the last digits
 pub pointed_is : (s n : ℕ) → n < 10 ^ 64
     → pointed (suc s) (filled (suc s) n) ≡ decimal (n / 10 ^ suc s) ++ 46 ∷ last_digits (suc s) n
 pointed_is s n small =
@@ -100,12 +95,10 @@ pointed_is s n small =
 
 -- ---- the text of a value, by its sign, its number and its places
 
--- the size of a whole number is its absolute value
 size_is : (z : ℤ) → size_of z ≡ unsigned_abs z
 size_is (pos n) = refl
 size_is (negsuc n) = refl
 
--- the digits of a number with a scale above 0
 pub pointed_digits : (scale : ℤ) (number : ℕ) → lt_z (pos 0) scale ≡ true → number < 10 ^ 64
     → decimal (number / 10 ^ unsigned_abs scale) ++ 46 ∷ last_digits (unsigned_abs scale) number
     ≡ digits_by scale number
@@ -113,11 +106,10 @@ pointed_digits (pos zero) number above small = absurd cc
 pointed_digits (pos (suc s)) number above small = sym (pointed_is s number small)
 pointed_digits (negsuc s) number above small = absurd cc
 
--- a scale above 0 is told above 0
 pub not_below : (s : ℕ) → lt_z (pos 0) (pos (suc s)) ≡ false → ⊥
 not_below s above = grind (arith, ints)
 
--- the text of a decimal, its sign and then its digits, behind what a text has already
+-- the text of a decimal appended to a text
 pub text_behind : (text mid new sign digits : List ℕ) (units scale : ℤ) (number : ℕ)
     → mid ≡ text ++ sign → sign ≡ sign_of units → number ≡ unsigned_abs units
     → digits ≡ digits_by scale number → new ≡ mid ++ digits

@@ -1,9 +1,9 @@
--- What is counted fits the template: its fields are an unrolling of the tree, and each raw value
--- has its spec's form. For the law `counted_subsets_fit`, and the laws of data above.
+-- The counted fields are those that fit the template: for `counted_subsets_fit` and the laws of
+-- data.
 use Rattle.std.proofs.Common.{◌≡◌, ℕ, ◌+◌, ◌≤◌, Bool, true, false, cond, List, [], ◌∷◌, Result, Ok, Err}
 use Rattle.std.proofs.Common.{refl, sym, ap, subst, arith}
 use Rattle.std.specs.Prelude.{map}
-use Rattle.bufr_answers.specs.AnswerLaws.{bind_ok, ok_is}
+use Rattle.bufr_base.specs.AnswerLaws.{bind_ok, ok_is}
 use Rattle.bufr_expand.specs.declared.operators.Spec.{Spec}
 use Rattle.bufr_expand.specs.Courses.{Course, ends, stops, asks, course}
 use Rattle.bufr_expand.specs.Trees.{Tree}
@@ -11,21 +11,19 @@ use Rattle.bufr_expand.specs.Unrolling.{After, Allows}
 use Rattle.bufr_expand.specs.Limits.{most_items}
 use Rattle.bufr_fields.specs.declared.field.Field.{Field}
 use Rattle.bufr_fields.specs.declared.field.Subset.{Subset}
-use Rattle.bufr_fields.specs.declared.fault.WriteFault.{WriteFault}
+use Rattle.bufr_fields.specs.declared.fault.MisfitFault.{MisfitFault}
 use Rattle.bufr_fields.specs.Forms.{number_of, matches_spec, items_of, items_of_all}
 use Rattle.bufr_fields.specs.Fits.{HasForm, told_of, FitsWithin, AllFitWithin}
 use Rattle.bufr_fields.specs.FormLaws.{asked_is, asked_passes}
 use Rattle.bufr_fields.specs.CourseLaws.{AreUnrolled, AreAllowed, Formed}
 
--- what is answered past a test has passed it
-pub guard_ok : (b : Bool) (x : Result ℕ WriteFault) (f : WriteFault) (n : ℕ)
+pub guard_ok : (b : Bool) (x : Result ℕ MisfitFault) (f : MisfitFault) (n : ℕ)
     → cond b x (Err f) ≡ Ok n → (b ≡ true) × (x ≡ Ok n)
 guard_ok true x f n e = (refl, e)
 guard_ok false x f n e = absurd cc
 
 -- ---- the fields that a course allows
 
--- fields that are counted are allowed by the course, each of its form
 counted_allowed : (j i : ℕ) (c : Course) (fields : List Field) (n : ℕ)
     → items_of j i c fields ≡ Ok n → Allows c (map told_of fields) n × Formed fields
 unfolding items_of After
@@ -39,7 +37,6 @@ counted_allowed j i (asks met d spec more) (f ∷ fields) n e =
     let others = counted_allowed j (i + 1) (more (number_of f.raw)) fields n g.1 in
     ((is.0, is.1, others.0), (subst (λ (s : Spec). HasForm s f.raw) (sym is.1) is.2, others.1))
 
--- and such fields are counted
 allowed_counted : (j i : ℕ) (c : Course) (fields : List Field) (n : ℕ)
     → Allows c (map told_of fields) n → Formed fields → items_of j i c fields ≡ Ok n
 unfolding items_of After
@@ -64,7 +61,7 @@ counted_fit law tree j used n fields le e =
     let u = law tree used (map told_of fields) n le a.0 in
     (u.1, record { operators = u.0; unrolled = u.2; formed = a.1 }, u.3, u.4)
 
--- and fields that fit are counted
+-- fields that fit are counted
 pub fitting_counted : AreAllowed → (tree : Tree) (j used n : ℕ) (fields : List Field)
     → FitsWithin tree used fields n → items_of j 1 (course tree used) fields ≡ Ok n
 fitting_counted law tree j used n fields h =
@@ -94,7 +91,7 @@ all_counted_fit law tree j used n (s ∷ subsets) le e =
       others.3,
     )
 
--- and subsets that fit are counted
+-- subsets that fit are counted
 pub all_fitting_counted : AreAllowed → (tree : Tree) (j used n : ℕ) (subsets : List Subset)
     → AllFitWithin tree used subsets n → items_of_all (course tree) j used subsets ≡ Ok n
 unfolding items_of_all

@@ -2,6 +2,8 @@ pub mod Forms
 pub mod Fits
 pub mod Asked
 pub mod Values
+pub mod DecimalTexts
+pub mod DecimalTextLaws
 pub mod Digits
 pub mod DigitFacts
 pub mod Laws

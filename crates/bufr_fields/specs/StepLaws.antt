@@ -1,5 +1,4 @@
--- One step of a walk and what its course asks for there: for whoever reads or writes fields along a
--- walk, as `read_plain`, `write_plain` and the reader of listings above.
+-- A step of a walk and what its course asks for: for all who read or write fields along a walk.
 use Rattle.std.proofs.Common.{◌≡◌, ℕ, ◌<◌, ◌≤◌, ◌^◌, Bool, true, false, Ok, Err, MatchBool, ◌⊎◌}
 use Rattle.std.proofs.Common.{refl, sym, ap, subst, ◌∙◌, inl, inr, arith}
 use Rattle.bufr_tables.specs.declared.element.Kind.TheVariants as kinds
@@ -40,16 +39,14 @@ pub record AsksCount (c : Course) (d : ℕ) (spec : Spec) (w : Walk) : Type 0 wh
   pub waiting : left w ≡ asks met d spec more
   pub asked : waits w ≡ true
 
--- a choice by a test, taken apart
 match_bool : (b : Bool) (P Q : Type 0) → MatchBool b P Q → ((b ≡ true) × P) ⊎ ((b ≡ false) × Q)
 match_bool true P Q h = inl (refl, h)
 match_bool false P Q h = inr (refl, h)
 
--- the same descriptor and the same spec
 told_same : (b d : ℕ) (s spec : Spec) → b ≡ d → s ≡ spec → ◌≡◌ {A = ℕ × Spec} (b, s) (d, spec)
 told_same b d s spec same_d same_s = λ i. (same_d i, same_s i)
 
--- a walk that tells a field: its course asks for it
+-- a walk that returns a field: its course asks for it
 pub asks_field : (c : Course) (d : ℕ) (spec : Spec) (w : Walk)
     → Goes c (Ok (steps.Field d spec)) w → AsksField c d spec w
 asks_field (ends n) d spec w g = absurd (let e = g.0 in cc)
@@ -70,7 +67,7 @@ asks_field (asks met b s more) d spec w g =
           })
     ]
 
--- a walk that tells a count: its course asks for it
+-- a walk that returns a count: its course asks for it
 pub asks_count : (c : Course) (d : ℕ) (spec : Spec) (w : Walk)
     → Goes c (Ok (steps.Count d spec)) w → AsksCount c d spec w
 asks_count (ends n) d spec w g = absurd (let e = g.0 in cc)
@@ -90,7 +87,7 @@ asks_count (asks met b s more) d spec w g =
       | inr h ↦ absurd (let e = h.1.0 in cc)
     ]
 
--- a walk that tells the end: its course ends
+-- a walk that returns the end: its course ends
 pub ends_there : (c : Course) (w : Walk) → Goes c (Ok steps.End) w → c ≡ ends (items_met w)
 ends_there (ends n) w g = ap ends (sym g.3)
 ends_there (stops n fault) w g = absurd (let e = g.0 in cc)
@@ -114,7 +111,7 @@ stops_there (asks met b s more) fault w g =
 
 -- ---- steady courses
 
--- a course that goes on steadily, at the field that it asks for
+-- a steady course at the field that it asks for
 pub steady_step : (used met d : ℕ) (spec : Spec) (more : ℕ → Course)
     → IsSteady used (asks met d spec more) → (used < met) × (met ≤ most_items)
     × (same_kind spec.kind kinds.Count ≡ false → (n : ℕ) → more n ≡ more 0)
@@ -122,7 +119,7 @@ pub steady_step : (used met d : ℕ) (spec : Spec) (more : ℕ → Course)
 unfolding IsSteady
 steady_step used met d spec more s = s
 
--- after a field that is no count the walk goes on, whatever its number is
+-- after a field the walk goes on, whatever its number is
 pub field_goes_on : (old new : Walk) (d : ℕ) (spec : Spec) → IsReady old
     → Goes (left old) (Ok (steps.Field d spec)) new → WalkAdvances old new
 field_goes_on old new d spec ready g =
@@ -136,7 +133,7 @@ field_goes_on old new d spec ready g =
       within = omega (arith, s.1);
     }
 
--- a walk goes on behind a count
+-- after a count the walk goes on
 pub count_goes_on : (old mid new : Walk) (d : ℕ) (spec : Spec) (n : ℕ) → IsReady old
     → Goes (left old) (Ok (steps.Count d spec)) mid → Counted (left mid) n new
     → WalkAdvances old new
@@ -154,7 +151,6 @@ count_goes_on old mid new d spec n ready g counted =
 
 -- ---- counts
 
--- a count of the form is below 2 to the power of its width
 count_form : (spec : Spec) (raw : Raw) → same_kind spec.kind kinds.Count ≡ true → HasForm spec raw
     → number_of raw < 2 ^ spec.width
 count_form spec raw count (of_number n other few below) = below
@@ -162,7 +158,7 @@ count_form spec raw count (of_text octets text size all) =
     let both : kinds.Text ≡ kinds.Count = sym text ∙ same_kind_is spec.kind kinds.Count count in
     absurd cc
 
--- so it may be told to the walk
+-- a count that fits may be given to the walk
 pub count_fits : (old mid : Walk) (d : ℕ) (spec : Spec) (raw : Raw)
     → Goes (left old) (Ok (steps.Count d spec)) mid → has_form_by spec.kind spec.width raw ≡ true
     → IsBelowCount (left mid) (number_of raw)
@@ -172,38 +168,34 @@ count_fits old mid d spec raw g form =
 
 -- ---- what a step asks for, be it a count or another field
 
--- a walk that stands at the start of a template's course can go on
 pub ready_there : (w : Walk) (tree : Tree) (used : ℕ) → waits w ≡ false → items_met w ≡ used
     → left w ≡ course tree used → IsReady w
 ready_there w tree used answered items there =
     record { answered = answered; steady = rw (items, there) (course_steady tree used) }
 
--- the course asks for this field
+-- the course asks for this field or count
 pub record Asks (c : Course) (d : ℕ) (spec : Spec) : Type 0 where
   pub met : ℕ
   pub more : ℕ → Course
   pub is : c ≡ asks met d spec more
 
--- so it does where the walk tells a field
 pub field_asked : (c : Course) (d : ℕ) (spec : Spec) (w : Walk)
     → Goes c (Ok (steps.Field d spec)) w → Asks c d spec
 field_asked c d spec w g =
     let a = asks_field c d spec w g in record { met = a.met; more = a.more; is = a.is }
 
--- and where it tells a count
 pub count_asked : (c : Course) (d : ℕ) (spec : Spec) (w : Walk)
     → Goes c (Ok (steps.Count d spec)) w → Asks c d spec
 count_asked c d spec w g =
     let a = asks_count c d spec w g in record { met = a.met; more = a.more; is = a.is }
 
--- the course asks for this field, and goes on like this behind its number
+-- the course asks for this field or count, and `later` is left after its number
 pub record GoesOn (c : Course) (d : ℕ) (spec : Spec) (number : ℕ) (later : Course) : Type 0 where
   pub met : ℕ
   pub more : ℕ → Course
   pub is : c ≡ asks met d spec more
   pub after : more number ≡ later
 
--- so it does where the walk tells a field, whatever its number is
 pub field_goes : (old new : Walk) (d : ℕ) (spec : Spec) (number : ℕ) → IsReady old
     → Goes (left old) (Ok (steps.Field d spec)) new → GoesOn (left old) d spec number (left new)
 field_goes old new d spec number ready g =
@@ -212,7 +204,6 @@ field_goes old new d spec number ready g =
     (subst (λ (x : Course). IsSteady (items_met old) x) a.is ready.steady) in
     record { met = a.met; more = a.more; is = a.is; after = s.2 a.kind number ∙ sym a.after }
 
--- and where it tells a count and is told its number
 pub count_goes : (old mid new : Walk) (d : ℕ) (spec : Spec) (number : ℕ)
     → Goes (left old) (Ok (steps.Count d spec)) mid → Counted (left mid) number new
     → GoesOn (left old) d spec number (left new)

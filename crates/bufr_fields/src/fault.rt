@@ -1,4 +1,4 @@
-//! Why data can't be read or written.
+//! Faults of data. Subsets and fields count from 1.
 
 ghost use Rattle.std.specs.Prelude.{Some};
 ghost use Rattle.bufr_fields.specs.Reasons.{read_reason, write_reason};
@@ -7,66 +7,65 @@ use bufr_tables::Fxy;
 use std::error::Error;
 use std::fmt;
 
-/// The first fault of data that are read.
+/// A fault of data that are read, the first.
 #[derive(Clone, Copy, Debug, PartialEq, Eq)]
-pub enum ReadFault {
-    /// An element whose scale, reference value or width is outside the limits under the operators
-    /// in force.
+pub enum DataFault {
+    /// The spec of an element is outside the limits.
     EffectiveRange(Fxy),
-    /// The data end within this field of this subset. Both count from 1.
+    /// The data end within this field of this subset.
     DataEnds(u64, u64),
-    /// In compressed data, the values of this factor differ between subsets.
+    /// Compressed subsets differ in this factor.
     UnequalCounts(u64),
-    /// In compressed data, the increment of this subset passes the greatest number of this field.
+    /// A compressed increment of this subset is too large for this field.
     IncrementRange(u64, u64),
-    /// In compressed data, the texts of this field have more octets than the field.
+    /// The compressed texts are longer than this field.
     CharIncrement(u64),
-    /// The message has more than 16,777,216 items, or compressed data more than 67,108,864 values.
+    /// More than 16,777,216 items, or 67,108,864 compressed values.
     TooLarge,
 }
 
-impl fmt::Display for ReadFault {
+impl fmt::Display for DataFault {
     ghost output = { λ why. Some (read_reason why) };
 
     #[tactic(auto, unfolding(crate::specs::Reasons::read_reason))]
     fn fmt<W: fmt::Write>(&self, f: &mut fmt::Formatter<W>) -> fmt::Result {
         match self {
-            ReadFault::EffectiveRange(fxy) => write!(f, "V1 EffectiveRange {fxy}"),
-            ReadFault::DataEnds(subset, field) => write!(f, "V2 DataEnds {subset} {field}"),
-            ReadFault::UnequalCounts(field) => write!(f, "V3 UnequalCounts {field}"),
-            ReadFault::IncrementRange(subset, field) => {
+            DataFault::EffectiveRange(fxy) => write!(f, "V1 EffectiveRange {fxy}"),
+            DataFault::DataEnds(subset, field) => write!(f, "V2 DataEnds {subset} {field}"),
+            DataFault::UnequalCounts(field) => write!(f, "V3 UnequalCounts {field}"),
+            DataFault::IncrementRange(subset, field) => {
                 write!(f, "V4 IncrementRange {subset} {field}")
             }
-            ReadFault::CharIncrement(field) => write!(f, "V5 CharIncrement {field}"),
-            ReadFault::TooLarge => write!(f, "V6 TooLarge"),
+            DataFault::CharIncrement(field) => write!(f, "V5 CharIncrement {field}"),
+            DataFault::TooLarge => write!(f, "V6 TooLarge"),
         }
     }
 }
 
-impl Error for ReadFault {}
+impl Error for DataFault {}
 
-/// The first fault of subsets that are written.
+/// A fault of subsets that are written, the first.
 #[derive(Clone, Copy, Debug, PartialEq, Eq)]
-pub enum WriteFault {
-    /// This field of this subset is not one that the template allows there. Both count from 1.
+pub enum MisfitFault {
+    /// The template does not allow this field in this subset.
     DoesNotFit(u64, u64),
-    /// At this field the subsets can't stand in one column.
+    /// The subsets can't share a column at this field.
     NotCompressible(u64),
-    /// The message has more than 16,777,216 items, or compressed data more than 67,108,864 values.
+    /// More than 16,777,216 items, or 67,108,864 compressed values.
     TooLarge,
 }
 
-impl fmt::Display for WriteFault {
+impl fmt::Display for MisfitFault {
     ghost output = { λ why. Some (write_reason why) };
 
     #[tactic(auto, unfolding(crate::specs::Reasons::write_reason))]
     fn fmt<W: fmt::Write>(&self, f: &mut fmt::Formatter<W>) -> fmt::Result {
         match self {
-            WriteFault::DoesNotFit(subset, field) => write!(f, "E1 DoesNotFit {subset} {field}"),
-            WriteFault::NotCompressible(field) => write!(f, "E2 NotCompressible {field}"),
-            WriteFault::TooLarge => write!(f, "E3 TooLarge"),
+            MisfitFault::DoesNotFit(subset, field) => write!(f, "E1 DoesNotFit {subset} {field}"),
+            MisfitFault::NotCompressible(field) => write!(f, "E2 NotCompressible {field}"),
+            MisfitFault::TooLarge => write!(f, "E3 TooLarge"),
         }
     }
 }
 
-impl Error for WriteFault {}
+impl Error for MisfitFault {}

@@ -2,14 +2,14 @@
 
 use crate::form::{are_ones, is_below, is_greatest, is_octets, is_same};
 use crate::limits::MOST_DECIMAL_SCALE;
-use bufr_answers::Items;
+use bufr_base::Items;
 use bufr_expand::Spec;
 use bufr_tables::{Fxy, Kind};
 
-/// What stands in the data for a field.
+/// A raw value of a field.
 #[derive(Debug, Drop, PartialEq)]
 pub enum Raw {
-    /// The bits of a number, the most significant first.
+    /// A number.
     Number(u64),
     /// The octets of a text.
     Text(Items<u8>),
@@ -20,7 +20,6 @@ impl Raw {
     ghost use Rattle.bufr_fields.specs.Forms.{has_form_by, number_of};
     ghost use Rattle.bufr_fields.specs.Values.{is_all_ones};
 
-    /// Whether it is what a field of this kind and so many bits holds.
     pub(crate) fn has_form(&self, kind: Kind, width: u32) -> bool
         ensures { result ≡ has_form_by kind width self.now }
     {
@@ -32,7 +31,7 @@ impl Raw {
         }
     }
 
-    /// The number, which is 0 for a text.
+    /// Returns the number, or 0 for a text.
     pub fn number(&self) -> u64
         ensures { result ≡ number_of self.now }
     {
@@ -42,7 +41,6 @@ impl Raw {
         }
     }
 
-    /// Whether all bits are one in a field of so many.
     fn is_all_ones(&self, width: u32) -> bool
         ensures { result ≡ is_all_ones width self.now }
     {
@@ -53,25 +51,25 @@ impl Raw {
     }
 }
 
-/// A field of a subset: its descriptor, how it stands in the data, and what stands there.
+/// A field of a subset.
 #[derive(Debug, Drop, PartialEq)]
 pub struct Field {
     /// The descriptor of its element.
     pub fxy: Fxy,
-    /// How it is coded: kind, scale, reference value and width by the operators in force.
+    /// Its coding, with all operators applied.
     pub spec: Spec,
-    /// What stands in its bits.
+    /// The raw value.
     pub raw: Raw,
 }
 
-/// A field of a subset whose raw value is a number: it takes no memory, and can be copied.
+/// A field with a number, which can be copied.
 #[derive(Clone, Copy, Debug, PartialEq)]
 pub struct NumberField {
     /// The descriptor of its element.
     pub fxy: Fxy,
-    /// How it is coded.
+    /// Its coding.
     pub spec: Spec,
-    /// The number that stands in its bits.
+    /// The raw number.
     pub number: u64,
 }
 
@@ -79,7 +77,7 @@ impl NumberField {
     ghost use Rattle.std.specs.Prelude.{◌≡◌};
     ghost use Rattle.bufr_fields.specs.Values.{as_field, is_missing};
 
-    /// Whether all bits are one, and the width is not 1, as `Field::is_missing` says.
+    /// Returns whether the value is missing, like `Field::is_missing`.
     pub fn is_missing(self) -> bool
         ensures { result ≡ is_missing (as_field self) }
     {
@@ -96,15 +94,14 @@ impl Field {
     ghost use Rattle.bufr_fields.specs.Forms.{matches_spec};
     ghost use Rattle.bufr_fields.specs.Values.{is_missing, value};
 
-    /// Whether it has this descriptor and this spec, and a raw value of its form.
     pub(crate) fn matches_spec(&self, fxy: Fxy, spec: Spec) -> bool
         ensures { result ≡ matches_spec fxy spec self.now }
     {
         self.fxy == fxy && is_same(self.spec, spec) && self.raw.has_form(spec.kind, spec.width)
     }
 
-    /// Whether all bits are one, the width is not 1 and the kind is not `Count`. A raw value that
-    /// has not its spec's form is never missing.
+    /// Returns whether the value is missing: all bits are one, more than one, and the field is no
+    /// count. A raw value that does not fit its spec is never missing.
     pub fn is_missing(&self) -> bool
         ensures { result ≡ is_missing self.now }
     {
@@ -115,9 +112,8 @@ impl Field {
             && !matches!(self.spec.kind, Kind::Count)
     }
 
-    /// The value of a number: raw value and reference value, with the spec's scale. `None` where
-    /// the field is missing, where its kind or its raw value is a text, and where the scale is not
-    /// -600 to 600.
+    /// Returns the raw number plus the reference value, with the spec's scale. `None` if the field
+    /// is missing or a text, or the scale is not -600 to 600.
     pub fn value(&self) -> Option<Decimal>
         ensures { result ≡ value self.now }
     {
@@ -133,19 +129,19 @@ impl Field {
     }
 }
 
-/// The fields of one subset, in the order of the data.
+/// A subset.
 #[derive(Debug, Drop, PartialEq)]
 pub struct Subset {
-    /// The fields, in the order of the data.
+    /// Its fields in the order of the data.
     pub fields: Items<Field>,
 }
 
-/// Units times ten to the power of minus scale.
+/// A decimal: `units` times ten to the power of minus `scale`.
 #[derive(Clone, Copy, Debug, PartialEq, Eq)]
 pub struct Decimal {
     /// The number without its decimal point.
     pub units: i128,
-    /// How many digits stand behind the decimal point; where it is negative, how many zeros follow.
+    /// The number of digits after the point, or minus the number of zeros to append.
     pub scale: i32,
 }
 
@@ -153,7 +149,7 @@ impl Decimal {
     ghost use Rattle.std.specs.Prelude.{◌≡◌};
     ghost use Rattle.bufr_fields.specs.Values.{decimal_within};
 
-    /// So many units at this scale, or `None` where the scale is not -600 to 600.
+    /// Makes a decimal, or `None` if the scale is not -600 to 600.
     pub fn new(units: i128, scale: i32) -> Option<Decimal>
         ensures { result ≡ decimal_within units scale }
     {

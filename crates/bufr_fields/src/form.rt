@@ -1,4 +1,4 @@
-//! Numbers and octets in fields of so many bits, and specs that are the same.
+//! Checks numbers, octets and specs.
 
 ghost use Rattle.std.specs.Prelude.{◌≡◌, ◌+◌, ◌/◌, ◌^◌, ◌==◌, ◌&&◌, length, nat_lt, nat_le};
 ghost use Rattle.std.specs.List.{list_all};
@@ -10,8 +10,8 @@ use crate::limits::MOST_RAW_BITS;
 use bufr_expand::Spec;
 use bufr_tables::Kind;
 
-/// Whether a number stands in so many bits, which are at most 64.
-pub fn is_below(number: u64, width: u32) -> bool
+/// Returns whether a number fits in `width` bits, at most 64.
+pub(crate) fn is_below(number: u64, width: u32) -> bool
     ensures { result ≡ (nat_le width most_raw_bits && nat_lt number (2 ^ width)) }
 {
     if width > MOST_RAW_BITS {
@@ -20,7 +20,7 @@ pub fn is_below(number: u64, width: u32) -> bool
     width == MOST_RAW_BITS || number < 1 << width
 }
 
-/// Whether a number is the greatest that stands in so many bits.
+/// Returns whether a number is the greatest of `width` bits.
 pub fn is_greatest(number: u64, width: u32) -> bool
     ensures { result ≡ (number + 1 == 2 ^ width) }
 {
@@ -34,21 +34,21 @@ pub fn is_greatest(number: u64, width: u32) -> bool
     }
 }
 
-/// Whether there are as many octets as so many bits hold.
-pub fn is_octets(octets: &[u8], width: u32) -> bool
+/// Returns whether there are `width` / 8 octets.
+pub(crate) fn is_octets(octets: &[u8], width: u32) -> bool
     ensures { result ≡ (length octets.now == width / 8 && list_all (λ x. nat_lt x 256) octets.now) }
 {
     octets.len() as u64 == u64::from(width / 8)
 }
 
-/// Whether all octets are 255.
+/// Returns whether all octets are 255.
 pub fn are_ones(octets: &[u8]) -> bool
     ensures { result ≡ list_all (λ x. x == 255) octets.now }
 {
     octets.iter().all(|octet| *octet == 255)
 }
 
-/// Whether two fields stand in the data alike.
+/// Returns whether two specs are equal.
 pub fn is_same(a: Spec, b: Spec) -> bool
     ensures { result ≡ same_spec a b }
 {

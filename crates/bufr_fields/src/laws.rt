@@ -1,13 +1,12 @@
-//! Laws of fields that fit a template.
+//! Laws of fields that fit a template, and of the texts of decimals.
 
+ghost use Rattle.bufr_fields.specs.DecimalTexts.{UnitsOfTexts};
 ghost use Rattle.bufr_fields.specs.Laws.{CountedFit, FittingAreCounted, AllCountedFit};
 ghost use Rattle.bufr_fields.specs.Laws.{AllFittingAreCounted};
 
 use bufr_expand::laws::courses_are_unrollings;
 
-/// The subsets that are counted are those that fit the template: their fields are what its tree
-/// stands for, each raw value has its spec's form, and the items, which are those of the tree, add
-/// up to 16,777,216 at most. No more were met before.
+/// `items_of` counts exactly the subsets that fit the template's tree, within 16,777,216 items.
 pub fn counted_subsets_fit()
     ensures fit { CountedFit }
     ensures counted { FittingAreCounted }
@@ -16,3 +15,8 @@ pub fn counted_subsets_fit()
 {
     courses_are_unrollings();
 }
+
+/// A text and a scale determine the units of a decimal.
+pub fn texts_have_one_decimal()
+    ensures { UnitsOfTexts }
+{}

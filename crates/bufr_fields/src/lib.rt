@@ -1,6 +1,8 @@
-//! Fields and their values, and which of them a template allows.
+//! Fields, their values, and the fields that a template allows.
 #![tactic(auto)]
 
+mod decimals;
+mod digits;
 mod fault;
 mod field;
 mod fit;
@@ -10,7 +12,7 @@ mod limits;
 mod text;
 mod worked_values;
 
-pub use fault::{ReadFault, WriteFault};
+pub use fault::{DataFault, MisfitFault};
 pub use field::{Decimal, Field, NumberField, Raw, Subset};
 pub use fit::fit_fields;
 pub use form::{are_ones, is_greatest, is_same};

@@ -5,7 +5,7 @@ ghost use Rattle.std.specs.Prelude.{IsAscii, OnOk, OnErr, replicate};
 ghost use Rattle.bufr_fields.specs.Values.{sign_of, digits_by, pointed, text_of};
 
 use crate::field::Decimal;
-use bufr_answers::OutOfMemory;
+use bufr_base::OutOfMemory;
 use itoa::Buffer;
 use std::fmt;
 
@@ -13,7 +13,7 @@ impl Decimal {
     ghost use Rattle.std.specs.Prelude.{◌≡◌, ◌++◌, OnOk, OnErr};
     ghost use Rattle.bufr_fields.specs.Values.{text_of};
 
-    /// Adds its text, as it is printed, to octets. Where memory runs out they are as they were.
+    /// Appends the text of the decimal, or nothing if memory runs out.
     pub fn push_text(self, text: &mut Vec<u8>) -> Result<(), OutOfMemory>
         ensures ok { OnOk result (text.new.items ≡ text.old.items ++ text_of self) }
         ensures err { OnErr result (text.new.items ≡ text.old.items) }
@@ -27,8 +27,7 @@ impl Decimal {
     }
 }
 
-/// Its digits, with as many behind a point as its scale says, or with as many zeros as minus its
-/// scale says.
+/// Prints the digits with a point, or with zeros appended for a negative scale.
 impl fmt::Display for Decimal {
     ghost output = { λ d. Some (text_of d) };
 
@@ -42,27 +41,26 @@ impl fmt::Display for Decimal {
     }
 }
 
-/// The digits of a number by its scale, in parts.
+/// A number's printed digits, in parts.
 #[derive(Clone, Copy)]
 struct Parts<'a> {
-    /// Those before the point, or all.
+    /// The digits before the point, or all.
     front: &'a str,
-    /// The point, with a zero before it where no digit is.
+    /// The point, with a zero if no digit is before it.
     point: &'static str,
-    /// How many zeros follow.
+    /// The zeros after it.
     zeros: u32,
-    /// The digits behind these.
+    /// The rest of the digits.
     back: &'a str,
 }
 
-/// `-` before a negative number.
 fn sign(units: i128) -> &'static str
     ensures { result.now ≡ sign_of units }
 {
     if units < 0 { "-" } else { "" }
 }
 
-/// The parts of the digits of a number by a scale.
+/// Splits the digits of a number by its scale.
 fn parts_of<'a>(buffer: &'a mut Buffer, number: u128, scale: i32) -> Parts<'a>
     ensures { result.front.now ++ result.point.now ++ replicate result.zeros 48 ++ result.back.now
         ≡ digits_by scale number }
@@ -80,8 +78,7 @@ fn parts_of<'a>(buffer: &'a mut Buffer, number: u128, scale: i32) -> Parts<'a>
     }
 }
 
-/// The parts of digits with a point before the last so many of them, and zeros before them where
-/// they are too few for one before the point.
+/// Puts a point before the last `places` digits.
 fn pointed<'a>(digits: &'a str, places: u32) -> Parts<'a>
     requires ascii { IsAscii digits.now }
     requires short { length digits.now ≤ 40 }
@@ -106,7 +103,7 @@ fn pointed<'a>(digits: &'a str, places: u32) -> Parts<'a>
     }
 }
 
-/// Adds the text of a decimal, or a part of it where memory runs out.
+/// Appends the text, or a part if memory runs out.
 fn push_decimal(text: &mut Vec<u8>, decimal: Decimal) -> Result<(), OutOfMemory>
     ensures ok { OnOk result (text.new.items ≡ text.old.items ++ text_of decimal) }
     ensures kept { OnErr result (take (length text.old.items) text.new.items ≡ text.old.items) }
@@ -121,7 +118,6 @@ fn push_decimal(text: &mut Vec<u8>, decimal: Decimal) -> Result<(), OutOfMemory>
     Ok(())
 }
 
-/// Adds octets where there are any, or adds nothing where memory runs out.
 fn push_octets(text: &mut Vec<u8>, octets: &[u8]) -> Result<(), OutOfMemory>
     ensures ok { OnOk result (text.new.items ≡ text.old.items ++ octets.now) }
     ensures err { OnErr result (text.new.items ≡ text.old.items) }
@@ -136,7 +132,6 @@ fn push_octets(text: &mut Vec<u8>, octets: &[u8]) -> Result<(), OutOfMemory>
     }
 }
 
-/// Adds so many zeros, or adds nothing where memory runs out.
 fn push_zeros(text: &mut Vec<u8>, zeros: u32) -> Result<(), OutOfMemory>
     ensures ok { OnOk result (text.new.items ≡ text.old.items ++ replicate zeros 48) }
     ensures err { OnErr result (text.new.items ≡ text.old.items) }
@@ -147,7 +142,7 @@ fn push_zeros(text: &mut Vec<u8>, zeros: u32) -> Result<(), OutOfMemory>
     text.resize(text.len() + zeros as usize, b'0')
 }
 
-/// So many zeros.
+/// A printed run of zeros.
 #[derive(Clone, Copy)]
 struct Zeros(u32);
 

@@ -1,20 +1,20 @@
-//! Worked examples of the definitions: values and their texts, forms and missing values by kind, and
-//! the words of refusals.
+//! Worked values of the definitions.
 
 ghost use Rattle.std.specs.Prelude.{◌≡◌, ◌∷◌, ◌-◌, ◌+◌, ◌^◌, [], pos, negsuc, codes, map, Some, None};
 ghost use Rattle.std.specs.Prelude.{true, false, replicate};
 ghost use Rattle.bufr_tables.specs.Descriptors.{descriptor};
+ghost use Rattle.bufr_fields.specs.DecimalTexts.{decimal_of, units_by};
 ghost use Rattle.bufr_fields.specs.Forms.{has_form_by, number_of, same_spec};
 ghost use Rattle.bufr_fields.specs.Limits.{most_raw_bits, most_increment_bits, most_decimal_scale};
 ghost use Rattle.bufr_fields.specs.Reasons.{read_reason, write_reason};
 ghost use Rattle.bufr_fields.specs.Samples.{number_kinds, field_as};
 ghost use Rattle.bufr_fields.specs.Values.{text_of, decimal_within, is_missing, value};
 
-use crate::fault::{ReadFault, WriteFault};
+use crate::fault::{DataFault, MisfitFault};
 use crate::field::Raw;
 use bufr_tables::Kind;
 
-/// The texts of values, and which scales a value can have.
+/// The texts of values, and the scales that they can have.
 #[tactic(auto, unfolding(crate::proofs::OnLiterals::decimals_on_literals))]
 pub fn texts_of_values()
     ensures point { text_of (record { units = pos 27315; scale = pos 2 }) ≡ codes "273.15" }
@@ -38,8 +38,8 @@ pub fn texts_of_values()
         ∷ Some (record { units = pos 5; scale = negsuc 599 }) ∷ None ∷ [] }
 {}
 
-/// Raw values that have a form, by kind: numbers of code tables, flag tables, quantities and factors,
-/// in this order, and texts of whole octets; a number has 64 bits at most.
+/// Raw values that fit: of code tables, flag tables, quantities and factors, in this order, and
+/// texts.
 pub fn forms_by_kind()
     ensures limits { most_raw_bits ∷ most_increment_bits ∷ most_decimal_scale ∷ []
         ≡ 64 ∷ 63 ∷ 600 ∷ [] }
@@ -71,8 +71,7 @@ pub fn forms_by_kind()
         ≡ true ∷ replicate 4 false }
 {}
 
-/// Code tables, flag tables, quantities and factors, in this order: all bits are one, but neither
-/// of a field of one bit nor of a factor. Texts: all octets are 255.
+/// Missing values: all bits one, but never in one bit or in a factor; of texts all octets 255.
 pub fn missing_by_kind()
     ensures one_bit { map (λ k. is_missing (field_as 0 k 1 (Raw.Number 1))) number_kinds
         ≡ false ∷ false ∷ false ∷ false ∷ [] }
@@ -101,7 +100,7 @@ pub fn missing_by_kind()
         number_kinds ≡ false ∷ false ∷ false ∷ false ∷ [] }
 {}
 
-/// The values of the same kinds: none where they are missing, and none of a text.
+/// Values: none of a missing field or a text.
 pub fn values_by_kind()
     ensures one_bit { map (λ k. value (field_as 0 k 1 (Raw.Number 1))) number_kinds
         ≡ replicate 4 (Some (record { units = pos 1; scale = pos 0 })) }
@@ -137,17 +136,51 @@ pub fn values_by_kind()
         ≡ replicate 4 None }
 {}
 
-/// The words of refusals.
+/// The printed refusals.
 #[tactic(auto, unfolding(crate::proofs::OnLiterals::decimals_on_literals, crate::specs::Reasons::read_reason, crate::specs::Reasons::write_reason))]
 pub fn reasons()
-    ensures v1 { read_reason (ReadFault.EffectiveRange (descriptor 0 12 101))
+    ensures v1 { read_reason (DataFault.EffectiveRange (descriptor 0 12 101))
         ≡ codes "V1 EffectiveRange 012101" }
-    ensures v2 { read_reason (ReadFault.DataEnds 0 65) ≡ codes "V2 DataEnds 0 65" }
-    ensures v3 { read_reason (ReadFault.UnequalCounts 12) ≡ codes "V3 UnequalCounts 12" }
-    ensures v4 { read_reason (ReadFault.IncrementRange 2 17) ≡ codes "V4 IncrementRange 2 17" }
-    ensures v5 { read_reason (ReadFault.CharIncrement 3) ≡ codes "V5 CharIncrement 3" }
-    ensures v6 { read_reason ReadFault.TooLarge ≡ codes "V6 TooLarge" }
-    ensures e1 { write_reason (WriteFault.DoesNotFit 2 31) ≡ codes "E1 DoesNotFit 2 31" }
-    ensures e2 { write_reason (WriteFault.NotCompressible 2) ≡ codes "E2 NotCompressible 2" }
-    ensures e3 { write_reason WriteFault.TooLarge ≡ codes "E3 TooLarge" }
+    ensures v2 { read_reason (DataFault.DataEnds 0 65) ≡ codes "V2 DataEnds 0 65" }
+    ensures v3 { read_reason (DataFault.UnequalCounts 12) ≡ codes "V3 UnequalCounts 12" }
+    ensures v4 { read_reason (DataFault.IncrementRange 2 17) ≡ codes "V4 IncrementRange 2 17" }
+    ensures v5 { read_reason (DataFault.CharIncrement 3) ≡ codes "V5 CharIncrement 3" }
+    ensures v6 { read_reason DataFault.TooLarge ≡ codes "V6 TooLarge" }
+    ensures e1 { write_reason (MisfitFault.DoesNotFit 2 31) ≡ codes "E1 DoesNotFit 2 31" }
+    ensures e2 { write_reason (MisfitFault.NotCompressible 2) ≡ codes "E2 NotCompressible 2" }
+    ensures e3 { write_reason MisfitFault.TooLarge ≡ codes "E3 TooLarge" }
+{}
+
+/// Decimals of texts, one spelling each.
+#[tactic(auto, unfolding(crate::proofs::OnLiterals::decimals_on_literals))]
+pub fn decimals_of_texts()
+    ensures hundredths { map (λ t. decimal_of (pos 2) t) (codes "273.15" ∷ codes "-0.01"
+        ∷ codes "0.00" ∷ codes "-180.00" ∷ [])
+        ≡ Some (record { units = pos 27315; scale = pos 2 })
+        ∷ Some (record { units = negsuc 0; scale = pos 2 })
+        ∷ Some (record { units = pos 0; scale = pos 2 })
+        ∷ Some (record { units = negsuc 17999; scale = pos 2 }) ∷ [] }
+    ensures no_hundredths { map (λ t. decimal_of (pos 2) t) (codes "273.1" ∷ codes "273.150"
+        ∷ codes "0273.15" ∷ codes ".15" ∷ codes "273" ∷ codes "-0.00" ∷ codes "+1.00"
+        ∷ codes "1,00" ∷ codes " 1.00" ∷ codes "1.00 " ∷ codes "-" ∷ [] ∷ [])
+        ≡ replicate 12 None }
+    ensures whole { map (λ t. decimal_of (pos 0) t) (codes "5" ∷ codes "0" ∷ codes "-400" ∷ [])
+        ≡ Some (record { units = pos 5; scale = pos 0 })
+        ∷ Some (record { units = pos 0; scale = pos 0 })
+        ∷ Some (record { units = negsuc 399; scale = pos 0 }) ∷ [] }
+    ensures not_whole { map (λ t. decimal_of (pos 0) t) (codes "05" ∷ codes "-0" ∷ codes "+5"
+        ∷ codes "5." ∷ codes "--5" ∷ []) ≡ replicate 5 None }
+    ensures tens { map (λ t. decimal_of (negsuc 0) t)
+        (codes "101320" ∷ codes "0" ∷ codes "-10" ∷ [])
+        ≡ Some (record { units = pos 10132; scale = negsuc 0 })
+        ∷ Some (record { units = pos 0; scale = negsuc 0 })
+        ∷ Some (record { units = negsuc 0; scale = negsuc 0 }) ∷ [] }
+    ensures no_tens { map (λ t. decimal_of (negsuc 0) t) (codes "101325" ∷ codes "00" ∷ codes "5"
+        ∷ codes "-0" ∷ []) ≡ replicate 4 None }
+    ensures positive { map (λ n. units_by false n) (0 ∷ 5 ∷ (2 ^ 127 - 1) ∷ 2 ^ 127 ∷ [])
+        ≡ Some (pos 0) ∷ Some (pos 5) ∷ Some (pos (2 ^ 127 - 1)) ∷ None ∷ [] }
+    ensures negative { map (λ n. units_by true n) (0 ∷ 1 ∷ 2 ^ 127 ∷ (2 ^ 127 + 1) ∷ [])
+        ≡ None ∷ Some (negsuc 0) ∷ Some (negsuc (2 ^ 127 - 1)) ∷ None ∷ [] }
+    ensures scales_read { map (λ s. decimal_of s (codes "0")) (negsuc 599 ∷ negsuc 600 ∷ [])
+        ≡ Some (record { units = pos 0; scale = negsuc 599 }) ∷ None ∷ [] }
 {}

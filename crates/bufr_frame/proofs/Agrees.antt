@@ -1,10 +1,9 @@
--- What a comparison of fronts says: for `agrees`, by which `feed` and `take_next` know a mark.
+-- Lists agree if they are equal as far as the shorter goes: for `agrees`.
 use Rattle.std.proofs.Common.{◌≡◌, ℕ, zero, suc, true, false, cond, eqb, nat_eq, ◌&&◌, List, []}
 use Rattle.std.proofs.Common.{◌∷◌, length, take, refl, arith, min}
 use Rattle.std.specs.Cmp.Lexicographic.{pointwise}
 use Rattle.bufr_frame.specs.Starts.{agrees}
 
--- the fronts of the lesser length are equal where the lists agree as far as both go
 pub agrees_by : (xs ys : List ℕ) (n : ℕ) → n ≡ min (length xs) (length ys)
     → pointwise nat_eq (take n xs) (take n ys) ≡ agrees xs ys
 agrees_by [] ys zero e = refl

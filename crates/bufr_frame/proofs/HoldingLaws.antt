@@ -1,4 +1,5 @@
--- What a framer holds is what it must hold, in words: for the law `framer_holds_what_it_must`.
+-- `Stands` and `StandsFor` agree: the rest begins at the first place to hold, and no earlier one is
+-- such. For the law `framer_holds_what_it_must`.
 use Rattle.std.proofs.Common.{◌≡◌, ℕ, zero, suc, ◌+◌, ◌-◌, ◌<◌, ◌≤◌, false, Some, None, List, []}
 use Rattle.std.proofs.Common.{◌∷◌, length, take, drop, refl, sym, ap, ◌∙◌, subst, arith, inl, inr}
 use Rattle.std.proofs.Common.{slice_get}
@@ -18,18 +19,16 @@ use Rattle.bufr_frame.specs.CutLaws.{all_weaker}
 use Rattle.bufr_frame.proofs.OpenLaws.{open_from, open_to, tail_from, tail_to}
 use Rattle.bufr_frame.proofs.SureLaws.{all_past, sure_is, sure_only}
 
--- frames that end up to a place
+-- the frames end up to a place
 abbrev EndBy : ℕ → List Found → Type 0
 EndBy place fs = AllByRecursion (λ f. f.place + length f.bytes ≤ place) fs
 
--- and up to any later one
 end_by : (p q : ℕ) (fs : List Found) → p ≤ q → EndBy p fs → EndBy q fs
 end_by p q fs h a =
     all_weaker (λ f. f.place + length f.bytes ≤ p) (λ f. f.place + length f.bytes ≤ q)
     (λ f b. omega arith) fs a
 
--- what is left begins at the first place, at or after the end of the frames handed out, at which
--- something stands
+-- the rest begins at the first place, after the frames handed out, with a frame or an open start
 record RestsAt (place skip out : ℕ) (xs : List ℕ) (fs : List Found) (rest : List ℕ) : Type 0 where
   pub n : ℕ
   pub within : n ≤ length xs
@@ -41,7 +40,6 @@ record RestsAt (place skip out : ℕ) (xs : List ℕ) (fs : List Found) (rest : 
   pub stop : start_of (drop n xs) ≡ Other → ⊥
   pub later : drop out fs ≡ frames_from false (place + n) 0 (drop n xs)
 
--- the rest behind an octet that is skipped
 rests_later : (place skip out x : ℕ) (xs : List ℕ) (fs : List Found) (rest : List ℕ)
     → RestsAt (place + 1) skip out xs fs rest → RestsAt place (suc skip) out (x ∷ xs) fs rest
 rests_later place skip out x xs fs rest r =
@@ -71,7 +69,6 @@ rests_later place skip out x xs fs rest r =
         o j (omega arith) (end_by (place + suc j) ((place + 1) + j) (take out fs) (omega arith) b)
         (omega arith)
 
--- the rest behind an octet at which no frame begins
 rests_passed : (place out x : ℕ) (xs : List ℕ) (fs : List Found) (rest : List ℕ)
     → start_of (x ∷ xs) ≡ Other → RestsAt (place + 1) 0 out xs fs rest
     → RestsAt place 0 out (x ∷ xs) fs rest
@@ -97,7 +94,6 @@ rests_passed place out x xs fs rest h r =
     passed_others place out x xs fs n h o zero a b l = h
     passed_others place out x xs fs n h o (suc j) a b l = o (suc j) (omega arith) b l
 
--- the rest behind a frame
 rests_frame : (place l out x : ℕ) (xs b : List ℕ) (fs : List Found) (rest : List ℕ) → length b ≡ l
     → 1 ≤ l → RestsAt (place + 1) (l - 1) out xs fs rest
     → RestsAt place 0 (suc out) (x ∷ xs) (record { place = place; bytes = b } ∷ fs) rest
@@ -115,7 +111,6 @@ rests_frame place l out x xs b fs rest size long r =
       later = t.later;
     }
 
--- where something stands it is the first such place
 rests_here : (place out x : ℕ) (xs : List ℕ) (fs : List Found) → out ≡ 0
     → (start_of (x ∷ xs) ≡ Other → ⊥) → fs ≡ frames_from false place 0 (x ∷ xs)
     → RestsAt place 0 out (x ∷ xs) fs (x ∷ xs)
@@ -132,7 +127,6 @@ rests_here place out x xs fs none h e = record {
       ∙ ap (λ p. frames_from false p 0 (x ∷ xs)) (let z : place ≡ place + 0 = omega arith in z);
 }
 
--- where the rest behind some frames begins
 rests_at : (place skip out : ℕ) (xs : List ℕ) → skip ≤ length xs
     → out ≤ length (frames_from false place skip xs)
     → RestsAt place skip out xs (frames_from false place skip xs) (rest_from out skip xs)
@@ -212,7 +206,6 @@ get_dropped [] (suc k) y ys e = cc
 get_dropped (x ∷ xs) zero y ys e = let same : x ≡ y = cc in ap Some same
 get_dropped (x ∷ xs) (suc k) y ys e = get_dropped xs k y ys e
 
--- what holds of all from an index on holds of the one there
 got_of_all : (P : Found → Type 0) (xs : List Found) (k : ℕ) (y : Found) → slice_get xs k ≡ Some y
     → AllByRecursion P (drop k xs) → P y
 got_of_all P [] zero y e a = cc
@@ -224,7 +217,6 @@ module _ (s : List ℕ) (out : ℕ) (fits : out ≤ length (sure s)) where
   abbrev rests : RestsAt 0 0 out s (sure s) (rest_from out 0 s)
   rests = rests_at 0 0 out s (omega arith) fits
 
-  -- the next frame stands where what is left begins, or after it
   next_after : (q : ℕ) → IsNextAt (sure s) out q → rests.n ≤ q
   next_after q h =
       let all : AllByRecursion (λ f. (0 + rests.n) + 0 ≤ f.place) (drop out (sure s)) =
@@ -234,7 +226,6 @@ module _ (s : List ℕ) (out : ℕ) (fits : out ≤ length (sure s)) where
       let here = h.here in
       omega arith
 
-  -- before that place nothing is held
   none_before : (q : ℕ) → IsAfter (sure s) out q → q < rests.n → IsHeldAt s (sure s) out q → ⊥
   none_before q after below h =
       let other : start_of (drop q s) ≡ Other =
@@ -251,7 +242,6 @@ module _ (s : List ℕ) (out : ℕ) (fits : out ≤ length (sure s)) where
   ended_there : IsAfter (sure s) out rests.n
   ended_there = end_by (0 + rests.n) rests.n (take out (sure s)) (omega arith) rests.ended
 
-  -- where something is left, something stands where it begins
   held_there : rests.n < length s → IsHeldAt s (sure s) out rests.n
   held_there inside =
       elim (start_of (drop rests.n s)) as
@@ -277,7 +267,6 @@ module _ (s : List ℕ) (out : ℕ) (fits : out ≤ length (sure s)) where
             })
       ] refl
 
-  -- where nothing is left, nothing is held at any place
   none_at_all : length s ≤ rests.n → (q : ℕ) → IsAfter (sure s) out q → IsHeldAt s (sure s) out q
       → ⊥
   none_at_all out_of q after h =
@@ -299,7 +288,6 @@ module _ (s : List ℕ) (out : ℕ) (fits : out ≤ length (sure s)) where
         ]
       ]
 
-  -- what is left is what must be held
   held_is : AreHeld s (sure s) out (rest_from out 0 s)
   held_is = elim (leb_tells (suc rests.n) (length s)) [
     | inl inside ↦
@@ -317,7 +305,6 @@ module _ (s : List ℕ) (out : ℕ) (fits : out ≤ length (sure s)) where
         inr (none_at_all (omega arith), rests.rest_is ∙ drop_all rests.n s (omega arith))
   ]
 
--- there is one such list
 held_once : (s : List ℕ) (fs : List Found) (out : ℕ) (h k : List ℕ) → AreHeld s fs out h
     → AreHeld s fs out k → h ≡ k
 held_once s fs out h k (inl a) (inl b) =
@@ -333,7 +320,6 @@ held_once s fs out h k (inl a) (inr b) = absurd (b.0 a.0 a.1.after a.1.is)
 held_once s fs out h k (inr a) (inl b) = absurd (a.0 b.0 b.1.after b.1.is)
 held_once s fs out h k (inr a) (inr b) = a.1 ∙ sym b.1
 
--- what a framer stands for by what is left is what it stands for in words
 pub stands_to : (v : Framing) (s : List ℕ) (out : ℕ) → Stands v s out → StandsFor v s out
 stands_to v s out st = record {
   fed = st.fed;
@@ -343,7 +329,6 @@ stands_to v s out st = record {
   held = subst (AreHeld s (sure s) out) (sym st.held) (held_is s out st.out_of_sure);
 }
 
--- a framer that stands for a stream stands as its definition says
 pub stands_from : (v : Framing) (s : List ℕ) (out : ℕ) → StandsFor v s out → Stands v s out
 stands_from v s out st =
     let same = sure_only s st.frames st.are_sure in

@@ -1,5 +1,4 @@
--- The proofs of the crate: the laws behind the clauses of `Framer`, of `frames_of_pieces` and of
--- [`laws`]; those of each function stand in the folder of its file.
+-- Lemmas on frames: for `Framer`, `frames_of_pieces` and the laws.
 pub mod HoldingLaws
 pub mod SureLaws
 pub mod OpenLaws

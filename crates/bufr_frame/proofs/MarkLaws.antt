@@ -1,4 +1,4 @@
--- Where no `BUFR` begins, nothing stands: for the search that `feed`, `finish` and `take_next` use.
+-- Without `BUFR` no frame begins: for the search of `feed`, `finish` and `take_next`.
 use Rattle.std.proofs.Common.{◌≡◌, ℕ, zero, suc, ◌+◌, ◌-◌, ◌<◌, ◌≤◌, true, false, cond, eqb, eq-eqb}
 use Rattle.std.proofs.Common.{Some, None, List, [], ◌∷◌, length, drop, get_or, refl, sym, ap, ◌∙◌}
 use Rattle.std.proofs.Common.{subst, arith}
@@ -8,11 +8,9 @@ use Rattle.memchr.specs.Find.{FindsNeedle, OccursAt}
 use Rattle.bufr_frame.specs.declared.places.Start.TheVariants.{Other}
 use Rattle.bufr_frame.specs.Starts.{agrees, bufr, start_of}
 
--- where the octets disagree with `BUFR` nothing stands
 pub no_mark : (t : List ℕ) → agrees t bufr ≡ false → start_of t ≡ Other
 no_mark t h = rw h refl
 
--- lists that agree have the same octets as far as both go
 agrees_at : (xs ys : List ℕ) (i : ℕ) → agrees xs ys ≡ true → i < length xs → i < length ys
     → get_or xs i 0 ≡ get_or ys i 0
 agrees_at [] ys i h a b = absurd (omega arith)
@@ -24,7 +22,6 @@ agrees_at (x ∷ xs) (y ∷ ys) (suc i) h a b =
     elim (eqb x y) as (λ v. cond v (agrees xs ys) false ≡ true → get_or xs i 0 ≡ get_or ys i 0)
     [ true ↦ λ rest. agrees_at xs ys i rest (omega arith) (omega arith) | false ↦ λ rest. cc ] h
 
--- where four octets are there and agree, `BUFR` occurs
 occurs : (s : List ℕ) (from j : ℕ) → (from + j) + 4 ≤ length s
     → agrees (drop (from + j) s) bufr ≡ true → OccursAt (drop from s) bufr j
 occurs s from j room h = record {
@@ -38,7 +35,6 @@ occurs s from j room h = record {
       r) l;
 }
 
--- octets that the search passes are no mark
 passed : (s : List ℕ) (from j : ℕ) → (from + j) + 4 ≤ length s → (OccursAt (drop from s) bufr j → ⊥)
     → agrees (drop (from + j) s) bufr ≡ false
 passed s from j room nowhere =
@@ -48,7 +44,7 @@ passed s from j room nowhere =
       | false ↦ λ h. refl
     ] refl
 
--- before the first `BUFR` that a search finds nothing stands
+-- before the first `BUFR` of a search no frame begins
 pub found_others : (s needle : List ℕ) (from further : ℕ) → needle ≡ bufr → from ≤ length s
     → FindsNeedle (drop from s) needle 0 (Some further) → (k : ℕ) → from ≤ k → k < from + further
     → agrees (drop k s) bufr ≡ false
@@ -61,7 +57,6 @@ found_others s needle from further e within found k low high =
     (passed s from (k - from) (omega (arith, length-drop from s))
     (f.0.before (k - from) (omega arith) (omega arith)))
 
--- and where it finds none, at no place that four octets follow
 pub none_others : (s needle : List ℕ) (from : ℕ) → needle ≡ bufr → from ≤ length s
     → FindsNeedle (drop from s) needle 0 None → (k : ℕ) → from ≤ k → k + 4 ≤ length s
     → agrees (drop k s) bufr ≡ false
@@ -73,7 +68,6 @@ none_others s needle from e within found k low room =
     (passed s from (k - from) (omega arith)
     (f (k - from) (omega arith) (omega (arith, length-drop from s))))
 
--- lists with the same octets as far as both go agree
 agrees_by_octets : (xs ys : List ℕ)
     → ((i : ℕ) → i < length xs → i < length ys → get_or xs i 0 ≡ get_or ys i 0)
     → agrees xs ys ≡ true
@@ -83,7 +77,6 @@ agrees_by_octets (x ∷ xs) (y ∷ ys) h =
     rw (eq-eqb x y (h 0 (omega arith) (omega arith)))
     (agrees_by_octets xs ys (λ i a b. h (suc i) (omega arith) (omega arith)))
 
--- where a search finds `BUFR` it begins
 pub found_mark : (s needle : List ℕ) (from further : ℕ) → needle ≡ bufr
     → FindsNeedle (drop from s) needle 0 (Some further)
     → agrees (drop (from + further) s) bufr ≡ true

@@ -1,4 +1,4 @@
--- What is open, and what is a tail, by what stands there: for the public laws
+-- Open places and cut-off `BUFR` in words are open starts: for the laws
 -- `sure_is_the_longest_clear_front` and `framer_holds_what_it_must`.
 use Rattle.std.proofs.Common.{◌≡◌, ℕ, ◌+◌, ◌-◌, ◌<◌, ◌≤◌, true, false, cond, eqb, nat_lt, nat_le}
 use Rattle.std.proofs.Common.{Some, None, List, [], ◌∷◌, length, take, drop, refl, sym, ap, ◌∙◌}
@@ -13,7 +13,6 @@ use Rattle.bufr_frame.specs.Holdings.{IsTailAt}
 use Rattle.bufr_frame.specs.CutLaws.{agrees_take, agrees_from}
 use Rattle.bufr_frame.specs.StreamLaws.{announced-length}
 
--- lists of one octet agree
 all_agree : (xs ys : List ℕ) → AllByRecursion (λ x. x ≡ 55) xs → AllByRecursion (λ x. x ≡ 55) ys
     → agrees xs ys ≡ true
 all_agree [] ys a b = refl
@@ -21,7 +20,6 @@ all_agree (x ∷ xs) [] a b = refl
 all_agree (x ∷ xs) (y ∷ ys) a b =
     let e : eqb x y ≡ true = eq-eqb x y (a.0 ∙ sym b.0) in rw e (all_agree xs ys a.1 b.1)
 
--- what agrees with a longer list of one octet has no other
 agree_all : (xs ys : List ℕ) → length xs ≤ length ys → agrees xs ys ≡ true
     → AllByRecursion (λ x. x ≡ 55) ys → AllByRecursion (λ x. x ≡ 55) xs
 agree_all [] ys l h b = tt
@@ -34,11 +32,9 @@ agree_all (x ∷ xs) (y ∷ ys) l h b =
       | false ↦ λ _ k. cc
     ] refl h
 
--- the end mark is sevens
 sevens_all : AllByRecursion (λ x. x ≡ 55) sevens
 sevens_all = (refl, (refl, (refl, (refl, tt))))
 
--- the fronts of lists that agree are the same
 agrees_fronts : (xs ys : List ℕ) → agrees xs ys ≡ true → take (length ys) xs ≡ take (length xs) ys
 agrees_fronts [] [] h = refl
 agrees_fronts [] (y ∷ ys) h = refl
@@ -51,7 +47,6 @@ agrees_fronts (x ∷ xs) (y ∷ ys) h =
       | false ↦ λ _ k. cc
     ] refl h
 
--- octets of which one begins with the other agree
 fronts_agree : (xs ys : List ℕ) → take (length ys) xs ≡ take (length xs) ys → agrees xs ys ≡ true
 fronts_agree [] ys h = refl
 fronts_agree (x ∷ xs) [] h = refl
@@ -60,13 +55,12 @@ fronts_agree (x ∷ xs) (y ∷ ys) h =
     eq-eqb x y cc in let rest : take (length ys) xs ≡ take (length xs) ys =
     cc in rw e (fronts_agree xs ys rest)
 
--- what an open place says of the octets that follow it
+-- the octets at an open place
 record Opens (t : List ℕ) (l : ℕ) : Type 0 where
   pub long : 12 ≤ l
   pub end : agrees (drop (l - 4) t) sevens ≡ true
   pub short : length t < l
 
--- why a place with a length is open
 open_parts : (l : ℕ) (t : List ℕ) → start_by (Some l) t ≡ Open → Opens t l
 open_parts l t h =
     elim (nat_lt l 12) as
@@ -96,7 +90,6 @@ open_parts l t h =
           ] refl e
     ] refl h
 
--- what begins as `BUFR`
 marked : (t : List ℕ) → start_of t ≡ Open
     → (agrees t bufr ≡ true) × (start_by (announced t) t ≡ Open)
 marked t h =
@@ -107,7 +100,6 @@ marked t h =
       | false ↦ λ _ e. cc
     ] refl h
 
--- an open place in words is an open start
 pub open_from : (s : List ℕ) (p : ℕ) → IsOpenAt s p → start_of (drop p s) ≡ Open
 open_from s p o =
     let t = drop p s in
@@ -125,7 +117,6 @@ open_from s p o =
     let not_whole : nat_le o.l (length (drop p s)) ≡ false = lt-leb o.l (length (drop p s)) fewer in
     rw (mark, o.told, at_least, end, not_whole) refl
 
--- and an open start whose length is there is an open place
 pub open_to : (s : List ℕ) (p l : ℕ) → start_of (drop p s) ≡ Open → announced (drop p s) ≡ Some l
     → IsOpenAt s p
 open_to s p l h told =
@@ -150,7 +141,6 @@ open_to s p l h told =
       end = subst (AllByRecursion (λ x. x ≡ 55)) far sevens_left;
     }
 
--- fewer than seven octets announce no length
 pub short_unannounced : (t : List ℕ) → length t ≤ 6 → announced t ≡ None
 short_unannounced [] h = refl
 short_unannounced (a ∷ []) h = refl
@@ -161,7 +151,6 @@ short_unannounced (a ∷ b ∷ c ∷ d ∷ x ∷ []) h = refl
 short_unannounced (a ∷ b ∷ c ∷ d ∷ x ∷ y ∷ []) h = refl
 short_unannounced (a ∷ b ∷ c ∷ d ∷ x ∷ y ∷ z ∷ t) h = absurd (omega arith)
 
--- and where no length is announced there are fewer than seven octets
 pub unannounced_short : (t : List ℕ) → announced t ≡ None → length t ≤ 6
 unannounced_short (a ∷ b ∷ c ∷ d ∷ x ∷ y ∷ z ∷ t) h = cc
 unannounced_short [] h = omega arith
@@ -172,7 +161,6 @@ unannounced_short (a ∷ b ∷ c ∷ d ∷ []) h = omega arith
 unannounced_short (a ∷ b ∷ c ∷ d ∷ x ∷ []) h = omega arith
 unannounced_short (a ∷ b ∷ c ∷ d ∷ x ∷ y ∷ []) h = omega arith
 
--- a tail in words is an open start
 pub tail_from : (s : List ℕ) (p : ℕ) → IsTailAt s p → start_of (drop p s) ≡ Open
 tail_from s p t =
     let inside = t.inside in
@@ -181,7 +169,6 @@ tail_from s p t =
     let mark : agrees (drop p s) bufr ≡ true = fronts_agree (drop p s) bufr t.mark in
     rw (mark, short_unannounced (drop p s) few) refl
 
--- and an open start whose length is not there is a tail
 pub tail_to : (s : List ℕ) (p : ℕ) → p < length s → start_of (drop p s) ≡ Open
     → announced (drop p s) ≡ None → IsTailAt s p
 tail_to s p inside h none =

@@ -1,5 +1,4 @@
--- What a call of `take_next` has passed over, and what it then hands out and holds: for the
--- clauses of `take_next`.
+-- What a call of `take_next` passes, hands out and holds: for `take_next`.
 use Rattle.std.proofs.Common.{◌≡◌, ℕ, zero, suc, ◌+◌, ◌-◌, ◌<◌, ◌≤◌, ◌⊎◌, true, false, cond, eqb}
 use Rattle.std.proofs.Common.{Option, Some, None, List, [], ◌∷◌, ◌++◌, length, take, drop, refl}
 use Rattle.std.proofs.Common.{sym, ap, ◌∙◌, subst, arith, inl, inr, length-append, length-drop}
@@ -32,19 +31,16 @@ use Rattle.bufr_frame.proofs.ScanLaws.{open_rest, frame_fits, frame_moves}
 
 -- ---- lists that go on
 
--- octets that go on and more octets go on too
 pub extends_more : (a b more : List ℕ) → Extends a b → Extends a (b ++ more)
 extends_more a b more e = (e.0 ++ more, ap (λ xs. xs ++ more) e.1 ∙ append_assoc a e.0 more)
 
--- they begin as before
 pub extends_front : (a b : List ℕ) → Extends a b → take (length a) b ≡ a
 extends_front a b e =
     ap (take (length a)) e.1 ∙ take-append-le (length a) a e.0 (omega arith)
     ∙ take_all (length a) a (omega arith)
 
--- ---- what is passed over
+-- ---- what a call passes
 
--- at first nothing is passed over
 pub passed_none : (held piece : List ℕ) → IsPassedTo (held ++ take 0 piece) held
 passed_none held piece = record {
   n = 0;
@@ -53,7 +49,6 @@ passed_none held piece = record {
   others = λ k l. absurd (omega arith);
 }
 
--- more octets may come
 pub passed_more : (all held more : List ℕ) → IsPassedTo all held
     → IsPassedTo (all ++ more) (held ++ more)
 passed_more all held more p =
@@ -66,7 +61,6 @@ passed_more all held more p =
           ∙ Other-append (drop k all) more (p.others k l);
     }
 
--- places of what is held may be passed over
 pub passed_then : (all held later : List ℕ) → IsPassedTo all held → IsPassedTo held later
     → IsPassedTo all later
 passed_then all held later p q =
@@ -87,7 +81,6 @@ passed_then all held later p q =
       ];
     }
 
--- a place at which nothing stands, and others up to the next that begins as `BUFR`
 pub passed_other : (held : List ℕ) (next : ℕ) → start_of held ≡ Other → next ≤ length held
     → ((k : ℕ) → 1 ≤ k → k < next → agrees (drop k held) bufr ≡ false)
     → IsPassedTo held (drop next held)
@@ -102,7 +95,6 @@ passed_other held next first room others = record {
   ];
 }
 
--- what disagrees does so in its first octets
 disagrees_front : (n : ℕ) (xs ys : List ℕ) → (length ys ≤ n) ⊎ (length xs ≤ n)
     → agrees xs ys ≡ false → agrees (take n xs) ys ≡ false
 disagrees_front zero xs [] l h =
@@ -122,7 +114,6 @@ disagrees_front (suc n) (x ∷ xs) (y ∷ ys) l h =
       | false ↦ λ e. refl
     ] h
 
--- what disagrees in its first octets does so
 disagrees_longer : (n : ℕ) (xs ys : List ℕ) → agrees (take n xs) ys ≡ false → agrees xs ys ≡ false
 disagrees_longer zero xs ys h = cc
 disagrees_longer (suc n) [] ys h = h
@@ -132,7 +123,6 @@ disagrees_longer (suc n) (x ∷ xs) (y ∷ ys) h =
     (λ b. cond b (agrees (take n xs) ys) false ≡ false → cond b (agrees xs ys) false ≡ false)
     [ true ↦ λ e. disagrees_longer n xs ys e | false ↦ λ e. refl ] h
 
--- a place that does not begin as `BUFR` in the first octets does not in all
 pub disagrees_near : (octets : List ℕ) (n k : ℕ) → k ≤ n
     → agrees (drop k (take n octets)) bufr ≡ false → agrees (drop k octets) bufr ≡ false
 disagrees_near octets n k low h =
@@ -142,7 +132,6 @@ disagrees_near octets n k low h =
     (subst (λ t. agrees t bufr ≡ false) (drop-take k m octets)
     (subst (λ j. agrees (drop k (take j octets)) bufr ≡ false) whole h))
 
--- where no octet before one begins as `BUFR`, none of so many octets of it and more does
 others_front : (rest : List ℕ) (skip n k : ℕ) → k < skip → (4 ≤ n) ⊎ (length rest ≤ skip + n)
     → agrees (drop k rest) bufr ≡ false → start_of (drop k (take (skip + n) rest)) ≡ Other
 others_front rest skip n k low enough h =
@@ -153,7 +142,6 @@ others_front rest skip n k low enough h =
     ∙ no_mark (take m (drop k rest)) (disagrees_front m (drop k rest) bufr
     (elim enough [ inl a ↦ inl (omega arith) | inr a ↦ inr (omega (arith, length-drop k rest)) ]) h)
 
--- the octets of the rest of a piece up to one that begins as `BUFR`, and so many from there on
 pub passed_begun : (rest : List ℕ) (skip n : ℕ) → skip + n ≤ length rest
     → (4 ≤ n) ⊎ (length rest ≤ skip + n)
     → ((k : ℕ) → k < skip → agrees (drop k rest) bufr ≡ false)
@@ -167,9 +155,9 @@ passed_begun rest skip n room enough others =
       others = λ k l. others_front rest skip n k l enough (others k l);
     }
 
--- ---- what is handed out and held
+-- ---- what a call hands out and holds
 
--- the frames of all are those of what is held
+-- passing octets changes no frame
 pub passed_frames : (place : ℕ) (all held : List ℕ) → IsPassedTo all held
     → frames_from false place 0 all ≡ frames_from false (place + (length all - length held)) 0 held
 passed_frames place all held p =
@@ -180,13 +168,11 @@ passed_frames place all held p =
     ∙ ap (λ q. frames_from false q 0 held)
     (let e : place + p.n ≡ place + (length all - length held) = omega arith in e)
 
--- and so is what is left after them
 pub passed_rest : (out : ℕ) (all held : List ℕ) → IsPassedTo all held
     → rest_from out 0 all ≡ rest_from out 0 held
 passed_rest out all held p =
     rest_pass out p.n all p.within p.others ∙ ap (rest_from out 0) (sym p.rest)
 
--- where what is held is open, there is no frame
 pub takes_none : (place : ℕ) (all held : List ℕ) → IsPassedTo all held → start_of held ≡ Open
     → HandsOverNone place all held
 takes_none place all held p h = record {
@@ -194,7 +180,6 @@ takes_none place all held p h = record {
   held_is = sym (passed_rest 0 all held p ∙ open_rest held h);
 }
 
--- where a frame begins what is held, it is the next, and what is left is what follows it
 pub takes_held : (place l : ℕ) (all held left : List ℕ) (frame : Found) → IsPassedTo all held
     → start_of held ≡ Frame l → left ≡ rest_from 0 0 (drop l held)
     → frame ≡ record { place = place + (length all - length held); bytes = take l held }
@@ -208,7 +193,6 @@ takes_held place l all held left frame p h rest is =
       held_is = rest ∙ sym (passed_rest 1 all held p ∙ one_rest 0 l held h);
     }
 
--- a frame is one by its own octets
 pub frame_front : (octets : List ℕ) (l : ℕ) → start_of octets ≡ Frame l
     → start_of (take l octets) ≡ Frame l
 frame_front octets l h =
@@ -244,7 +228,6 @@ frame_front octets l h =
               omega arith
         ] refl
 
--- a frame in the piece, where nothing is held
 pub takes_piece : (place skip l : ℕ) (all held rest : List ℕ) (frame : Found) → IsPassedTo all held
     → StandsInPiece held rest skip l
     → frame ≡ record { place = place + (length all + skip); bytes = take l (drop skip rest) }
@@ -271,10 +254,9 @@ takes_piece place skip l all held rest frame p s is =
     ∙ ap (λ (b : List ℕ). let f : Found =
     record { place = place + (length (all ++ x) - length front); bytes = b } in f) itself)
 
--- ---- a call so far
+-- ---- a call under way
 
--- octets were only appended to those kept, and of what was held and the piece all is passed over
--- but what is held
+-- the octets kept only grew, and the call passed all but the octets held
 pub record Reaching (held before kept piece : List ℕ) (from taken : ℕ) : Type 0 where
   pub kept_on : Extends before kept
   pub within : from ≤ length kept
@@ -282,7 +264,6 @@ pub record Reaching (held before kept piece : List ℕ) (from taken : ℕ) : Typ
   pub short : length (drop from kept) ≤ LONGEST
   pub passed : IsPassedTo (held ++ take taken piece) (drop from kept)
 
--- at first nothing is taken in
 pub reaching_first : (kept piece : List ℕ) (from : ℕ) → from ≤ length kept
     → length (drop from kept) ≤ LONGEST → Reaching (drop from kept) kept kept piece from 0
 reaching_first kept piece from within short = record {
@@ -293,7 +274,6 @@ reaching_first kept piece from within short = record {
   passed = passed_none (drop from kept) piece;
 }
 
--- where nothing can stand, octets follow
 pub other_inside : (octets : List ℕ) (from : ℕ) → start_of (drop from octets) ≡ Other
     → from + 1 ≤ length octets
 other_inside octets from h = elim (leb_tells (from + 1) (length octets)) [
@@ -305,7 +285,6 @@ other_inside octets from h = elim (leb_tells (from + 1) (length octets)) [
       cc
 ]
 
--- a place is passed over
 pub reaching_other : (held before kept piece : List ℕ) (from taken next : ℕ)
     → Reaching held before kept piece from taken → start_of (drop from kept) ≡ Other
     → from + 1 ≤ next → next ≤ length kept
@@ -332,7 +311,6 @@ reaching_other held before kept piece from taken next r h later room others =
           (subst (IsPassedTo (drop from kept)) far over);
     }
 
--- more of the piece is taken in
 pub reaching_more : (held before kept after piece : List ℕ) (from taken n : ℕ)
     → Reaching held before kept piece from taken
     → KeepsPart (drop from kept) kept after (drop taken piece) n
@@ -361,12 +339,11 @@ reaching_more held before kept after piece from taken n r m =
           (subst (IsPassedTo ((held ++ take taken piece) ++ take n rest)) (sym now_held) more);
     }
 
--- how much is left to do
+-- what is left to do
 abbrev pub left_to_do : List ℕ → List ℕ → ℕ → ℕ → ℕ
 left_to_do kept piece from taken =
     (length piece - taken) + (length piece - taken) + (length kept - from)
 
--- it gets less
 pub less_to_do : (kept after piece : List ℕ) (from taken n : ℕ) → from ≤ length kept
     → taken ≤ length piece → KeepsPart (drop from kept) kept after (drop taken piece) n
     → left_to_do after piece from (taken + n) < left_to_do kept piece from taken
@@ -383,9 +360,8 @@ less_to_do kept after piece from taken n within inside m =
     omega (arith, length-append held m.kept, length-append held (take n (drop taken piece))) in
     omega (arith, ap length m.appended, length-append kept m.kept, length-drop taken piece)
 
--- ---- what a call answers
+-- ---- results of a call
 
--- what is left where something stands, or nothing is there, is all
 pub rest_here : (o : Option ℕ) (t : List ℕ) → IfSome o (λ l. start_of t ≡ Frame l)
     → (o ≡ None → start_of t ≡ Open) → rest_from 0 0 t ≡ t
 rest_here None t some none = open_rest t (none refl)
@@ -395,14 +371,12 @@ rest_here (Some l) t some none = frame_rest l t some
     frame_rest l [] h = refl
     frame_rest l (x ∷ xs) h = rest_none l x xs h
 
--- how many octets there are
 length_all : (held piece : List ℕ) (taken : ℕ) → taken ≤ length piece
     → length (held ++ take taken piece) ≡ length held + taken
 length_all held piece taken room =
     length-append held (take taken piece)
     ∙ ap (λ n. length held + n) (length-take-le taken piece room)
 
--- a frame that begins what is held
 pub answers_held : (fed : ℕ) (held kept after piece : List ℕ) (r : Reached) (l next from : ℕ)
     (frame : Found) → length held ≤ fed → Reaches held kept piece r → r.stop ≡ Held l
     → r.from + l ≤ next → next ≤ length kept
@@ -439,7 +413,6 @@ answers_held fed held kept after piece r l next from frame known s stop past roo
           ∙ ap (λ (q : ℕ). let f : Found = record { place = q; bytes = take l now } in f) place);
     }
 
--- a frame in the piece lies in it
 pub piece_room : (held kept piece : List ℕ) (r : Reached) (skip l : ℕ) → Reaches held kept piece r
     → r.stop ≡ Piece skip l → (r.taken + skip) + l ≤ length piece
 piece_room held kept piece r skip l s stop =
@@ -451,7 +424,6 @@ piece_room held kept piece r skip l s stop =
     let taken = s.taken in
     omega (arith, length-drop skip (drop r.taken piece), length-drop r.taken piece)
 
--- a frame in the piece
 pub answers_piece : (fed : ℕ) (held kept after piece : List ℕ) (r : Reached) (skip l from : ℕ)
     (frame : Found) → length held ≤ fed → Reaches held kept piece r → r.stop ≡ Piece skip l
     → drop from after ≡ drop r.from kept → from ≤ length after → from ≤ length (drop from after)
@@ -498,7 +470,6 @@ answers_piece fed held kept after piece r skip l from frame known s stop same wi
           (sym none) one);
     }
 
--- nothing is held, and a frame stands in the piece behind so many octets that are passed over
 pub reaches_piece : (kept piece : List ℕ) (from skip l : ℕ) → from ≤ length kept
     → drop from kept ≡ [] → skip ≤ length piece
     → ((k : ℕ) → k < skip → agrees (drop k piece) bufr ≡ false)
@@ -513,7 +484,6 @@ reaches_piece kept piece from skip l within none room others frame = record {
   stops = record { nothing = none; within = room; others = others; frame = frame };
 }
 
--- such a frame is handed out, and nothing is held after it
 pub answers_lent : (fed : ℕ) (kept piece : List ℕ) (from skip l : ℕ) (frame : Found)
     → length (drop from kept) ≤ fed → from ≤ length kept → from ≤ length (drop from kept)
     → drop from kept ≡ [] → skip ≤ length piece
@@ -532,7 +502,6 @@ answers_lent fed kept piece from skip l frame known within half none room others
     (subst (λ n. frame ≡ record { place = fed + n; bytes = take l (drop n piece) })
     (sym zero_more) is))
 
--- no frame, and all of the piece is taken in
 pub answers_none : (fed : ℕ) (held kept after piece : List ℕ) (r : Reached) (from : ℕ)
     → Reaches held kept piece r → r.stop ≡ Nowhere
     → drop from after ≡ drop r.from kept → from ≤ length after → from ≤ length (drop from after)
@@ -553,9 +522,8 @@ answers_none fed held kept after piece r from s stop same within half =
           (takes_none (fed - length held) (held ++ take r.taken piece) now s.passed at.waits);
     }
 
--- ---- what the framer then stands for
+-- ---- the framer after it
 
--- what is taken in, by the rest
 pub taken_is : (piece : List ℕ) (taken : ℕ) → taken ≤ length piece
     → taken_in piece (take (length piece - taken) (drop taken piece)) ≡ take taken piece
 taken_is piece taken room =
@@ -563,12 +531,10 @@ taken_is piece taken room =
     (let e : length piece - length (take (length piece - taken) (drop taken piece))
     ≡ taken = omega (arith, ap length (take_rest piece taken), length-drop taken piece) in e)
 
--- the first behind a list is that of the next
 get_after : (xs ys : List Found) → slice_get (xs ++ ys) (length xs) ≡ slice_get ys 0
 get_after [] ys = refl
 get_after (x ∷ xs) ys = get_after xs ys
 
--- the first frame of what is held and taken in is the next sure one
 pub next_frame : (v : Framing) (taken held : List ℕ) (found : Option Found)
     → TakesOneOrNone found (place_of v) (v.held ++ taken) held → IfSome found (IsNextFrame v taken)
 next_frame v taken held None t = tt
@@ -580,7 +546,6 @@ next_frame v taken held (Some frame) t = λ stream out stands.
     ∙ ap (slice_get (take out (sure stream) ++ later)) (sym here)
     ∙ get_after (take out (sure stream)) later ∙ t.next
 
--- and the framer has then handed it out
 pub stands_next : (v : Framing) (taken held : List ℕ) (n : ℕ) (found : Option Found)
     → length taken ≡ n → TakesOneOrNone found (place_of v) (v.held ++ taken) held
     → IfSome found (λ frame. StandsAfter v (record { fed = v.fed + n; held = held }) taken 1)
@@ -594,7 +559,6 @@ stands_next v taken held n (Some frame) size t = λ stream out stands.
     (out + 1))
     (sym t.held_is) st)
 
--- where there is none, no frame is sure
 pub no_frame : (v : Framing) (taken held : List ℕ) → HandsOverNone (place_of v) (v.held ++ taken) held
     → IsNoFrame v taken
 no_frame v taken held t = λ stream out stands.
@@ -608,7 +572,6 @@ no_frame v taken held t = λ stream out stands.
       ap length t.none,
     )
 
--- and the framer goes on to hold what it must
 pub stands_on : (v : Framing) (taken held : List ℕ) (n : ℕ) → length taken ≡ n
     → HandsOverNone (place_of v) (v.held ++ taken) held
     → StandsAfter v (record { fed = v.fed + n; held = held }) taken 0
@@ -619,7 +582,6 @@ stands_on v taken held n size t = λ stream out stands.
     (out + 0))
     (sym t.held_is) st)
 
--- no more is held than was held and taken in
 pub held_taken : (place : ℕ) (all held : List ℕ) (found : Option Found)
     → TakesOneOrNone found place all held → length held ≤ length all
 held_taken place all held None t = omega (arith, ap length t.held_is, rest_from-length 0 0 all)

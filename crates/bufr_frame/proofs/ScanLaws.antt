@@ -1,5 +1,5 @@
--- How far a scan of octets has come, the frames found so far and where it goes on: for the clauses
--- of `feed`, `look_end` and `take_next`.
+-- How far a scan has come: the frames found, and those from here on. For `feed`, `look_end` and
+-- `take_next`.
 use Rattle.std.proofs.Common.{◌≡◌, ℕ, zero, suc, ◌+◌, ◌-◌, ◌<◌, ◌≤◌, Bool, true, false, List, []}
 use Rattle.std.proofs.Common.{◌∷◌, ◌++◌, length, take, drop, refl, sym, ap, ◌∙◌, subst, arith}
 use Rattle.std.proofs.Common.{length-append, append_assoc}
@@ -11,7 +11,7 @@ use Rattle.bufr_frame.specs.Streams.{frames_from, rest_from}
 use Rattle.bufr_frame.specs.StreamLaws.{begins_from, frames_other, frames_open, frames_frame}
 use Rattle.bufr_frame.specs.StreamLaws.{rest_other, rest_open, rest_frame}
 
--- the frames found so far and those from here on are all, and so is what is left after some of them
+-- the frames found and those from here on are all, and so is the rest after some of them
 pub record Scanned (ended : Bool) (place : ℕ) (octets : List ℕ) (frames : List Found)
     (here : ℕ) : Type 0 where
   pub within : here ≤ length octets
@@ -20,7 +20,6 @@ pub record Scanned (ended : Bool) (place : ℕ) (octets : List ℕ) (frames : Li
   pub all_rest : ended ≡ false → (n : ℕ) → rest_from (length frames + n) 0 octets
       ≡ rest_from n 0 (drop here octets)
 
--- octets that belong to the frame before are passed over
 frames_skip : (ended : Bool) (place skip : ℕ) (xs : List ℕ) → skip ≤ length xs
     → frames_from ended place skip xs ≡ frames_from ended (place + skip) 0 (drop skip xs)
 frames_skip ended place zero [] h = refl
@@ -32,14 +31,12 @@ frames_skip ended place (suc skip) (x ∷ xs) h =
     ∙ ap (λ p. frames_from ended p 0 (drop skip xs))
     (let e : (place + 1) + skip ≡ place + suc skip = omega arith in e)
 
--- the rest behind octets that are skipped
 rest_skip : (n skip : ℕ) (xs : List ℕ) → skip ≤ length xs
     → rest_from n skip xs ≡ rest_from n 0 (drop skip xs)
 rest_skip n zero xs h = refl
 rest_skip n (suc skip) [] h = absurd (omega arith)
 rest_skip n (suc skip) (x ∷ xs) h = rest_skip n skip xs (omega arith)
 
--- places at which no frame stands or can come to stand are passed over
 pub frames_pass : (ended : Bool) (place d : ℕ) (xs : List ℕ) → d ≤ length xs
     → ((k : ℕ) → k < d → start_of (drop k xs) ≡ Other)
     → frames_from ended place 0 xs ≡ frames_from ended (place + d) 0 (drop d xs)
@@ -52,7 +49,6 @@ frames_pass ended place (suc d) (x ∷ xs) h o =
     ∙ ap (λ p. frames_from ended p 0 (drop d xs))
     (let e : (place + 1) + d ≡ place + suc d = omega arith in e)
 
--- the rest behind octets at which no frame begins
 pub rest_pass : (n d : ℕ) (xs : List ℕ) → d ≤ length xs
     → ((k : ℕ) → k < d → start_of (drop k xs) ≡ Other)
     → rest_from n 0 xs ≡ rest_from n 0 (drop d xs)
@@ -62,7 +58,6 @@ rest_pass n (suc d) (x ∷ xs) h o =
     rest_other n x xs (o 0 (omega arith))
     ∙ rest_pass n d xs (omega arith) (λ k l. o (suc k) (omega arith))
 
--- at the start nothing was found
 pub scanned_first : (ended : Bool) (place : ℕ) (octets : List ℕ) → Scanned ended place octets [] 0
 scanned_first ended place octets = record {
   within = omega arith;
@@ -71,8 +66,7 @@ scanned_first ended place octets = record {
   all_rest = λ _ n. ap (λ k. rest_from k 0 octets) (let e : 0 + n ≡ n = omega arith in e);
 }
 
--- from the one place on the frames, and what is left after some of them, are those from the other
--- on
+-- frames and rest are the same from both places on
 pub record Passed (ended : Bool) (octets : List ℕ) (from here : ℕ) : Type 0 where
   pub after : from ≤ here
   pub within : here ≤ length octets
@@ -81,7 +75,6 @@ pub record Passed (ended : Bool) (octets : List ℕ) (from here : ℕ) : Type 0 
   pub same_rest : ended ≡ false → (n : ℕ) → rest_from n 0 (drop from octets)
       ≡ rest_from n 0 (drop here octets)
 
--- at first none is passed over
 pub passed_first : (ended : Bool) (octets : List ℕ) (from : ℕ) → from ≤ length octets
     → Passed ended octets from from
 passed_first ended octets from room = record {
@@ -91,7 +84,6 @@ passed_first ended octets from room = record {
   same_rest = λ e n. refl;
 }
 
--- a place at which no frame stands is passed over, and so are others up to the next
 pub passed_on : (ended : Bool) (octets : List ℕ) (from here next : ℕ)
     → Passed ended octets from here → here < next → next ≤ length octets
     → ((k : ℕ) → here ≤ k → k < next → start_of (drop k octets) ≡ Other)
@@ -117,13 +109,11 @@ passed_on ended octets from here next s later room others =
           ∙ ap (λ t. rest_from n 0 t) far;
     }
 
--- at the end of the stream an open place is passed over
 passed : (place : ℕ) (t : List ℕ) → start_of t ≡ Open
     → frames_from true place 0 t ≡ frames_from true (place + 1) 0 (drop 1 t)
 passed place [] h = refl
 passed place (x ∷ xs) h = rw (h, frames_from) refl
 
--- at the end of the stream an open place is passed too
 pub passed_past : (ended : Bool) (octets : List ℕ) (from here : ℕ) → ended ≡ true
     → Passed ended octets from here → here < length octets → start_of (drop here octets) ≡ Open
     → Passed ended octets from (here + 1)
@@ -142,7 +132,6 @@ passed_past ended octets from here is s room h =
       same_rest = λ e n. let no_way : true ≡ false = sym is ∙ e in cc;
     }
 
--- a scan goes on behind what is passed over
 pub scanned_passed : (ended : Bool) (place : ℕ) (octets : List ℕ) (frames : List Found)
     (from here : ℕ) → Scanned ended place octets frames from → here ≤ length octets
     → ((p : ℕ) → frames_from ended (p + from) 0 (drop from octets)
@@ -156,7 +145,6 @@ scanned_passed ended place octets frames from here s within same_frames same_res
   all_rest = λ e n. s.all_rest e n ∙ same_rest e n;
 }
 
--- the frame that stands here, what follows it, and what is left after it
 pub one_frame : (ended : Bool) (place l : ℕ) (t : List ℕ) → start_of t ≡ Frame l
     → frames_from ended place 0 t
     ≡ record { place = place; bytes = take l t } ∷ frames_from ended (place + l) 0 (drop l t)
@@ -174,7 +162,6 @@ one_frame ended place (suc l) (x ∷ xs) h =
     ∙ ap (λ p. frames_from ended p 0 (drop l xs))
     (let e : (place + 1) + l ≡ place + suc l = omega arith in e))
 
--- the rest behind one frame
 pub one_rest : (n l : ℕ) (t : List ℕ) → start_of t ≡ Frame l
     → rest_from (suc n) 0 t ≡ rest_from n 0 (drop l t)
 one_rest n l [] h =
@@ -185,15 +172,12 @@ one_rest n (suc l) (x ∷ xs) h =
     let less : suc l - 1 ≡ l = omega arith in
     rest_frame n (suc l) x xs h ∙ ap (λ k. rest_from n k xs) less ∙ rest_skip n l xs (omega arith)
 
--- a frame is as long as it says
 pub frame_fits : (octets : List ℕ) (l : ℕ) → start_of octets ≡ Frame l → l ≤ length octets
 frame_fits octets l h = (begins_from octets l h).whole
 
--- a frame has twelve octets at least
 pub frame_moves : (octets : List ℕ) (l : ℕ) → start_of octets ≡ Frame l → 12 ≤ l
 frame_moves octets l h = (begins_from octets l h).long
 
--- a frame that stands here is found
 pub scanned_frame : (ended : Bool) (place : ℕ) (octets : List ℕ) (frames : List Found) (here l : ℕ)
     → Scanned ended place octets frames here → start_of (drop here octets) ≡ Frame l
     → Scanned ended place octets
@@ -228,7 +212,6 @@ pub record ScannedAll (ended : Bool) (place : ℕ) (octets : List ℕ) (frames :
   pub frames_are : frames ≡ frames_from ended place 0 octets
   pub rest_is : ended ≡ false → drop here octets ≡ rest_from (length frames) 0 octets
 
--- it has come to its end where no octets are left
 pub scanned_out : (ended : Bool) (place : ℕ) (octets : List ℕ) (frames : List Found) (here : ℕ)
     → Scanned ended place octets frames here → length octets ≤ here
     → ScannedAll ended place octets frames here
@@ -245,17 +228,14 @@ scanned_out ended place octets frames here s h =
           ∙ ap (λ t. rest_from 0 0 t) none ∙ sym none);
     }
 
--- at an open place no frame is sure
 pub open_frames : (place : ℕ) (t : List ℕ) → start_of t ≡ Open → frames_from false place 0 t ≡ []
 open_frames place [] h = refl
 open_frames place (x ∷ xs) h = frames_open place x xs h
 
--- and all is left
 pub open_rest : (t : List ℕ) → start_of t ≡ Open → rest_from 0 0 t ≡ t
 open_rest [] h = refl
 open_rest (x ∷ xs) h = rest_open 0 x xs h
 
--- and in a stream that goes on, at an open place
 pub scanned_open : (ended : Bool) (place : ℕ) (octets : List ℕ) (frames : List Found) (here : ℕ)
     → ended ≡ false → Scanned ended place octets frames here → start_of (drop here octets) ≡ Open
     → ScannedAll ended place octets frames here
@@ -271,7 +251,6 @@ scanned_open ended place octets frames here is s h = record {
       ∙ s.all_rest e 0 ∙ open_rest (drop here octets) h);
 }
 
--- a scan has come to its end where nothing more is found: at an open place, or at the octets' end
 pub scanned_end : (ended : Bool) (place : ℕ) (octets : List ℕ) (frames : List Found) (here : ℕ)
     → Scanned ended place octets frames here → start_of (drop here octets) ≡ Open
     → (ended ≡ true → here ≡ length octets) → ScannedAll ended place octets frames here

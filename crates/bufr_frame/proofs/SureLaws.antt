@@ -1,5 +1,5 @@
--- What `sure` gives is the longest front of the cut in which no frame has an open place before it,
--- outside the frames before: for the law `sure_is_the_longest_clear_front`.
+-- `sure` is the longest start of the cut with no open place before a frame: for the law
+-- `sure_is_the_longest_clear_front`.
 use Rattle.std.proofs.Common.{◌≡◌, ℕ, zero, suc, ◌+◌, ◌-◌, ◌<◌, ◌≤◌, Bool, true, false, Some, None}
 use Rattle.std.proofs.Common.{List, [], ◌∷◌, ◌++◌, length, take, drop, refl, sym, ap, ◌∙◌, subst}
 use Rattle.std.proofs.Common.{arith, append_assoc, inl, inr}
@@ -23,7 +23,6 @@ past_by : (place from : ℕ) (fs : List Found) → place ≤ from
 past_by place from fs h a =
     all_weaker (λ f. from ≤ f.place) (λ f. place ≤ f.place) (λ f b. omega arith) fs a
 
--- no frame begins before the place from which it is searched
 pub all_past : (ended : Bool) (place skip : ℕ) (xs : List ℕ)
     → AllByRecursion (λ f. place + skip ≤ f.place) (frames_from ended place skip xs)
 all_past ended place skip [] = tt
@@ -60,14 +59,13 @@ all_past ended place zero (x ∷ xs) =
     ] refl
 
 -- ---- no place between sure frames is open
--- no place is open from the low one up to the first frame, nor between a frame and the next
+-- no place is open up to the first frame, nor between a frame and the next
 abbrev GapsClear : ℕ → List ℕ → ℕ → List Found → Type 0
 GapsClear place xs low [] = Unit {0}
 GapsClear place xs low (f ∷ fs) =
     ((n : ℕ) → low ≤ place + n → place + n < f.place → start_of (drop n xs) ≡ Open → ⊥)
     × GapsClear place xs (f.place + length f.bytes) fs
 
--- the gaps behind an octet are those from it on
 gaps_later : (place x : ℕ) (xs : List ℕ) (low : ℕ) (fs : List Found) → place < low
     → AllByRecursion (λ f. place < f.place) fs → GapsClear (place + 1) xs low fs
     → GapsClear place (x ∷ xs) low fs
@@ -85,7 +83,6 @@ gaps_later place x xs low (f ∷ fs) below past g =
     one_later place x xs low f below g zero a b h = omega arith
     one_later place x xs low f below g (suc n) a b h = g n (omega arith) (omega arith) h
 
--- so they are behind an octet at which no frame begins
 gaps_first : (place x : ℕ) (xs : List ℕ) (fs : List Found) → start_of (x ∷ xs) ≡ Other
     → AllByRecursion (λ f. place < f.place) fs → GapsClear (place + 1) xs ((place + 1) + 0) fs
     → GapsClear place (x ∷ xs) (place + 0) fs
@@ -104,14 +101,12 @@ gaps_first place x xs (f ∷ fs) other past g =
     one_first place x xs f other g zero a b h = let e : Other ≡ Open = sym other ∙ h in cc
     one_first place x xs f other g (suc n) a b h = g n (omega arith) (omega arith) h
 
--- frames behind an octet begin after it
 past_strictly : (place skip : ℕ) (xs : List ℕ)
     → AllByRecursion (λ f. place < f.place) (frames_from false (place + 1) skip xs)
 past_strictly place skip xs =
     all_weaker (λ f. (place + 1) + skip ≤ f.place) (λ f. place < f.place) (λ f b. omega arith)
     (frames_from false (place + 1) skip xs) (all_past false (place + 1) skip xs)
 
--- between the sure frames no place is open
 gaps : (place skip : ℕ) (xs : List ℕ)
     → GapsClear place xs (place + skip) (frames_from false place skip xs)
 gaps place skip [] = tt
@@ -153,12 +148,10 @@ in_left place [] gs i = absurd i
 in_left place (f ∷ fs) gs (inl i) = inl i
 in_left place (f ∷ fs) gs (inr i) = inr (in_left place fs gs i)
 
--- a place in one of the later frames is in one of all
 in_right : (place : ℕ) (fs gs : List Found) → IsInOne place gs → IsInOne place (fs ++ gs)
 in_right place [] gs i = i
 in_right place (f ∷ fs) gs i = inr (in_right place fs gs i)
 
--- so the sure frames are clear
 clear_by : (s : List ℕ) (before : List Found) (low : ℕ) (fs : List Found)
     → ((q : ℕ) → q < low → IsOpenAt s q → IsInOne q before) → GapsClear 0 s low fs
     → AreClear s before fs
@@ -178,7 +171,6 @@ clear_by s before low (f ∷ fs) covered g =
           ]) g.1,
     )
 
--- the sure frames of a stream are clear
 sure_clear : (s : List ℕ) → IsClear s (sure s)
 sure_clear s = record {
   rest = drop (length (sure s)) (cut s);
@@ -187,7 +179,7 @@ sure_clear s = record {
 }
 
 -- ---- before the next frame of the cut a place is open
--- before the frame g, and in none of the frames found, a place is open
+-- before the frame `g`, and in none of the frames found, a place is open
 record Stopped (place skip : ℕ) (xs : List ℕ) (fs : List Found) (g : Found) : Type 0 where
   pub n : ℕ
   pub l : ℕ
@@ -197,7 +189,6 @@ record Stopped (place skip : ℕ) (xs : List ℕ) (fs : List Found) (g : Found) 
   pub before : place + n < g.place
   pub outside : IsInOne (place + n) fs → ⊥
 
--- where the sure frames stop behind an octet that is skipped
 stopped_later : (place skip x : ℕ) (xs : List ℕ) (fs : List Found) (g : Found)
     → Stopped (place + 1) skip xs fs g → Stopped place (suc skip) (x ∷ xs) fs g
 stopped_later place skip x xs fs g t = let past = t.past in let below = t.before in record {
@@ -213,7 +204,6 @@ stopped_later place skip x xs fs g t = let past = t.past in let below = t.before
       (let e : place + suc t.n ≡ (place + 1) + t.n = omega arith in e) i);
 }
 
--- or behind none
 stopped_any : (place skip : ℕ) (xs : List ℕ) (fs : List Found) (g : Found)
     → Stopped place skip xs fs g → Stopped place 0 xs fs g
 stopped_any place skip xs fs g t =
@@ -227,7 +217,6 @@ stopped_any place skip xs fs g t =
       outside = t.outside;
     }
 
--- or behind a frame
 stopped_frame : (place l x : ℕ) (xs b : List ℕ) (fs : List Found) (g : Found) → length b ≡ l → 1 ≤ l
     → Stopped (place + 1) (l - 1) xs fs g
     → Stopped place 0 (x ∷ xs) (record { place = place; bytes = b } ∷ fs) g
@@ -247,7 +236,6 @@ stopped_frame place l x xs b fs g size long t =
           λ i. elim i [ inl j ↦ let c = j.1 in absurd (omega arith) | inr j ↦ moved.outside j ];
     }
 
--- in six octets no frame stands
 nothing_after : (place : ℕ) (xs : List ℕ) (g : Found) → length xs ≤ 6 → Stood place 0 xs g → ⊥
 nothing_after place xs g few t =
     let b = begins_from (drop t.n xs) (length g.bytes) t.start in
@@ -255,7 +243,6 @@ nothing_after place xs g few t =
     let whole = b.whole in
     omega (arith, length-drop t.n xs)
 
--- or at an open place
 stopped_open : (place x : ℕ) (xs : List ℕ) (g : Found) (gs : List Found) → start_of (x ∷ xs) ≡ Open
     → frames_from true (place + 1) 0 xs ≡ g ∷ gs → Stopped place 0 (x ∷ xs) [] g
 stopped_open place x xs g gs h e =
@@ -278,7 +265,6 @@ stopped_open place x xs g gs h e =
           }
     ] refl
 
--- the next frame of the whole stream begins behind an open place
 stopped : (place skip : ℕ) (xs : List ℕ) (g : Found) (gs : List Found)
     → frames_from true place skip xs ≡ frames_from false place skip xs ++ g ∷ gs
     → Stopped place skip xs (frames_from false place skip xs) g
@@ -321,15 +307,14 @@ stopped place zero (x ∷ xs) g gs e =
           (stopped (place + 1) (l - 1) xs g gs rest))
     ] refl
 
--- ---- so no longer front of the cut is clear
--- one list parted in two ways: the first part of one way is longer by g and more
+-- ---- so no longer start of the cut is clear
+-- one list in two parts, twice; the first part is once longer by `g` and more
 record Splits (xs ys us vs : List Found) : Type 0 where
   pub g : Found
   pub gs : List Found
   pub longer : xs ≡ us ++ g ∷ gs
   pub others : vs ≡ g ∷ (gs ++ ys)
 
--- two lists of which one is cut further on
 splits : (xs ys us vs : List Found) → xs ++ ys ≡ us ++ vs → length us < length xs
     → Splits xs ys us vs
 splits [] ys us vs e l = absurd (omega arith)
@@ -341,7 +326,6 @@ splits (x ∷ xs) ys (u ∷ us) vs e l =
     let more = t.longer in
     record { g = t.g; gs = t.gs; longer = cc; others = t.others }
 
--- before a frame of clear ones each open place is in an earlier one
 clear_at : (s : List ℕ) (before us : List Found) (g : Found) (gs : List Found)
     → AreClear s before (us ++ g ∷ gs) → (q : ℕ) → q < g.place → IsOpenAt s q
     → IsInOne q (before ++ us)
@@ -350,7 +334,6 @@ clear_at s before (u ∷ us) g gs c q below o =
     subst (IsInOne q) (append_assoc before (u ∷ []) us)
     (clear_at s (before ++ u ∷ []) us g gs c.1 q below o)
 
--- no clear front is longer than the sure frames
 sure_longest : (s : List ℕ) (others : List Found) → IsClear s others
     → length others ≤ length (sure s)
 sure_longest s others c =
@@ -371,11 +354,9 @@ sure_longest s others c =
           absurd (stop.outside (subst (λ q. IsInOne q (sure s)) (sym place) inside))
     ]
 
--- what sure gives is the longest clear front
 pub sure_is : (s : List ℕ) → IsSure s (sure s)
 sure_is s = record { clear = sure_clear s; longest = sure_longest s }
 
--- and it is the only one
 pub sure_only : (s : List ℕ) (fs : List Found) → IsSure s fs → fs ≡ sure s
 sure_only s fs c =
     let not_less = c.longest (sure s) (sure_clear s) in

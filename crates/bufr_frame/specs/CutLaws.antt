@@ -1,5 +1,5 @@
--- What `cut` gives is the one list of frames taken from the left, for the public law
--- `cut_is_taken_from_the_left`, and frames joined are cut into themselves, for `JoinedLaws`.
+-- `cut` is the only list of frames taken from the left, for the law `cut_is_taken_from_the_left`;
+-- and joined frames are their own cut, for `JoinedLaws`.
 use Rattle.std.proofs.Common.{◌≡◌, ◌≢◌, ℕ, zero, suc, ◌+◌, ◌-◌, ◌≤◌, Bool, true, false, cond, eqb}
 use Rattle.std.proofs.Common.{Some, List, [], ◌∷◌, ◌++◌, length, take, drop, refl, sym, ap, ◌∙◌}
 use Rattle.std.proofs.Common.{subst, arith, length-append, ◌⊎◌, inl, inr, append_assoc, eq-eqb}
@@ -17,7 +17,6 @@ use Rattle.bufr_frame.specs.Cuts.{IsFrameAt, IsFrameOf, AreApart, IsInOne, IsCut
 use Rattle.bufr_frame.specs.StreamLaws.{begins_from, begins_to, Frame-append, frames_frame}
 use Rattle.bufr_frame.specs.StreamLaws.{frames_other}
 
--- octets that are skipped have no frame
 skipped : (ended : Bool) (place : ℕ) (xs more : List ℕ)
     → frames_from ended place (length xs) (xs ++ more)
     ≡ frames_from ended (place + length xs) 0 more
@@ -27,11 +26,10 @@ skipped ended place (x ∷ xs) more =
     skipped ended (place + 1) xs more ∙ ap (λ p. frames_from ended p 0 more)
     (let e : (place + 1) + length xs ≡ place + length (x ∷ xs) = omega arith in e)
 
--- octets that are one frame, by what stands there
+-- the octets are one whole frame
 abbrev pub IsWhole : List ℕ → Type 0
 IsWhole octets = start_of octets ≡ Frame (length octets)
 
--- an octet list that is one frame is cut, and then what follows it
 one_more : (ended : Bool) (place : ℕ) (b more : List ℕ) → IsWhole b
     → frames_from ended place 0 (b ++ more) ≡ record { place = place; bytes = b }
     ∷ frames_from ended (place + length b) 0 more
@@ -49,7 +47,7 @@ one_more ended place (x ∷ xs) more h =
     (skipped ended (place + 1) xs more ∙ ap (λ p. frames_from ended p 0 more)
     (let e : (place + 1) + length xs ≡ place + length (x ∷ xs) = omega arith in e))
 
--- frames joined are the frames of what they make, whatever follows
+-- the frames of joined frames are these frames, whatever follows
 pub frames_from-joined : (ended : Bool) (place : ℕ) (bs : List (List ℕ)) (more : List ℕ)
     → AllByRecursion IsWhole bs →
     frames_from ended place 0 (flat_map (λ b. b) bs ++ more)
@@ -66,7 +64,7 @@ frames_from-joined ended place (b ∷ bs) more a =
     ≡ place + length (b ++ flat_map (λ c. c) bs) =
     omega (arith, length-append b (flat_map (λ c. c) bs)) in e))
 
--- what agrees to its end is the same
+-- lists that agree are the same as far as the second goes
 pub agrees_take : (xs ys : List ℕ) → length ys ≤ length xs → agrees xs ys ≡ true
     → take (length ys) xs ≡ ys
 agrees_take xs [] l h = refl
@@ -88,7 +86,7 @@ agrees_from (x ∷ xs) (y ∷ ys) h =
     let e : eqb x y ≡ true = eq-eqb x y cc in let t : take (length ys) xs ≡ ys = cc in
     rw e (agrees_from xs ys t)
 
--- the two ways to say that a frame stands at a place
+-- `start_of` finds a frame of the stream
 pub frame_from : (s : List ℕ) (p l : ℕ) → IsFrameAt s p l → start_of (drop p s) ≡ Frame l
 frame_from s p l f =
     let room : length (drop p s) + p ≡ length s = let w = f.whole in
@@ -102,7 +100,7 @@ frame_from s p l f =
       end = agrees_from (drop (l - 4) (drop p s)) sevens f.end;
     })
 
--- a frame that begins at a place is one of the stream
+-- a frame that `start_of` finds is one of the stream
 pub frame_to : (s : List ℕ) (p l : ℕ) → start_of (drop p s) ≡ Frame l → IsFrameAt s p l
 frame_to s p l h =
     let b = begins_from (drop p s) l h in
@@ -119,7 +117,7 @@ frame_to s p l h =
       end = agrees_take (drop (l - 4) (drop p s)) sevens last b.end;
     }
 
--- where a frame stands that comes from a place on, after the skipped octets
+-- a frame that begins from `place` on, after the skipped octets
 pub record Stood (place skip : ℕ) (xs : List ℕ) (f : Found) : Type 0 where
   pub n : ℕ
   pub at : f.place ≡ place + n
@@ -127,32 +125,30 @@ pub record Stood (place skip : ℕ) (xs : List ℕ) (f : Found) : Type 0 where
   pub start : start_of (drop n xs) ≡ Frame (length f.bytes)
   pub octets : f.bytes ≡ take (length f.bytes) (drop n xs)
 
--- what follows of each frame follows of all
 pub all_weaker : (P Q : Found → Type 0) → ((x : Found) → P x → Q x) → (xs : List Found)
     → AllByRecursion P xs → AllByRecursion Q xs
 all_weaker P Q f [] a = tt
 all_weaker P Q f (x ∷ xs) a = (f x a.0, all_weaker P Q f xs a.1)
 
--- where no frame begins, those behind the octet are all
+-- if no frame begins here, the frames are those after this octet
 pub frames_passed : (place x : ℕ) (xs : List ℕ) → (start_of (x ∷ xs) ≡ Other)
     ⊎ (start_of (x ∷ xs) ≡ Open) → frames_from true place 0 (x ∷ xs)
     ≡ frames_from true (place + 1) 0 xs
 frames_passed place x xs (inl h) = frames_other true place x xs h
 frames_passed place x xs (inr h) = rw (h, frames_from) refl
 
--- frames from a place on: each stands, they are apart, and each frame that begins is in one
+-- frames from a place on: each begins there, they are apart, and each frame that begins is inside
+-- one
 pub record Good (place skip : ℕ) (xs : List ℕ) (fs : List Found) : Type 0 where
   pub each : AllByRecursion (Stood place skip xs) fs
   pub apart : AreApart fs
   pub covers : (n l : ℕ) → skip ≤ n → start_of (drop n xs) ≡ Frame l → IsInOne (place + n) fs
 
--- a frame that stands from the next octet on stands from this one
 later : (place skip x : ℕ) (xs : List ℕ) (f : Found) → Stood (place + 1) skip xs f
     → Stood place (suc skip) (x ∷ xs) f
 later place skip x xs f s = let a = s.at in let p = s.past in
     record { n = suc s.n; at = omega arith; past = omega arith; start = s.start; octets = s.octets }
 
--- so do all of them, behind an octet that is skipped
 good_later : (place skip x : ℕ) (xs : List ℕ) (fs : List Found) → Good (place + 1) skip xs fs
     → Good place (suc skip) (x ∷ xs) fs
 good_later place skip x xs fs g = record {
@@ -169,18 +165,15 @@ good_later place skip x xs fs g = record {
         subst (λ q. IsInOne q fs) (let e : (place + 1) + n ≡ place + suc n = omega arith in e)
         (g.covers n l (omega arith) h)
 
--- in no octets no frame begins
 nowhere : (place n l : ℕ) → start_of (drop n []) ≡ Frame l → IsInOne (place + n) []
 nowhere place zero l h = cc
 nowhere place (suc n) l h = cc
 
--- a frame that stands behind an octet stands from this one
 later_0 : (place x : ℕ) (xs : List ℕ) (skip : ℕ) (f : Found) → Stood (place + 1) skip xs f
     → Stood place 0 (x ∷ xs) f
 later_0 place x xs skip f s = let a = s.at in
     record { n = suc s.n; at = omega arith; past = omega arith; start = s.start; octets = s.octets }
 
--- a frame that begins behind an octet is in one of those behind it
 passed_covers : (place x : ℕ) (xs : List ℕ) (fs : List Found)
     → ((l : ℕ) → start_of (x ∷ xs) ≢ Frame l) → Good (place + 1) 0 xs fs → (n l : ℕ) → 0 ≤ n
     → start_of (drop n (x ∷ xs)) ≡ Frame l → IsInOne (place + n) fs
@@ -189,7 +182,6 @@ passed_covers place x xs fs never g (suc n) l p h =
     subst (λ q. IsInOne q fs) (let e : (place + 1) + n ≡ place + suc n = omega arith in e)
     (g.covers n l (omega arith) h)
 
--- so the frames behind an octet are all, where none begins at it
 good_passed : (place x : ℕ) (xs : List ℕ) (fs : List Found)
     → ((l : ℕ) → start_of (x ∷ xs) ≢ Frame l) → Good (place + 1) 0 xs fs → Good place 0 (x ∷ xs) fs
 good_passed place x xs fs never g = record {
@@ -199,7 +191,6 @@ good_passed place x xs fs never g = record {
   covers = passed_covers place x xs fs never g;
 }
 
--- a frame that begins is the first or in one of those behind it
 frame_covers : (place x l : ℕ) (xs b : List ℕ) (fs : List Found) → length b ≡ l → 12 ≤ l
     → Good (place + 1) (l - 1) xs fs → (n k : ℕ) → 0 ≤ n → start_of (drop n (x ∷ xs)) ≡ Frame k
     → IsInOne (place + n) (record { place = place; bytes = b } ∷ fs)
@@ -211,7 +202,6 @@ frame_covers place x l xs b fs e long g (suc n) k p h =
       | inr q ↦ let below = q.1 in inl (omega arith, omega arith)
     ]
 
--- so a frame and those behind it are all
 good_frame : (place x l : ℕ) (xs : List ℕ) (fs : List Found) → start_of (x ∷ xs) ≡ Frame l
     → Good (place + 1) (l - 1) xs fs
     → Good place 0 (x ∷ xs) (record { place = place; bytes = take l (x ∷ xs) } ∷ fs)
@@ -239,7 +229,7 @@ good_frame place x l xs fs h g =
       covers = frame_covers place x l xs (take l (x ∷ xs)) fs size long g;
     }
 
--- what the scan finds from a place on
+-- the frames that the scan finds are such
 pub good : (place skip : ℕ) (xs : List ℕ) → Good place skip xs (frames_from true place skip xs)
 good place skip [] = record { each = tt; apart = tt; covers = λ n l _ h. nowhere place n l h }
 good place (suc skip) (x ∷ xs) = good_later place skip x xs _ (good (place + 1) skip xs)
@@ -256,7 +246,6 @@ good place zero (x ∷ xs) =
           (good_frame place x l xs _ h (good (place + 1) (l - 1) xs))
     ] refl
 
--- a frame that stands is one of the stream
 stood_of : (s : List ℕ) (f : Found) → Stood 0 0 s f → IsFrameOf s f
 stood_of s f t =
     let same : t.n ≡ f.place = let a = t.at in omega arith in
@@ -266,7 +255,7 @@ stood_of s f t =
       octets = subst (λ n. f.bytes ≡ take (length f.bytes) (drop n s)) same t.octets;
     }
 
--- what cut gives is the list of frames taken from the left
+-- `cut` is the list of frames taken from the left
 pub cut_is : (s : List ℕ) → IsCut s (cut s)
 cut_is s = let g = good 0 0 s in record {
   each = all_weaker (Stood 0 0 s) (IsFrameOf s) (stood_of s) (cut s) g.each;
@@ -275,7 +264,7 @@ cut_is s = let g = good 0 0 s in record {
       (g.covers p l (omega arith) (frame_from s p l f));
 }
 
--- ---- two such lists are one
+-- ---- there is one such list
 in_later : (place : ℕ) (fs : List Found) (bound : ℕ) → AllByRecursion (λ g. bound ≤ g.place) fs
     → IsInOne place fs → bound ≤ place
 in_later place [] bound a i = absurd i
@@ -289,7 +278,6 @@ record CutFrom (s : List ℕ) (from : ℕ) (fs : List Found) : Type 0 where
   pub apart : AreApart fs
   pub covers : (place l : ℕ) → from ≤ place → IsFrameAt s place l → IsInOne place fs
 
--- behind its first frame these are the others
 tail_of : (s : List ℕ) (from : ℕ) (f : Found) (fs : List Found) → CutFrom s from (f ∷ fs)
     → CutFrom s (f.place + length f.bytes) fs
 tail_of s from f fs c = record {
@@ -301,7 +289,6 @@ tail_of s from f fs c = record {
       [ inl i ↦ let j = i.1 in absurd (omega arith) | inr i ↦ i ];
 }
 
--- no frame of the stream begins before the first of them
 head_le : (s : List ℕ) (from : ℕ) (f g : Found) (gs : List Found) → CutFrom s from (g ∷ gs)
     → from ≤ f.place → IsFrameOf s f → g.place ≤ f.place
 head_le s from f g gs c past o =
@@ -311,7 +298,6 @@ head_le s from f g gs c past o =
           omega arith
     ]
 
--- frames of one place are one
 same_frame : (s : List ℕ) (f g : Found) → f.place ≡ g.place → IsFrameOf s f → IsFrameOf s g → f ≡ g
 same_frame s f g p a b =
     let t : Some (length f.bytes) ≡ Some (length g.bytes) =
@@ -322,7 +308,6 @@ same_frame s f g p a b =
     ∙ ap (λ q. take (length g.bytes) (drop q s)) p ∙ sym b.octets in
     ap (λ q. record f { place = q }) p ∙ ap (λ z. record g { bytes = z }) bytes
 
--- so the frames of a stream from a place on are known
 cut_same : (s : List ℕ) (from : ℕ) (fs gs : List Found) → CutFrom s from fs → CutFrom s from gs
     → fs ≡ gs
 cut_same s from [] [] c d = refl
@@ -340,12 +325,10 @@ cut_same s from (f ∷ fs) (g ∷ gs) c d =
     ap (λ h. h ∷ fs) one ∙ ap (λ hs. g ∷ hs)
     (cut_same s (f.place + length f.bytes) fs gs (tail_of s from f fs c) rest)
 
--- each place is 0 or more
 all_any : (fs : List Found) → AllByRecursion (λ g. 0 ≤ g.place) fs
 all_any [] = tt
 all_any (f ∷ fs) = (omega arith, all_any fs)
 
--- the frames of a stream are those from 0 on
 cut_from : (s : List ℕ) (fs : List Found) → IsCut s fs → CutFrom s 0 fs
 cut_from s fs c =
     record {
@@ -356,6 +339,6 @@ cut_from s fs c =
           λ p l _ at. c.covers p l at;
     }
 
--- and it is the only one
+-- no other list is the cut
 pub cut_only : (s : List ℕ) (fs : List Found) → IsCut s fs → fs ≡ cut s
 cut_only s fs c = cut_same s 0 fs (cut s) (cut_from s fs c) (cut_from s (cut s) (cut_is s))

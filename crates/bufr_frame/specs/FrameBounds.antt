@@ -1,6 +1,5 @@
--- The frames of a stream are no more than its octets, and have no more octets: for crates above,
--- which count frames and the octets outside them, as `run_add` of bufr_collect and `run_show` and
--- `run_check` of bufr_tool.
+-- A stream has no fewer octets than frames, and no fewer than its frames have: for crates above
+-- that count frames and the octets outside them.
 use Rattle.std.proofs.Common.{◌≡◌, ℕ, zero, suc, ◌+◌, ◌-◌, ◌≤◌, Bool, true, false, List, [], ◌∷◌}
 use Rattle.std.proofs.Common.{length, take, refl, arith}
 use Rattle.std.specs.Prelude.{sum_by}
@@ -12,23 +11,19 @@ use Rattle.bufr_frame.specs.Starts.{start_of}
 use Rattle.bufr_frame.specs.Streams.{frames_from, cut, sure}
 use Rattle.bufr_frame.specs.StreamLaws.{frames_other, frames_open, frames_frame}
 
--- at an open place of a stream that has ended the search goes on
 frames_past : (place x : ℕ) (xs : List ℕ) → start_of (x ∷ xs) ≡ Open
     → frames_from true place 0 (x ∷ xs) ≡ frames_from true (place + 1) 0 xs
 frames_past place x xs h = rw (h, frames_from) refl
 
--- at most as many frames as octets, and at most as many octets in them as are behind the skipped
--- ones
+-- at most as many frames as octets, and at most as many octets in them as after the skipped ones
 abbrev Few : List Found → ℕ → ℕ → Type 0
 Few frames skip long =
     (length frames ≤ long) × (sum_by (λ (f : Found). length f.bytes) frames ≤ long - skip)
 
--- one octet more, and no frame
 few_same : (frames others : List Found) (long : ℕ) → frames ≡ others → Few others 0 long
     → Few frames 0 (suc long)
 few_same frames others long e h = rw e (omega (arith, h.0), omega (arith, h.1))
 
--- one octet more, at which a frame starts
 few_frame : (frames others : List Found) (place l x : ℕ) (xs : List ℕ)
     → frames ≡ record { place = place; bytes = take l (x ∷ xs) } ∷ others
     → Few others (l - 1) (length xs) → Few frames 0 (suc (length xs))
@@ -38,7 +33,7 @@ few_frame frames others place l x xs e h =
     let sum = sum_by-cons (λ (g : Found). length g.bytes) f others in
     rw e (omega (arith, h.0), omega (arith, h.1, sum, long))
 
--- so it is with the frames of any octets
+-- the frames of any octets are few
 few : (ended : Bool) (place skip : ℕ) (xs : List ℕ)
     → Few (frames_from ended place skip xs) skip (length xs)
 few ended place skip [] = (omega arith, omega arith)
@@ -59,20 +54,20 @@ few ended place zero (x ∷ xs) =
           (few ended (place + 1) (l - 1) xs)
     ] refl
 
--- the sure frames of a stream are no more than its octets
+-- a stream has no more sure frames than octets
 pub sure_few : (stream : List ℕ) → length (sure stream) ≤ length stream
 sure_few stream = (few false 0 0 stream).0
 
--- nor are the frames of its cut
+-- a cut has no more frames than the stream has octets
 pub cut_few : (stream : List ℕ) → length (cut stream) ≤ length stream
 cut_few stream = (few true 0 0 stream).0
 
--- the sure frames of a stream have no more octets than it
+-- the sure frames have no more octets than the stream
 pub sure_short : (stream : List ℕ)
     → sum_by (λ (f : Found). length f.bytes) (sure stream) ≤ length stream
 sure_short stream = omega (arith, (few false 0 0 stream).1)
 
--- nor have the frames of its cut
+-- the frames of the cut have no more octets than the stream
 pub cut_short : (stream : List ℕ)
     → sum_by (λ (f : Found). length f.bytes) (cut stream) ≤ length stream
 cut_short stream = omega (arith, (few true 0 0 stream).1)

@@ -1,5 +1,4 @@
--- Frames joined are cut into themselves: for the public law `joined_frames_are_cut_apart` and for
--- crates above (`cut-joined`, `cut-followed`, `cut-front`).
+-- Joined frames are their own cut: for the law `joined_frames_are_cut_apart` and for crates above.
 use Rattle.std.proofs.Common.{◌≡◌, ℕ, zero, suc, ◌+◌, ◌-◌, ◌≤◌, true, List, [], ◌∷◌, ◌++◌, length}
 use Rattle.std.proofs.Common.{take, drop, refl, sym, ap, ◌∙◌, arith, take-append-drop}
 use Rattle.std.specs.List.{AllByRecursion, flat_map}
@@ -9,16 +8,15 @@ use Rattle.bufr_frame.specs.Streams.{frames_from, cut}
 use Rattle.bufr_frame.specs.Cuts.{IsOneFrame, frames_at}
 use Rattle.bufr_frame.specs.CutLaws.{IsWhole, frame_from, frames_from-joined}
 
--- octet lists, joined
+-- lists of octets, joined
 abbrev flat : List (List ℕ) → List ℕ
 flat frames = flat_map (λ b. b) frames
 
--- an octet list that is one frame is whole
 whole : (bs : List (List ℕ)) → AllByRecursion IsOneFrame bs → AllByRecursion IsWhole bs
 whole [] a = tt
 whole (b ∷ bs) a = (frame_from b 0 (length b) a.0, whole bs a.1)
 
--- joined frames are cut apart, and then what follows
+-- the cut of joined frames and what follows
 pub cut-followed : (bs : List (List ℕ)) (more : List ℕ) → AllByRecursion IsOneFrame bs
     → cut (flat_map (λ b. b) bs ++ more) ≡ frames_at 0 bs
     ++ frames_from true (length (flat_map (λ b. b) bs)) 0 more
@@ -27,25 +25,22 @@ cut-followed bs more a =
     ∙ ap (λ p. frames_at 0 bs ++ frames_from true p 0 more)
     (let e : 0 + length (flat bs) ≡ length (flat bs) = omega arith in e)
 
--- joined frames are cut apart
+-- the cut of joined frames
 pub cut-joined : (bs : List (List ℕ)) → AllByRecursion IsOneFrame bs
     → cut (flat_map (λ b. b) bs) ≡ frames_at 0 bs
 cut-joined bs a = ap cut (sym (append-nil (flat bs))) ∙ cut-followed bs [] a
     ∙ append-nil (frames_at 0 bs)
 
--- there are as many frames as octet lists
 length-frames_at : (place : ℕ) (bs : List (List ℕ)) → length (frames_at place bs) ≡ length bs
 length-frames_at place [] = refl
 length-frames_at place (b ∷ bs) = ap suc (length-frames_at (place + length b) bs)
 
--- the first of them are frames too
 first_whole : (k : ℕ) (bs : List (List ℕ)) → AllByRecursion IsOneFrame bs
     → AllByRecursion IsOneFrame (take k bs)
 first_whole zero bs a = tt
 first_whole (suc k) [] a = tt
 first_whole (suc k) (b ∷ bs) a = (a.0, first_whole k bs a.1)
 
--- a front that is longer than a list is the list and more
 take_past : (n : ℕ) (xs ys : List ℕ) → length xs ≤ n
     → take n (xs ++ ys) ≡ xs ++ take (n - length xs) ys
 take_past n [] ys h = ap (λ k. take k ys) (let e : n ≡ n - 0 = omega arith in e)
@@ -55,7 +50,7 @@ take_past (suc n) (x ∷ xs) ys h =
     ∙ ap (λ k. xs ++ take k ys) (let e : n - length xs ≡ suc n - length (x ∷ xs) = omega arith in
     e))
 
--- of a front of joined frames those that are whole are cut
+-- the cut of a part that contains the first `k` of joined frames begins with these
 pub cut-front : (bs : List (List ℕ)) (k n : ℕ) → AllByRecursion IsOneFrame bs → k ≤ length bs
     → length (flat_map (λ b. b) (take k bs)) ≤ n → take k (cut (take n (flat_map (λ b. b) bs)))
     ≡ frames_at 0 (take k bs)

@@ -1,9 +1,9 @@
--- What a look shows.
+-- A look as contracts see it.
 use Rattle.std.specs.Prelude.{List, []}
 use Rattle.bufr_frame.specs.declared.frames.Found.{Found}
 use Rattle.bufr_frame.specs.Framings.{Framing}
 
--- what a look shows: the frames, and the framer after they are handed out
+-- a look: the frames to hand out, and the framer after them
 pub record LookView : Type 0 where
   pub frames : List Found
   pub next : Framing

@@ -1,6 +1,5 @@
--- What a reader of a stream has handed out after each call of a framer, by the clauses of these
--- calls alone: for crates above, whose loops call `take_next` and `finish`, and for the public law
--- `frames_taken_are_the_sure_ones`.
+-- What a reader of a stream has handed out after each call of a framer, by the clauses of the calls
+-- alone: for crates above, and for the law `frames_taken_are_the_sure_ones`.
 use Rattle.std.proofs.Common.{◌≡◌, ℕ, ◌+◌, ◌≤◌, Some, List, [], ◌∷◌, ◌++◌, length, take, drop, refl}
 use Rattle.std.proofs.Common.{sym, ap, ◌∙◌, subst, arith, length-append, append_assoc}
 use Rattle.std.proofs.Common.{take-append-drop}
@@ -21,7 +20,6 @@ use Rattle.bufr_frame.specs.StreamLaws.{sure-piece, cut-end}
 pub handed_first : (framer : Framing) → Stands framer [] 0 → HandedOut framer [] []
 handed_first framer stands = record { stands = stands; first = refl }
 
--- frames out of sure ones stay first
 still_first : (stream more : List ℕ) (frames : List Found) → length frames ≤ length (sure stream)
     → frames ≡ take (length frames) (sure stream)
     → frames ≡ take (length frames) (sure (stream ++ more))
@@ -31,7 +29,6 @@ still_first stream more frames fits first =
     (drop (length (sure stream)) (sure (stream ++ more))) fits)
     ∙ ap (take (length frames)) (sym (sure-piece stream more))
 
--- one more element is the next
 one_longer : (frames all : List Found) (frame : Found) → frames ≡ take (length frames) all
     → slice_get all (length frames) ≡ Some frame
     → frames ++ frame ∷ [] ≡ take (length (frames ++ frame ∷ [])) all
@@ -57,7 +54,7 @@ handed_one before after stream taken frames frame h next stands = record {
       (next stream (length frames) h.stands);
 }
 
--- or none
+-- `take_next` hands out none
 pub handed_none : (before after : Framing) (stream taken : List ℕ) (frames : List Found)
     → HandedOut before stream frames → StandsAfter before after taken 0
     → HandedOut after (stream ++ taken) frames
@@ -68,13 +65,13 @@ handed_none before after stream taken frames h stands = record {
   first = still_first stream taken frames h.stands.out_of_sure h.first;
 }
 
--- all that is sure is out where no more frame is sure
+-- without a further sure frame, all sure frames are out
 pub handed_all : (framer : Framing) (stream : List ℕ) (frames : List Found)
     → HandedOut framer stream frames → length (sure stream) ≡ length frames → frames ≡ sure stream
 handed_all framer stream frames h all =
     h.first ∙ ap (λ n. take n (sure stream)) (sym all) ∙ take-length (sure stream)
 
--- what was handed out is a front of the sure frames, and so of those of each longer stream
+-- the frames handed out are the first sure ones, also of each longer stream
 pub handed_front : (framer : Framing) (stream : List ℕ) (frames : List Found)
     → HandedOut framer stream frames
     → sure stream ≡ frames ++ drop (length frames) (sure stream)
@@ -82,7 +79,7 @@ handed_front framer stream frames h =
     sym (take-append-drop (length frames) (sure stream))
     ∙ ap (λ (fs : List Found). fs ++ drop (length frames) (sure stream)) (sym h.first)
 
--- what the end hands out makes the cut
+-- with those of `finish` they are the cut
 pub handed_end : (framer : Framing) (stream : List ℕ) (frames last : List Found)
     → HandedOut framer stream frames → last ≡ drop (length frames) (cut stream)
     → frames ++ last ≡ cut stream
@@ -98,12 +95,12 @@ handed_end framer stream frames last h is =
 
 -- ---- within a piece
 
--- where a piece begins, nothing of it is taken in
+-- at the start of a piece, nothing of it is taken in
 pub between_first : (framer : Framing) (stream piece : List ℕ) (frames : List Found)
     → HandedOut framer stream frames → IsBetweenCalls framer (stream ++ piece) piece frames
 between_first framer stream piece frames h = record { taken = stream; parted = refl; handed = h }
 
--- a call that hands out a frame takes in some more
+-- a call that hands out a frame takes in more
 pub between_one : (before after : Framing) (stream piece rest : List ℕ)
     (frames : List Found) (frame : Found)
     → IsBetweenCalls before stream piece frames → IsRestOf piece rest
@@ -118,7 +115,7 @@ between_one before after stream piece rest frames frame t parted next stands = r
       t.handed next stands;
 }
 
--- a call that hands out none takes in all, and then all sure frames of the stream are out
+-- a call that hands out none takes in the whole piece, and all sure frames are out
 pub between_none : (before after : Framing) (stream piece : List ℕ) (frames : List Found)
     → IsBetweenCalls before stream piece frames → IsNoFrame before piece
     → StandsAfter before after piece 0
@@ -129,7 +126,7 @@ between_none before after stream piece frames t none stands =
     (none t.taken (length frames) t.handed.stands) in
     (subst (λ s. HandedOut after s frames) (sym t.parted) out, all ∙ ap sure (sym t.parted))
 
--- what was handed out is a front of the stream's sure frames
+-- the frames handed out are the first sure ones of the stream
 pub between_front : (framer : Framing) (stream rest : List ℕ) (frames : List Found)
     → IsBetweenCalls framer stream rest frames → (more : List Found) × (sure stream ≡ frames ++ more)
 between_front framer stream rest frames t =

@@ -1,5 +1,5 @@
--- How far a call of `take_next` comes in a piece: what it passes over, why it stops, and what it
--- then hands out and holds.
+-- How far a call of `take_next` comes in a piece: what it passes, why it stops, and what it hands
+-- out and holds.
 use Rattle.std.specs.Prelude.{◌≡◌, ℕ, ◌+◌, ◌<◌, ◌≤◌, ◌-◌, false, Option, Some, None, List, []}
 use Rattle.std.specs.Prelude.{◌++◌, length, take, drop, slice_get}
 use Rattle.bufr_frame.specs.declared.places.TheConstants.{LONGEST}
@@ -14,37 +14,37 @@ use Rattle.bufr_frame.specs.declared.reaching.Handed.{Handed}
 use Rattle.bufr_frame.specs.Starts.{agrees, bufr, start_of}
 use Rattle.bufr_frame.specs.Streams.{frames_from, rest_from}
 
--- the one list begins as the other
+-- the second list begins with the first
 abbrev pub Extends : List ℕ → List ℕ → Type 0
 Extends before after = (more : List ℕ) × (after ≡ before ++ more)
 
--- the octets held are an end of all these, before which nothing stands, whatever follows
+-- the octets held are the end of all these, and no frame begins before them, whatever follows
 pub record IsPassedTo (all held : List ℕ) : Type 0 where
   pub n : ℕ
   pub within : n ≤ length all
   pub rest : held ≡ drop n all
   pub others : (k : ℕ) → k < n → start_of (drop k all) ≡ Other
 
--- nothing is held, and a frame of so many octets stands after so many octets of the rest, none of
--- which begins as `BUFR`
+-- nothing is held, and a frame of length `l` begins after `skip` octets of the rest, none of which
+-- begins as `BUFR`
 pub record StandsInPiece (held rest : List ℕ) (skip l : ℕ) : Type 0 where
   pub nothing : held ≡ []
   pub within : skip ≤ length rest
   pub others : (k : ℕ) → k < skip → agrees (drop k rest) bufr ≡ false
   pub frame : start_of (drop skip rest) ≡ Frame l
 
--- nothing is left of the piece, and what is held is open
+-- nothing is left of the piece, and the octets held are open
 pub record StopsNowhere (held rest : List ℕ) : Type 0 where
   pub nothing : rest ≡ []
   pub waits : start_of held ≡ Open
 
--- why it stops, by the octets held and the rest of the piece
+-- why the call stops, by the octets held and the rest of the piece
 abbrev pub StopsAt : List ℕ → List ℕ → Stop → Type 0
 StopsAt held rest (Held l) = start_of held ≡ Frame l
 StopsAt held rest (Piece skip l) = StandsInPiece held rest skip l
 StopsAt held rest Nowhere = StopsNowhere held rest
 
--- so many of the octets of the rest were taken in, and what is held of them is kept
+-- the call takes in `n` octets of the rest, and keeps those of them that it holds
 pub record KeepsPart (held before after rest : List ℕ) (n : ℕ) : Type 0 where
   pub some : 1 ≤ n
   pub within : n ≤ length rest
@@ -53,13 +53,12 @@ pub record KeepsPart (held before after rest : List ℕ) (n : ℕ) : Type 0 wher
   pub short : length held + length kept ≤ LONGEST
   pub passed : IsPassedTo (held ++ take n rest) (held ++ kept)
 
--- what is done with the rest where these octets are held: nothing where a frame stands in it and
--- nothing is held, and else octets of it are taken in
+-- a step into the rest: a frame there, if nothing is held, or octets taken in
 abbrev pub KeepsMore : List ℕ → List ℕ → List ℕ → List ℕ → More → Type 0
 KeepsMore held before after rest (InRest skip l) = (after ≡ before) × StandsInPiece held rest skip l
 KeepsMore held before after rest (Octets n) = KeepsPart held before after rest n
 
--- of what was held and the piece, so much was taken in and passed over, and it stops there
+-- of the octets held and the piece: what the call takes in and passes, and where it stops
 pub record Reaches (held kept piece : List ℕ) (reached : Reached) : Type 0 where
   pub within : reached.from ≤ length kept
   pub taken : reached.taken ≤ length piece
@@ -67,23 +66,23 @@ pub record Reaches (held kept piece : List ℕ) (reached : Reached) : Type 0 whe
   pub passed : IsPassedTo (held ++ take reached.taken piece) (drop reached.from kept)
   pub stops : StopsAt (drop reached.from kept) (drop reached.taken piece) reached.stop
 
--- of all these octets from a place on, this is the first sure frame, and these are held after it
+-- this is the first sure frame of all octets from a place on, and these are held after it
 pub record HandsOverFrame (place : ℕ) (all held : List ℕ) (frame : Found) : Type 0 where
   pub next : slice_get (frames_from false place 0 all) 0 ≡ Some frame
   pub held_is : held ≡ rest_from 1 0 all
 
--- they have no sure frame, and these are held
+-- no frame of all octets from a place on is sure, and these are held
 pub record HandsOverNone (place : ℕ) (all held : List ℕ) : Type 0 where
   pub none : frames_from false place 0 all ≡ []
   pub held_is : held ≡ rest_from 0 0 all
 
--- the frame handed out and what is held then, or that there is none
+-- a frame handed out and what is held then, or no frame
 abbrev pub TakesOneOrNone : Option Found → ℕ → List ℕ → List ℕ → Type 0
 TakesOneOrNone (Some frame) place all held = HandsOverFrame place all held frame
 TakesOneOrNone None place all held = HandsOverNone place all held
 
--- of what was held and the piece, after so many octets of the stream: what was taken in, handed
--- out and kept; the piece is all taken in where none is handed out
+-- after `fed` octets of the stream, from the octets held and the piece: what the call takes in,
+-- hands out and keeps. Without a frame it takes in the whole piece
 pub record HandsOver (fed : ℕ) (held kept piece : List ℕ) (taking : Handed) : Type 0 where
   pub within : taking.from ≤ length kept
   pub half : taking.from ≤ length (drop taking.from kept)

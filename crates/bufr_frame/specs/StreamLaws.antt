@@ -1,5 +1,5 @@
--- How starts, frames and rests go on when octets are added: for the clauses of `feed` and
--- `take_next`, for the public law `sure_stays` and for crates above (`sure-piece`, `cut-end`).
+-- How starts, frames and rests go on as octets follow: for `feed` and `take_next`, for the law
+-- `sure_stays` and for crates above.
 use Rattle.std.proofs.Common.{◌≡◌, ℕ, zero, suc, ◌+◌, ◌-◌, ◌≤◌, Bool, true, false, cond, eqb}
 use Rattle.std.proofs.Common.{nat_lt, nat_le, Option, Some, None, List, [], ◌∷◌, ◌++◌, length, take}
 use Rattle.std.proofs.Common.{drop, refl, sym, ap, ◌∙◌, subst, arith, length-append, zero-add}
@@ -12,7 +12,6 @@ use Rattle.bufr_frame.specs.Starts.{bufr, sevens, agrees, announced, start_by, s
 use Rattle.bufr_frame.specs.Streams.{frames_from, cut, sure, rest_from, Stands}
 use Rattle.bufr_frame.specs.Framings.{Framing}
 
--- what disagrees goes on to disagree
 disagrees-append : (xs ys zs : List ℕ) → agrees xs ys ≡ false → agrees (xs ++ zs) ys ≡ false
 disagrees-append [] ys zs h = cc
 disagrees-append (x ∷ xs) [] zs h = cc
@@ -23,7 +22,6 @@ disagrees-append (x ∷ xs) (y ∷ ys) zs h =
       | false ↦ λ _. refl
     ] h
 
--- what agrees to the end of the second goes on to agree
 agrees-append : (xs ys zs : List ℕ) → length ys ≤ length xs → agrees xs ys ≡ true
     → agrees (xs ++ zs) ys ≡ true
 agrees-append [] [] [] l h = refl
@@ -37,21 +35,19 @@ agrees-append (x ∷ xs) (y ∷ ys) zs l h =
       | false ↦ λ e. e
     ] h
 
--- the same further on
 disagrees-drop : (n : ℕ) (xs ys zs : List ℕ) → agrees (drop n xs) ys ≡ false
     → agrees (drop n (xs ++ zs)) ys ≡ false
 disagrees-drop zero xs ys zs h = disagrees-append xs ys zs h
 disagrees-drop (suc n) [] ys zs h = cc
 disagrees-drop (suc n) (x ∷ xs) ys zs h = disagrees-drop n xs ys zs h
 
--- octets that agree behind a place agree with more octets too
 agrees-drop : (n : ℕ) (xs ys zs : List ℕ) → n + length ys ≤ length xs → agrees (drop n xs) ys ≡ true
     → agrees (drop n (xs ++ zs)) ys ≡ true
 agrees-drop zero xs ys zs l h = agrees-append xs ys zs (omega arith) h
 agrees-drop (suc n) [] ys zs l h = absurd (omega arith)
 agrees-drop (suc n) (x ∷ xs) ys zs l h = agrees-drop n xs ys zs (omega arith) h
 
--- a length that is announced stays with more octets
+-- a length stays with more octets
 pub announced-append : (xs zs : List ℕ) (l : ℕ) → announced xs ≡ Some l
     → announced (xs ++ zs) ≡ Some l
 announced-append (a ∷ b ∷ c ∷ d ∷ x ∷ y ∷ z ∷ xs) zs l h = h
@@ -63,7 +59,7 @@ announced-append (a ∷ b ∷ c ∷ d ∷ []) zs l h = cc
 announced-append (a ∷ b ∷ c ∷ d ∷ x ∷ []) zs l h = cc
 announced-append (a ∷ b ∷ c ∷ d ∷ x ∷ y ∷ []) zs l h = cc
 
--- it takes seven octets
+-- a length takes seven octets
 pub announced-length : (xs : List ℕ) (l : ℕ) → announced xs ≡ Some l → 7 ≤ length xs
 announced-length (a ∷ b ∷ c ∷ d ∷ x ∷ y ∷ z ∷ xs) l h = omega arith
 announced-length [] l h = cc
@@ -82,7 +78,6 @@ pub record FrameBegins (octets : List ℕ) (l : ℕ) : Type 0 where
   pub whole : l ≤ length octets
   pub end : agrees (drop (l - 4) octets) sevens ≡ true
 
--- the octets of a frame: their length is announced, and they end as they must
 frame_by : (o : Option ℕ) (octets : List ℕ) (l : ℕ) → start_by o octets ≡ Frame l
     → (o ≡ Some l) × (12 ≤ l) × (l ≤ length octets) × (agrees (drop (l - 4) octets) sevens ≡ true)
 frame_by None octets l h = cc
@@ -113,7 +108,7 @@ frame_by (Some k) octets l h =
           ] refl
     ] refl h
 
--- where the scan finds a frame, one begins
+-- a frame that `start_of` finds begins here
 pub begins_from : (octets : List ℕ) (l : ℕ) → start_of octets ≡ Frame l → FrameBegins octets l
 begins_from octets l h =
     elim (agrees octets bufr) as (λ b. agrees octets bufr ≡ b
@@ -123,12 +118,11 @@ begins_from octets l h =
       | false ↦ λ _ e. cc
     ] refl h
 
--- and where one begins, it finds it
+-- `start_of` finds a frame that begins here
 pub begins_to : (octets : List ℕ) (l : ℕ) → FrameBegins octets l → start_of octets ≡ Frame l
 begins_to octets l b =
     rw (b.mark, b.told, le-ltb l 12 b.long, b.end, le-leb l (length octets) b.whole) refl
 
--- a frame that begins stays with more octets
 FrameBegins-append : (octets more : List ℕ) (l : ℕ) → FrameBegins octets l
     → FrameBegins (octets ++ more) l
 FrameBegins-append octets more l b = let whole = b.whole in let long = b.long in record {
@@ -139,13 +133,13 @@ FrameBegins-append octets more l b = let whole = b.whole in let long = b.long in
   end = agrees-drop (l - 4) octets sevens more (omega arith) b.end;
 }
 
--- so does the one that the scan finds
+-- a frame stays with more octets
 pub Frame-append : (octets more : List ℕ) (l : ℕ) → start_of octets ≡ Frame l
     → start_of (octets ++ more) ≡ Frame l
 Frame-append octets more l h =
     begins_to _ l (FrameBegins-append octets more l (begins_from octets l h))
 
--- where no frame begins, none does when more octets come
+-- octets that begin no frame begin none with more octets
 pub Other-append : (octets more : List ℕ) → start_of octets ≡ Other
     → start_of (octets ++ more) ≡ Other
 Other-append octets more h =
@@ -184,50 +178,50 @@ Other-append octets more h =
       | false ↦ λ no _. rw (disagrees-append octets bufr more no) refl
     ] refl h
 
--- the frames of some octets are those of their front and those of the rest
+-- the frames of all octets are those of the first ones and those of the rest
 abbrev PartsFrames : Bool → ℕ → ℕ → ℕ → List ℕ → List ℕ → Type 0
 PartsFrames ended place skip out xs more =
     (at : ℕ) → at + length (rest_from out skip xs) ≡ place + length xs →
     frames_from ended place skip (xs ++ more) ≡ take out (frames_from false place skip xs)
     ++ frames_from ended at 0 (rest_from out skip xs ++ more)
 
--- what the frames from a place on are, by what stands there
+-- if no frame begins here, the frames are those after this octet
 pub frames_other : (ended : Bool) (place : ℕ) (x : ℕ) (xs : List ℕ) → start_of (x ∷ xs) ≡ Other
     → frames_from ended place 0 (x ∷ xs) ≡ frames_from ended (place + 1) 0 xs
 frames_other ended place x xs h = rw (h, frames_from) refl
 
--- where a place is open, no frame is sure
+-- at an open place no frame is sure
 pub frames_open : (place : ℕ) (x : ℕ) (xs : List ℕ) → start_of (x ∷ xs) ≡ Open
     → frames_from false place 0 (x ∷ xs) ≡ []
 frames_open place x xs h = rw (h, frames_from) refl
 
--- where a frame begins, it is the first
+-- a frame that begins here is the first
 pub frames_frame : (ended : Bool) (place l : ℕ) (x : ℕ) (xs : List ℕ) → start_of (x ∷ xs) ≡ Frame l
     → frames_from ended place 0 (x ∷ xs) ≡ record { place = place; bytes = take l (x ∷ xs) }
     ∷ frames_from ended (place + 1) (l - 1) xs
 frames_frame ended place l x xs h = rw (h, frames_from) refl
 
--- where none begins, the rest is behind the octet
+-- if no frame begins here, the rest is that after this octet
 pub rest_other : (out x : ℕ) (xs : List ℕ) → start_of (x ∷ xs) ≡ Other
     → rest_from out 0 (x ∷ xs) ≡ rest_from out 0 xs
 rest_other out x xs h = rw (h, rest_from) refl
 
--- where a place is open, all is left
+-- at an open place all is left
 pub rest_open : (out x : ℕ) (xs : List ℕ) → start_of (x ∷ xs) ≡ Open
     → rest_from out 0 (x ∷ xs) ≡ x ∷ xs
 rest_open out x xs h = rw (h, rest_from) refl
 
--- where no more frames are asked for, all is left
+-- before any frame is out, all is left from a frame on
 pub rest_none : (l x : ℕ) (xs : List ℕ) → start_of (x ∷ xs) ≡ Frame l
     → rest_from 0 0 (x ∷ xs) ≡ x ∷ xs
 rest_none l x xs h = rw (h, rest_from) refl
 
--- where one begins, the rest is behind it
+-- after a frame, the rest is that after its octets
 pub rest_frame : (out l x : ℕ) (xs : List ℕ) → start_of (x ∷ xs) ≡ Frame l
     → rest_from (suc out) 0 (x ∷ xs) ≡ rest_from out (l - 1) xs
 rest_frame out l x xs h = rw (h, rest_from) refl
 
--- after the first frames, those of the longer stream are those of what was left and what came
+-- after the first frames, those of a longer stream come from the octets left and the new ones
 pub frames_from-append : (ended : Bool) (place skip out : ℕ) (xs more : List ℕ) → skip ≤ length xs
     → out ≤ length (frames_from false place skip xs) → PartsFrames ended place skip out xs more
 frames_from-append ended place zero zero [] more s o at e = let same : at ≡ place = omega arith in
@@ -286,12 +280,12 @@ frames_from-append ended place zero (suc out) (x ∷ xs) more s o at e =
           ++ frames_from ended at 0 (r ++ more)) (sym (rest_frame out l x xs h))
     ] refl
 
--- the rest behind some frames is the rest of the rest behind the first
+-- the rest after some frames, taken in two steps
 abbrev Rests : ℕ → ℕ → ℕ → List ℕ → List ℕ → Type 0
 Rests skip out n xs more = rest_from (out + n) skip (xs ++ more)
     ≡ rest_from n 0 (rest_from out skip xs ++ more)
 
--- what is left of the longer stream is what is left of what was left and what came
+-- the rest of a longer stream is that of the octets left and the new ones
 pub rest_from-append : (place skip out n : ℕ) (xs more : List ℕ) → skip ≤ length xs
     → out ≤ length (frames_from false place skip xs) → Rests skip out n xs more
 rest_from-append place zero zero n [] more s o = ap (λ k. rest_from k 0 more) (zero-add n)
@@ -342,34 +336,33 @@ rest_from-length out zero (x ∷ xs) =
       ]
     ] refl
 
--- what is left is what follows some place
+-- the octets left follow a place
 pub rest_from-place : (out : ℕ) (s : List ℕ)
     → (length s - length (rest_from out 0 s)) + length (rest_from out 0 s) ≡ 0 + length s
 rest_from-place out s = omega (arith, rest_from-length out 0 s)
 
--- where the octets that a framer holds begin
+-- the place of the first octet held
 abbrev pub place_of : Framing → ℕ
 place_of framer = framer.fed - length framer.held
 
--- the sure frames of the longer stream, by what the framer is
+-- the sure frames of a longer stream, by the framer
 pub Stands-sure : (v : Framing) (s : List ℕ) (out : ℕ) (more : List ℕ) → Stands v s out
     → sure (s ++ more) ≡ take out (sure s) ++ frames_from false (place_of v) 0 (v.held ++ more)
 Stands-sure v s out more st = rw (st.fed, st.held)
     (frames_from-append false 0 0 out s more (omega arith) st.out_of_sure _ (rest_from-place out s))
 
--- the frames of the longer stream, by what the framer is
+-- the cut of a longer stream, by the framer
 pub Stands-cut : (v : Framing) (s : List ℕ) (out : ℕ) (more : List ℕ) → Stands v s out
     → cut (s ++ more) ≡ take out (sure s) ++ frames_from true (place_of v) 0 (v.held ++ more)
 Stands-cut v s out more st = rw (st.fed, st.held)
     (frames_from-append true 0 0 out s more (omega arith) st.out_of_sure _ (rest_from-place out s))
 
--- behind the front of a list stands its back
 after_taken : {A : Type 0} (n : ℕ) (xs ys zs : List A) → n ≤ length xs → zs ≡ take n xs ++ ys
     → drop n zs ≡ ys
 after_taken n xs ys zs l h = let here : length (take n xs) ≡ n = length-take-le n xs l in
     ap (drop n) h ∙ ap (λ k. drop k (take n xs ++ ys)) (sym here) ∙ drop-append_seam (take n xs) ys
 
--- what a framer hands out for a piece, if it hands out all that is sure
+-- what a framer hands out for a piece, if it hands out all sure frames
 pub Stands-found : (v : Framing) (s : List ℕ) (out : ℕ) (more : List ℕ) → Stands v s out
     → drop out (sure (s ++ more)) ≡ frames_from false (place_of v) 0 (v.held ++ more)
 Stands-found v s out more st =
@@ -381,7 +374,7 @@ pub Stands-ended : (v : Framing) (s : List ℕ) (out : ℕ) → Stands v s out
 Stands-ended v s out st = rw (append-nil s, append-nil v.held) at
     (after_taken out (sure s) _ _ st.out_of_sure (Stands-cut v s out [] st))
 
--- a framer that has handed out n more frames of what it holds and the piece
+-- a framer after `n` further frames of what it holds and the piece
 pub Stands-more : (v : Framing) (s : List ℕ) (out n : ℕ) (more : List ℕ) → Stands v s out
     → n ≤ length (frames_from false (place_of v) 0 (v.held ++ more)) →
     Stands (record { fed = v.fed + length more; held = rest_from n 0 (v.held ++ more) }) (s ++ more)
@@ -399,7 +392,7 @@ Stands-more v s out n more st l =
       held = rw st.held (sym (rest_from-append 0 0 out n s more (omega arith) st.out_of_sure));
     }
 
--- a framer that has handed out all that is sure
+-- a framer after all sure frames
 pub Stands-all : (v : Framing) (s : List ℕ) (out : ℕ) (more : List ℕ) → Stands v s out →
     Stands (record {
       fed = v.fed + length more;
@@ -418,7 +411,7 @@ Stands-all v s out more st =
     ) in
     rw all at (Stands-more v s out n more st (omega arith))
 
--- sure frames stay sure, and are frames of the stream when it ends
+-- sure frames stay sure
 pub sure-append : (s more : List ℕ) → (new : List Found) × (sure (s ++ more) ≡ sure s ++ new)
 sure-append s more =
     let v : Framing = record { fed = length s; held = rest_from (length (sure s)) 0 s } in
@@ -429,7 +422,7 @@ sure-append s more =
           ∙ ap (λ a. a ++ frames_from false (place_of v) 0 (v.held ++ more)) (take-length (sure s)),
     )
 
--- the sure frames of a stream stay, whatever follows
+-- sure frames begin the cut of each longer stream
 pub cut-append : (s more : List ℕ) → (new : List Found) × (cut (s ++ more) ≡ sure s ++ new)
 cut-append s more =
     let v : Framing = record { fed = length s; held = rest_from (length (sure s)) 0 s } in
@@ -440,21 +433,21 @@ cut-append s more =
           ∙ ap (λ a. a ++ frames_from true (place_of v) 0 (v.held ++ more)) (take-length (sure s)),
     )
 
--- the sure frames of a longer stream are those of the stream and those that came
+-- the sure frames of a longer stream: those of the stream, and new ones
 pub sure-piece : (s more : List ℕ) → sure (s ++ more)
     ≡ sure s ++ drop (length (sure s)) (sure (s ++ more))
 sure-piece s more = let a = sure-append s more in
     a.1 ∙ ap (λ fs. sure s ++ fs) (sym (drop-append_seam (sure s) a.0)
     ∙ ap (drop (length (sure s))) (sym a.1))
 
--- the frames of an ended stream are those that were sure and those that came last
+-- the cut of a stream: its sure frames, and the last ones
 pub cut-end : (s : List ℕ) → cut s ≡ sure s ++ drop (length (sure s)) (cut s)
 cut-end s = let a = cut-append s [] in let b : cut s ≡ sure s ++ a.0 =
     ap cut (sym (append-nil s)) ∙ a.1 in
     b ∙ ap (λ fs. sure s ++ fs) (sym (drop-append_seam (sure s) a.0)
     ∙ ap (drop (length (sure s))) (sym b))
 
--- the frames of a longer stream that has ended are those that were sure and the others
+-- the cut of a longer stream: the sure frames of the stream, and others
 pub cut-piece : (s more : List ℕ) → cut (s ++ more)
     ≡ sure s ++ drop (length (sure s)) (cut (s ++ more))
 cut-piece s more = let a = cut-append s more in

@@ -1,6 +1,5 @@
--- Worked examples: a message of 62 octets (`sequences`); it, a stray `BUFR` and it again after a
--- bulletin's heading; a message that stands in the character data of another; a frame that could
--- still have been the end of an outer one.
+-- Worked examples: a message; it twice after a bulletin's heading, with a stray `BUFR` between; a
+-- message in another's character data; a frame inside a longer one that may still end.
 use Rattle.std.specs.Prelude.{◌≡◌, ℕ, List, [], ◌∷◌, ◌++◌, length, map, take, refl}
 use Rattle.bufr_frame.specs.declared.places.Start.{Start}
 use Rattle.bufr_frame.specs.Starts.{start_of}
@@ -13,7 +12,7 @@ sequences = 66 ∷ 85 ∷ 70 ∷ 82 ∷ 0 ∷ 0 ∷ 62 ∷ 4 ∷ 0 ∷ 0 ∷ 22 
     ∷ 193 ∷ 12 ∷ 12 ∷ 101 ∷ 0 ∷ 0 ∷ 13 ∷ 0 ∷ 20 ∷ 192 ∷ 63 ∷ 64 ∷ 158 ∷ 192 ∷ 26 ∷ 172 ∷ 192 ∷ 55
     ∷ 55 ∷ 55 ∷ 55 ∷ []
 
--- a bulletin's header, such a message, four octets that begin no frame, and it again
+-- a bulletin's heading, such a message, a stray `BUFR`, and the message again
 abbrev two_frames_and_a_stray : List ℕ
 two_frames_and_a_stray = 73 ∷ 83 ∷ 77 ∷ 68 ∷ 48 ∷ 49 ∷ 32 ∷ 69 ∷ 68 ∷ 90 ∷ 87 ∷ 32 ∷ 49 ∷ 53 ∷ 49
     ∷ 50 ∷ 48 ∷ 48 ∷ 66 ∷ 85 ∷ 70 ∷ 82 ∷ 0 ∷ 0 ∷ 62 ∷ 4 ∷ 0 ∷ 0 ∷ 22 ∷ 0 ∷ 0 ∷ 98 ∷ 0 ∷ 0 ∷ 0 ∷ 0
@@ -32,44 +31,44 @@ message_in_character_data = 66 ∷ 85 ∷ 70 ∷ 82 ∷ 0 ∷ 0 ∷ 99 ∷ 4 ∷
     ∷ 0 ∷ 0 ∷ 2 ∷ 0 ∷ 37 ∷ 0 ∷ 7 ∷ 232 ∷ 1 ∷ 15 ∷ 12 ∷ 0 ∷ 0 ∷ 0 ∷ 0 ∷ 13 ∷ 0 ∷ 0 ∷ 1 ∷ 128 ∷ 65 ∷ 0
     ∷ 31 ∷ 1 ∷ 12 ∷ 101 ∷ 0 ∷ 0 ∷ 5 ∷ 0 ∷ 0 ∷ 55 ∷ 55 ∷ 55 ∷ 55 ∷ 55 ∷ 55 ∷ 55 ∷ 55 ∷ []
 
--- a frame in one that would begin before it and has no end
+-- a frame inside a longer one without an end
 abbrev ruled_out_outer_frame : List ℕ
 ruled_out_outer_frame = 66 ∷ 85 ∷ 70 ∷ 82 ∷ 0 ∷ 0 ∷ 22 ∷ 4 ∷ 66 ∷ 85 ∷ 70 ∷ 82 ∷ 0 ∷ 0 ∷ 12 ∷ 4 ∷ 55
     ∷ 55 ∷ 55 ∷ 55 ∷ []
 
--- a frame of 12 octets, the least that there are
+-- a frame of 12 octets, the shortest
 abbrev pub shortest : List ℕ
 shortest = 66 ∷ 85 ∷ 70 ∷ 82 ∷ 0 ∷ 0 ∷ 12 ∷ 4 ∷ 55 ∷ 55 ∷ 55 ∷ 55 ∷ []
 
--- what stands at a length of 12, an eighth octet and what follows it
+-- what begins with a length of 12, this eighth octet and these after it
 abbrev pub shortest_with : ℕ → List ℕ → Start
 shortest_with eighth octets = start_of (66 ∷ 85 ∷ 70 ∷ 82 ∷ 0 ∷ 0 ∷ 12 ∷ eighth ∷ octets)
 
--- seven octets that announce the greatest length
+-- seven octets with the greatest length
 abbrev pub open_for_long : List ℕ
 open_for_long = 66 ∷ 85 ∷ 70 ∷ 82 ∷ 255 ∷ 255 ∷ 255 ∷ []
 
--- both messages are cut
+-- the cut has both messages
 two : map (λ f. f.place) (cut two_frames_and_a_stray) ≡ 18 ∷ 84 ∷ []
 two = refl
 
--- and their octets are these
+-- with these octets
 two_octets : map (λ f. f.bytes) (cut two_frames_and_a_stray) ≡ sequences ∷ sequences ∷ []
 two_octets = refl
 
--- before the end only the first is sure
+-- only the first is sure before the end
 one_sure : map (λ f. f.place) (sure two_frames_and_a_stray) ≡ 18 ∷ []
 one_sure = refl
 
--- then the second is held, with the four octets before it
+-- a framer then holds the second, and the four octets before it
 held : length (rest_from 1 0 two_frames_and_a_stray) ≡ 66
 held = refl
 
--- the outer message alone is cut
+-- the cut has the outer message alone
 whole : map (λ f. f.place) (cut message_in_character_data) ≡ 0 ∷ []
 whole = refl
 
--- where it is cut off, the inner one is
+-- cut off, it has the inner one
 cut_off : map (λ f. f.place) (cut (take 98 message_in_character_data)) ≡ 43 ∷ []
 cut_off = refl
 
@@ -77,7 +76,7 @@ cut_off = refl
 cut_off_length : map (λ f. length f.bytes) (cut (take 98 message_in_character_data)) ≡ 52 ∷ []
 cut_off_length = refl
 
--- nothing is sure as long as the outer one may end
+-- nothing is sure while the outer frame may end
 none_yet : sure ruled_out_outer_frame ≡ []
 none_yet = refl
 

@@ -15,14 +15,14 @@ use crate::next_frame::{NextFrame, Taken};
 use crate::places::{Start, start_of};
 use crate::reaching::{hand_over, near_mark};
 use crate::scans::frames_in;
-use bufr_answers::OutOfMemory;
+use bufr_base::OutOfMemory;
 use std::alloc::Global;
 use std::marker::Model;
 
-/// Finds the frames of a stream that comes in pieces.
+/// A framer: finds the frames of a stream that comes in pieces.
 #[derive(Debug, Drop)]
 pub struct Framer {
-    // The octets held are those from `from` on.
+    // Holds the octets from `from` on.
     octets: Vec<u8>,
     from: usize,
     fed: u64,
@@ -40,7 +40,7 @@ impl Model for Framer {
 }
 
 impl Framer {
-    /// A framer of an empty stream. Takes no memory.
+    /// Starts an empty stream.
     pub fn new(alloc: Global) -> Framer
         ensures starts { Stands result [] 0 }
         ensures empty { result ≡ new_framing }
@@ -52,14 +52,14 @@ impl Framer {
         }
     }
 
-    /// How many octets it took in. Takes no memory.
+    /// Returns the number of octets taken in.
     pub fn fed(&self) -> u64
         ensures { result ≡ self.now.fed }
     {
         self.fed
     }
 
-    /// How many octets it holds. Takes no memory.
+    /// Returns the number of octets held.
     pub fn pending(&self) -> usize
         ensures held { result ≡ length self.now.held }
         ensures bounded { result ≤ LONGEST }
@@ -67,7 +67,7 @@ impl Framer {
         self.octets.len() - self.from
     }
 
-    /// What `feed` of this piece would hand out, and the framer after it.
+    /// Returns what `feed` would hand out for this piece, and the framer after it.
     pub fn look(&self, piece: &[u8]) -> Result<Look, OutOfMemory>
         requires { self.now.fed + length piece.now < 2 ^ 64 }
         ensures found { IfOk result (λ look. AreSureNext self.now piece.now look.frames) }
@@ -84,7 +84,7 @@ impl Framer {
         Ok(Look { frames, next })
     }
 
-    /// What `finish` would hand out, and the framer after it.
+    /// Returns what `finish` would hand out, and the framer after it.
     pub fn look_end(&self) -> Result<Look, OutOfMemory>
         ensures found { IfOk result (λ look. AreLast self.now look.frames) }
         ensures next { IfOk result (λ look. look.next ≡ new_framing) }
@@ -99,8 +99,7 @@ impl Framer {
         })
     }
 
-    /// Puts the look's framer in place of this one, whichever framer made the look, and hands out
-    /// its frames. Takes no memory.
+    /// Takes over the framer of a look, and hands out its frames.
     pub fn settle(&mut self, look: Look) -> Vec<Found>
         ensures frames { result.items ≡ look.frames }
         ensures next { self.new ≡ look.next }
@@ -125,10 +124,8 @@ impl Framer {
         Ok(scan.frames)
     }
 
-    /// Takes in a front of the piece and hands out the next frame that is sure then, or none where
-    /// it has taken in all of the piece and no further frame is sure. Call it again with the rest
-    /// until it hands out none: an empty rest alone does not say that no frame is left. Err where
-    /// memory runs out; nothing is changed then.
+    /// Takes in the piece up to the next sure frame, and hands out a copy. Call it again with the
+    /// rest until it hands out none: even an empty rest may leave frames.
     pub fn take_next<'p>(&mut self, piece: &'p [u8]) -> Result<Taken<'p>, OutOfMemory>
         requires { self.old.fed + length piece.now < 2 ^ 64 }
         ensures rest { IfOk result (λ taken. IsRestOf piece.now taken.rest.now) }
@@ -153,9 +150,7 @@ impl Framer {
         })
     }
 
-    /// What `take_next` does, but the frame is lent where it lies whole in the piece, which takes no
-    /// memory. Call it again with the rest until it hands out none. Err where memory runs out;
-    /// nothing is changed then.
+    /// Does what `take_next` does, but lends a frame that lies whole in the piece.
     pub fn next_frame<'p>(&mut self, piece: &'p [u8]) -> Result<NextFrame<'p>, OutOfMemory>
         requires { self.old.fed + length piece.now < 2 ^ 64 }
         ensures rest { IfOk result (λ next. IsRestOf piece.now next.rest.now) }
@@ -185,8 +180,7 @@ impl Framer {
         }
     }
 
-    /// The frame at the next mark of the piece, and what is left of the piece behind it, where
-    /// nothing is held and the mark is near. Else nothing is changed.
+    /// Lends the frame at the next mark of the piece, if nothing is held and the mark is near.
     fn lend<'p>(&mut self, piece: &'p [u8]) -> Option<(LentFrame<'p>, &'p [u8])>
         requires { self.old.fed + length piece.now < 2 ^ 64 }
         ensures rest { IfSome result (λ lent. IsRestOf piece.now lent.1.now) }
@@ -211,7 +205,7 @@ impl Framer {
         Some((frame, &piece[end..]))
     }
 
-    /// Ends the stream, and hands out its last frames. The framer is then as new.
+    /// Ends the stream and hands out its last frames. The framer then starts anew.
     pub fn finish(&mut self) -> Result<Vec<Found>, OutOfMemory>
         ensures found { IfOk result (λ found. AreLast self.old found.items) }
         ensures next { OnOk result (self.new ≡ new_framing) }

@@ -5,14 +5,14 @@ ghost use Rattle.bufr_frame.specs.declared.places.TheConstants.{LONGEST};
 ghost use Rattle.bufr_frame.specs.Streams.{frames_from, rest_from};
 
 use crate::scans::{Scan, frames_in};
-use bufr_answers::OutOfMemory;
+use bufr_base::OutOfMemory;
 
-/// Memory for four times so many octets is not given back, however few are kept.
+/// A framer keeps memory of up to four times this number of octets.
 const ROOM: usize = 65_536;
 
-/// Lets go of the octets before a place where they are more than those after it, and gives back
-/// memory of which less than a quarter is needed then. Answers where the place is then.
-pub fn let_go(octets: &mut Vec<u8>, place: usize) -> usize
+/// Drops the octets before a place if they outnumber the others, and returns the new place. Gives
+/// memory back if less than a quarter is in use.
+pub(crate) fn let_go(octets: &mut Vec<u8>, place: usize) -> usize
     requires { place ≤ length octets.old.items }
     ensures held { drop result octets.new.items ≡ drop place octets.old.items }
     ensures half { result ≤ length (drop result octets.new.items) }
@@ -31,9 +31,7 @@ pub fn let_go(octets: &mut Vec<u8>, place: usize) -> usize
     0
 }
 
-/// Finds the frames that are sure in a piece that follows `place` octets of the stream, none of
-/// them held, and keeps what is left of it. The piece is searched where it stands. Answers the
-/// frames, and where the octets held begin.
+/// Searches a piece in place when nothing is held, and keeps the rest.
 fn scan_in_place(octets: &mut Vec<u8>, place: u64, piece: &[u8]) -> Result<Scan, OutOfMemory>
     requires { place + length piece.now < 2 ^ 64 }
     ensures frames { IfOk result (λ scan. scan.frames.items ≡ frames_from false place 0 piece.now) }
@@ -54,10 +52,8 @@ fn scan_in_place(octets: &mut Vec<u8>, place: u64, piece: &[u8]) -> Result<Scan,
     Ok(Scan { frames, rest })
 }
 
-/// Appends a piece to the octets kept and finds the frames that are sure now. Those from `from` on
-/// are held, and follow `place` octets of the stream. Answers the frames, and where the octets held
-/// begin then.
-pub fn append_and_scan(
+/// Appends a piece to the octets from `from` on, and finds the frames that are sure now.
+pub(crate) fn append_and_scan(
     octets: &mut Vec<u8>,
     from: usize,
     place: u64,

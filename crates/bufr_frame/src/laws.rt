@@ -1,4 +1,4 @@
-//! Laws of frames. Each function states one by its contract, and does nothing.
+//! Laws of frames.
 ghost use Rattle.std.specs.Prelude.{◌≡◌, ◌↔◌, ◌≤◌, ◌+◌, ◌++◌, ◌∷◌, [], ℕ, true, List, length, take};
 ghost use Rattle.std.specs.Prelude.{drop};
 ghost use Rattle.std.specs.List.{AllByRecursion};
@@ -11,24 +11,23 @@ ghost use Rattle.bufr_frame.specs.Holdings.{StandsFor};
 ghost use Rattle.bufr_frame.specs.NextFrames.{taken_in, IsRestOf, IsNextFrame, IsNoFrame};
 ghost use Rattle.bufr_frame.specs.NextFrames.{StandsAfter, HandedOut, IsBetweenCalls};
 
-/// The cut of a stream is the one list of frames that stand there, in order and apart, such that
-/// each place at which a frame stands lies in one of them.
+/// The cut is the only list of frames of a stream, in order and apart, such that each frame of the
+/// stream begins inside one of the list.
 pub fn cut_is_taken_from_the_left()
     ensures is { (stream : List ℕ) → IsCut stream (cut stream) }
     ensures only { (stream : List ℕ) (frames : List FoundFrame)
         → IsCut stream frames → frames ≡ cut stream }
 {}
 
-/// The sure frames of a stream are the longest front of its cut in which no frame has before it an
-/// open place outside the frames before.
+/// The sure frames are the longest start of the cut in which no frame has before it an open place,
+/// outside earlier frames.
 pub fn sure_is_the_longest_clear_front()
     ensures is { (stream : List ℕ) → IsSure stream (sure stream) }
     ensures only { (stream : List ℕ) (frames : List FoundFrame)
         → IsSure stream frames → frames ≡ sure stream }
 {}
 
-/// Sure frames stay sure however the stream goes on, and are frames of the cut when it ends. So all
-/// that was handed out for a stream is sure, and at its end it is the cut of the whole.
+/// Sure frames stay sure whatever follows, and begin the cut.
 pub fn sure_stays()
     ensures sure { (stream more : List ℕ) → sure (stream ++ more)
         ≡ sure stream ++ drop (length (sure stream)) (sure (stream ++ more)) }
@@ -38,14 +37,14 @@ pub fn sure_stays()
         ≡ sure stream ++ drop (length (sure stream)) (cut (stream ++ more)) }
 {}
 
-/// What a framer holds, as it is computed, is what it must hold in words.
+/// What a framer holds, by functions, is what it must hold, by relations.
 pub fn framer_holds_what_it_must()
     ensures { (framer : Framing) (stream : List ℕ) (out : ℕ)
         → Stands framer stream out ↔ StandsFor framer stream out }
 {}
 
-/// Octet lists each of which is one frame have, joined, exactly these frames as their cut, and the
-/// cut of a front that contains the first so many whole begins with these.
+/// Whole frames, joined, are their own cut, whatever follows. If a part contains the first `k`, its
+/// cut begins with these.
 pub fn joined_frames_are_cut_apart()
     ensures joined { (frames : List (List ℕ)) → AllByRecursion IsOneFrame frames
         → cut (joined frames) ≡ frames_at 0 frames }
@@ -57,10 +56,8 @@ pub fn joined_frames_are_cut_apart()
         ≡ frames_at 0 frames ++ frames_from true (length (joined frames)) 0 more }
 {}
 
-/// A reader that calls `take_next` with what is left of a piece until it hands out no frame has
-/// then handed out the sure frames of all that was read, and with those of `finish` the cut. So it
-/// is by the clauses of these calls: at first, where a piece begins, after each call and at the
-/// end.
+/// A reader that calls `take_next` until it hands out none has the sure frames of all that it read,
+/// and with `finish` the cut.
 pub fn frames_taken_are_the_sure_ones()
     ensures first { (framer : Framing) → Stands framer [] 0 → HandedOut framer [] [] }
     ensures piece { (framer : Framing) (stream piece : List ℕ) (frames : List FoundFrame)

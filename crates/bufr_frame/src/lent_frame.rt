@@ -1,21 +1,18 @@
-//! A frame that is lent where it stands.
+//! Frames lent from a piece.
 ghost use Rattle.std.specs.Prelude.{◌≡◌};
 
 use crate::frames::Found;
-use bufr_answers::Items;
+use bufr_base::Items;
 use std::marker::Model;
 
-/// The octets of a frame.
+/// A frame's octets, of a piece or its own.
 #[derive(Debug, Drop)]
 pub(crate) enum FrameOctets<'p> {
-    /// They stand in a piece.
     Lent(&'p [u8]),
-    /// They are the frame's own.
     Own(Items<u8>),
 }
 
-/// A frame of a stream, lent where it lies whole in a piece, and else with octets of its own.
-/// Contracts see a `Found`.
+/// A frame lent from a piece, or with octets of its own. Contracts see a `Found`.
 #[derive(Debug, Drop)]
 pub struct LentFrame<'p> {
     place: u64,
@@ -32,7 +29,6 @@ impl<'p> Model for LentFrame<'p> {
 }
 
 impl<'p> LentFrame<'p> {
-    /// The frame of these octets of a piece at this place.
     pub(crate) fn lent(place: u64, octets: &'p [u8]) -> LentFrame<'p>
         ensures { result ≡ record { place = place; bytes = octets.now } }
     {
@@ -42,7 +38,6 @@ impl<'p> LentFrame<'p> {
         }
     }
 
-    /// A frame with octets of its own.
     pub(crate) fn own(frame: Found) -> LentFrame<'p>
         ensures { result ≡ frame }
     {
@@ -53,14 +48,14 @@ impl<'p> LentFrame<'p> {
         }
     }
 
-    /// How many octets of the stream come before it.
+    /// Returns the number of octets of the stream before the frame.
     pub fn place(&self) -> u64
         ensures { result ≡ self.now.place }
     {
         self.place
     }
 
-    /// Its octets, from `BUFR` to `7777`.
+    /// Returns the octets, from `BUFR` to `7777`.
     pub fn as_slice(&self) -> &[u8]
         ensures { result.now ≡ self.now.bytes }
     {

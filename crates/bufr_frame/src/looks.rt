@@ -1,11 +1,11 @@
-//! A look at what comes next.
+//! Looks ahead.
 ghost use Rattle.std.specs.Prelude.{◌≡◌};
 
 use crate::framers::Framer;
 use crate::frames::Found;
 use std::marker::Model;
 
-/// What a framer would hand out, and the framer that it would then be.
+/// A look ahead: the frames that a framer would hand out, and the framer after it.
 #[derive(Debug, Drop)]
 pub struct Look {
     pub(crate) frames: Vec<Found>,
@@ -21,7 +21,7 @@ impl Model for Look {
 }
 
 impl Look {
-    /// The frames that `settle` then hands out. Takes no memory.
+    /// Returns the frames that `settle` would hand out.
     pub fn found(&self) -> &[Found]
         ensures { result.now ≡ self.now.frames }
     {

@@ -1,14 +1,14 @@
-//! The frames of a stream in pieces, all at once.
+//! All frames of a stream in pieces.
 ghost use Rattle.std.specs.Prelude.{◌≡◌, ◌<◌, ◌^◌, length, IfOk};
 ghost use Rattle.std.specs.List.{flat_map};
 ghost use Rattle.bufr_frame.specs.Streams.{cut};
 
 use crate::framers::Framer;
 use crate::frames::Found;
-use bufr_answers::OutOfMemory;
+use bufr_base::OutOfMemory;
 use std::alloc::Global;
 
-/// The frames of the stream that comes in these pieces: each piece is fed, and the stream ended.
+/// Returns the frames of the stream in these pieces.
 pub fn frames_of_pieces(alloc: Global, pieces: &[&[u8]]) -> Result<Vec<Found>, OutOfMemory>
     requires { length (flat_map (λ piece. piece.now) pieces.now) < 2 ^ 64 }
     ensures { IfOk result (λ found. found.items ≡ cut (flat_map (λ piece. piece.now) pieces.now)) }

@@ -1,44 +1,42 @@
-//! What stands at a place of a stream.
+//! What begins at a place of a stream.
 ghost use Rattle.std.specs.Prelude.{◌≡◌, ◌+◌, ◌*◌, ◌≤◌, ◌<◌, Some, None, length, IfSome};
 ghost use Rattle.std.specs.Prelude.{option_map};
 ghost use Rattle.bufr_frame.specs.Starts.{agrees, announced, start_of};
 
-/// `BUFR`, with which a message begins.
-pub const MARK: &[u8] = b"BUFR";
+pub(crate) const MARK: &[u8] = b"BUFR";
 
-/// `7777`, with which a message ends.
-pub const END: &[u8] = b"7777";
+pub(crate) const END: &[u8] = b"7777";
 
-/// The least length that a frame may announce.
-pub const SHORTEST: usize = 12;
+/// The least length of a frame.
+pub(crate) const SHORTEST: usize = 12;
 
-/// The greatest length that three octets announce. No rule asks for it: it bounds what is held.
-pub const LONGEST: usize = 16_777_215;
+/// The greatest length in three octets, which bounds what a framer holds.
+pub(crate) const LONGEST: usize = 16_777_215;
 
-/// How many octets tell the length: `BUFR` and the three octets after it.
-pub const HEAD: usize = 7;
+/// `BUFR` and the three octets of the length.
+pub(crate) const HEAD: usize = 7;
 
-/// What stands at a place.
+/// A start: what begins at a place.
 #[derive(Clone, Copy)]
-pub enum Start {
-    /// A frame of so many octets.
+pub(crate) enum Start {
+    /// A frame of this length.
     Frame(usize),
-    /// No frame, but what is there may go on to be one.
+    /// No frame yet, but one may come.
     Open,
     /// Neither, whatever follows.
     Other,
 }
 
-/// Whether the octets are the mark as far as both go.
+/// Whether octets and mark are the same as far as both go.
 #[tactic(auto, using(crate::proofs::Agrees::agrees_by))]
-pub fn agrees(octets: &[u8], mark: &[u8]) -> bool
+pub(crate) fn agrees(octets: &[u8], mark: &[u8]) -> bool
     ensures { result ≡ agrees octets.now mark.now }
 {
     let both = octets.len().min(mark.len());
     octets[..both] == mark[..both]
 }
 
-/// The length that the fifth to seventh octets announce.
+/// Returns the length in octets 5 to 7.
 fn announced(octets: &[u8]) -> Option<usize>
     ensures told { result ≡ announced octets.now }
     ensures short { IfSome result (λ l. l ≤ LONGEST) }
@@ -49,9 +47,8 @@ fn announced(octets: &[u8]) -> Option<usize>
     Some(65_536 * usize::from(*high) + 256 * usize::from(*middle) + usize::from(*low))
 }
 
-/// What stands where these octets follow, by their first seven and the four at the end of the
-/// length that they announce.
-pub fn start_of(octets: &[u8]) -> Start
+/// Whether a frame starts here: checks `BUFR`, the length and `7777`.
+pub(crate) fn start_of(octets: &[u8]) -> Start
     ensures start { result ≡ start_of octets.now }
     ensures open_is_short { result ≡ Start.Open → length octets.now < LONGEST }
 {
@@ -74,10 +71,8 @@ pub fn start_of(octets: &[u8]) -> Start
     }
 }
 
-/// How many more octets have to come before it is decided what stands here, where it is open: up to
-/// the end of the length, if the length is not all there, else up to the end of the frame that it
-/// announces.
-pub fn missing(octets: &[u8]) -> usize
+/// Returns how many octets are missing to decide an open place.
+pub(crate) fn missing(octets: &[u8]) -> usize
     requires { start_of octets.now ≡ Start.Open }
     ensures some { 1 ≤ result }
     ensures short { length octets.now + result ≤ LONGEST }

@@ -1,4 +1,4 @@
-//! What is taken in of a piece until the next frame is sure.
+//! Takes in a piece up to the next sure frame.
 ghost use Rattle.std.specs.Prelude.{◌≡◌, ℕ, ◌+◌, ◌-◌, ◌<◌, ◌≤◌, ◌^◌, [], length, drop, false, IfOk, OnErr};
 ghost use Rattle.bufr_frame.specs.declared.places.TheConstants.{LONGEST};
 ghost use Rattle.bufr_frame.specs.Starts.{agrees, bufr, start_of};
@@ -8,53 +8,48 @@ use crate::frames::Found;
 use crate::kept::let_go;
 use crate::places::{HEAD, MARK, Start, agrees, missing, start_of};
 use crate::scans::{next_mark, next_start};
-use bufr_answers::OutOfMemory;
+use bufr_base::OutOfMemory;
 use memchr::memmem::Finder;
 
-/// Where the next frame stands that is sure.
+/// A stop: where the next sure frame begins.
 #[derive(Clone, Copy)]
-pub enum Stop {
-    /// Where the octets held begin; it has so many octets.
+pub(crate) enum Stop {
+    /// At the start of the octets held, with this length.
     Held(usize),
-    /// Nothing is held; after so many octets of what is left of the piece, and it has so many.
+    /// In the rest of the piece, after a number of octets and with a length. Nothing is held.
     Piece(usize, usize),
     /// Nowhere yet, and nothing is left of the piece.
     Nowhere,
 }
 
-/// How far a piece was taken in.
+/// A reach into a piece.
 #[derive(Clone, Copy)]
-pub struct Reached {
-    /// Where the octets held begin in those kept.
-    pub from: usize,
-    /// How many octets of the piece were taken in.
-    pub taken: usize,
-    /// Where the next frame stands that is sure then.
-    pub stop: Stop,
+pub(crate) struct Reached {
+    /// The index of the first octet held.
+    pub(crate) from: usize,
+    /// The number of octets of the piece taken in.
+    pub(crate) taken: usize,
+    pub(crate) stop: Stop,
 }
 
-/// A frame that is handed out, if one is, and what is held then.
+/// A frame handed out, or none, and how far the call came.
 #[derive(Drop)]
-pub struct Handed {
-    /// The frame, if one is handed out.
-    pub found: Option<Found>,
-    /// Where the octets held begin in those kept.
-    pub from: usize,
-    /// How many octets of the piece were taken in.
-    pub taken: usize,
+pub(crate) struct Handed {
+    pub(crate) found: Option<Found>,
+    pub(crate) from: usize,
+    pub(crate) taken: usize,
 }
 
-/// What was done with the rest of a piece.
+/// A step into the rest of a piece.
 #[derive(Clone, Copy)]
 enum More {
-    /// Nothing was kept of it: after so many octets stands a frame of so many.
+    /// Found a frame, after a number of octets and with a length.
     InRest(usize, usize),
-    /// So many of its octets were taken in.
+    /// Took in a number of octets.
     Octets(usize),
 }
 
-/// Where nothing is held: the frame at the next mark in what is left of the piece, if one stands
-/// there; and else what begins there is kept, so far that its length can be read.
+/// Finds the frame at the next mark of `rest`, or keeps just enough to read its length.
 fn begin(octets: &mut Vec<u8>, finder: &Finder<'_>, rest: &[u8]) -> Result<More, OutOfMemory>
     requires mark { finder.now ≡ bufr }
     requires some { 1 ≤ length rest.now }
@@ -72,8 +67,7 @@ fn begin(octets: &mut Vec<u8>, finder: &Finder<'_>, rest: &[u8]) -> Result<More,
     Ok(More::Octets(skip + more))
 }
 
-/// Where octets are held from `from` on and what they begin is open: those of the rest are kept
-/// that decide it.
+/// Keeps just enough of `rest` to decide the open place at `from`.
 fn go_on(octets: &mut Vec<u8>, from: usize, rest: &[u8]) -> Result<More, OutOfMemory>
     requires within { from ≤ length octets.old.items }
     requires waits { start_of (drop from octets.old.items) ≡ Start.Open }
@@ -87,8 +81,7 @@ fn go_on(octets: &mut Vec<u8>, from: usize, rest: &[u8]) -> Result<More, OutOfMe
     Ok(More::Octets(more))
 }
 
-/// Takes in more of a piece, of which this is left, where what the octets held from `from` on begin
-/// is open or nothing is held.
+/// Buffers just enough of `rest` to decide what starts at `from`.
 fn keep_more(
     octets: &mut Vec<u8>,
     from: usize,
@@ -110,8 +103,7 @@ fn keep_more(
     }
 }
 
-/// Takes in the piece until the next frame is sure or nothing is left of it. The octets held are
-/// those from `from` on; none that is kept is let go.
+/// Takes in the piece until the next frame is sure or nothing is left.
 fn reach(octets: &mut Vec<u8>, from: usize, piece: &[u8]) -> Result<Reached, OutOfMemory>
     requires within { from ≤ length octets.old.items }
     requires short { length (drop from octets.old.items) ≤ LONGEST }
@@ -145,11 +137,11 @@ fn reach(octets: &mut Vec<u8>, from: usize, piece: &[u8]) -> Result<Reached, Out
     })
 }
 
-/// In how many octets a mark is looked for before it is known whether a frame stands there.
+/// How far `near_mark` searches, in octets.
 const NEAR: usize = 256;
 
-/// The place of the first mark, where it is near, or one before which there is none.
-pub fn near_mark(piece: &[u8]) -> usize
+/// Returns the place of the first mark if it is near, else a place with no mark before it.
+pub(crate) fn near_mark(piece: &[u8]) -> usize
     ensures within { result ≤ length piece.now }
     ensures others { (k : ℕ) → k < result → agrees (drop k piece.now) bufr ≡ false }
 {
@@ -160,7 +152,7 @@ pub fn near_mark(piece: &[u8]) -> usize
     next_mark(&Finder::new(MARK), near, 0)
 }
 
-/// Takes in a front of the piece, after `fed` octets of the stream, and copies out the next frame.
+/// Takes in the piece up to the next sure frame, and copies it out.
 fn reach_and_copy(
     octets: &mut Vec<u8>,
     from: usize,
@@ -204,9 +196,8 @@ fn reach_and_copy(
     }
 }
 
-/// Takes in a front of the piece, after `fed` octets of the stream, and copies out the next frame
-/// that is sure then, if one is. The octets held are those from `from` on.
-pub fn hand_over(
+/// Does `reach_and_copy`, but drops what it added if memory runs out.
+pub(crate) fn hand_over(
     octets: &mut Vec<u8>,
     from: usize,
     fed: u64,

@@ -1,4 +1,4 @@
-//! The scan of octets for frames.
+//! Scans octets for frames.
 ghost use Rattle.std.specs.Prelude.{◌≡◌, ℕ, ◌+◌, ◌<◌, ◌≤◌, ◌^◌};
 ghost use Rattle.std.specs.Prelude.{None, false, true, length, drop, IfOk, IfSome};
 ghost use Rattle.bufr_frame.specs.declared.places.TheConstants.{LONGEST};
@@ -7,31 +7,26 @@ ghost use Rattle.bufr_frame.specs.Streams.{frames_from, rest_from};
 
 use crate::frames::Found;
 use crate::places::{MARK, Start, agrees, start_of};
-use bufr_answers::OutOfMemory;
+use bufr_base::OutOfMemory;
 use memchr::memmem::Finder;
 use std::alloc::Global;
 
-/// The frames found in octets, and the place at which what is left of them begins.
+/// A result of a scan: the frames in order, and the index of the first octet to hold.
 #[derive(Drop)]
-pub struct Scan {
-    /// The frames that were found, in order.
-    pub frames: Vec<Found>,
-    /// Where the octets begin that are held behind them.
-    pub rest: usize,
+pub(crate) struct Scan {
+    pub(crate) frames: Vec<Found>,
+    pub(crate) rest: usize,
 }
 
-/// Where something may stand, and how long the frame is that stands there, if one does.
+/// A next start: a frame, or an open place without a length.
 #[derive(Clone, Copy)]
-pub struct NextStart {
-    /// Where it begins.
-    pub place: usize,
-    /// How many octets it has, where it is a frame.
-    pub length: Option<usize>,
+pub(crate) struct NextStart {
+    pub(crate) place: usize,
+    pub(crate) length: Option<usize>,
 }
 
-/// The first place from `from` on at which the octets begin as the mark as far as they go, and else
-/// their end.
-pub fn next_mark(finder: &Finder<'_>, octets: &[u8], from: usize) -> usize
+/// Returns the first place from `from` on with a mark, perhaps cut off by the end; else the end.
+pub(crate) fn next_mark(finder: &Finder<'_>, octets: &[u8], from: usize) -> usize
     requires mark { finder.now ≡ bufr }
     requires within { from ≤ length octets.now }
     ensures after { from ≤ result }
@@ -52,9 +47,9 @@ pub fn next_mark(finder: &Finder<'_>, octets: &[u8], from: usize) -> usize
     octets.len()
 }
 
-/// The first place from `from` on at which a frame stands, or, where the stream has not ended, one
-/// may come to stand; and else their end.
-pub fn next_start(finder: &Finder<'_>, ended: bool, octets: &[u8], from: usize) -> NextStart
+/// Returns the first place from `from` on with a frame, or an open one if the stream goes on; else
+/// the end.
+pub(crate) fn next_start(finder: &Finder<'_>, ended: bool, octets: &[u8], from: usize) -> NextStart
     requires mark { finder.now ≡ bufr }
     requires within { from ≤ length octets.now }
     ensures after { from ≤ result.place }
@@ -94,10 +89,14 @@ pub fn next_start(finder: &Finder<'_>, ended: bool, octets: &[u8], from: usize) 
     }
 }
 
-/// Finds the frames of these octets, which follow `place` octets of the stream. Each octet is
-/// searched once. Where the stream has not ended, the scan stops at the first place that is open
-/// and leaves the octets from there on.
-pub fn frames_in(alloc: Global, ended: bool, place: u64, octets: &[u8]) -> Result<Scan, OutOfMemory>
+/// Finds the frames of octets after `place` octets of the stream; if it goes on, up to the first
+/// open place.
+pub(crate) fn frames_in(
+    alloc: Global,
+    ended: bool,
+    place: u64,
+    octets: &[u8],
+) -> Result<Scan, OutOfMemory>
     requires { place + length octets.now < 2 ^ 64 }
     ensures frames { IfOk result (λ scan.
         scan.frames.items ≡ frames_from ended place 0 octets.now) }

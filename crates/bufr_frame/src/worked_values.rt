@@ -1,5 +1,4 @@
-//! Worked values of the words that definitions and code share, typed from FM 94 BUFR, sections 0
-//! and 5.
+//! Worked values, typed from FM 94 BUFR, sections 0 and 5.
 ghost use Rattle.std.specs.Prelude.{◌≡◌, ◌∷◌, ◌++◌, ◌+◌, [], Some, None, length, map};
 ghost use Rattle.std.specs.Prelude.{IfOk, OnOk};
 ghost use Rattle.std.specs.List.{flat_map};
@@ -14,10 +13,10 @@ use crate::frames::Found;
 use crate::looks::Look;
 use crate::pieces::frames_of_pieces;
 use crate::places::Start;
-use bufr_answers::OutOfMemory;
+use bufr_base::OutOfMemory;
 use std::alloc::Global;
 
-/// The mark, the length and the end of a frame, at each side of what they decide.
+/// The mark, the length and the end of a frame, on both sides of each threshold.
 pub fn starts()
     ensures shortest { start_of (66 ∷ 85 ∷ 70 ∷ 82 ∷ 0 ∷ 0 ∷ 12 ∷ 4 ∷ 55 ∷ 55 ∷ 55 ∷ 55 ∷ [])
         ≡ Start.Frame 12 }
@@ -36,8 +35,7 @@ pub fn starts()
         ≡ Start.Other }
 {}
 
-/// Each octet of the mark and of the end, as far as they go, and the eighth octet, which is free
-/// here.
+/// Each octet of the mark and the end, also cut short, and the free eighth octet.
 pub fn marks_and_ends()
     ensures marks_so_far { map start_of
         ([] ∷ (66 ∷ []) ∷ (66 ∷ 85 ∷ []) ∷ (66 ∷ 85 ∷ 70 ∷ []) ∷ (66 ∷ 85 ∷ 70 ∷ 82 ∷ [])
@@ -85,7 +83,7 @@ pub fn lengths()
         ≡ Start.Open ∷ Start.Open ∷ Start.Open ∷ Start.Open ∷ Start.Open ∷ Start.Open ∷ [] }
 {}
 
-/// The frames of streams, which of them are sure, and what is held.
+/// The frames of streams, which of them are sure, and what a framer holds.
 pub fn streams()
     ensures none { cut [] ≡ [] }
     ensures at_once { map (λ f. f.place) (cut (shortest ++ shortest)) ≡ 0 ∷ 12 ∷ [] }
@@ -113,14 +111,14 @@ pub fn streams()
         ∷ shortest)) ≡ 0 ∷ 24 ∷ [] }
 {}
 
-/// A framer keeps as many octets that it let go as it holds, and no more.
+/// A framer keeps no more octets before those held than it holds.
 pub fn kept()
     ensures as_many { AreKept (0 ∷ 0 ∷ []) 1 1 }
     ensures more { AreKept (0 ∷ 0 ∷ 0 ∷ []) 2 3 → ⊥ }
     ensures not_taken { AreKept (0 ∷ 0 ∷ []) 0 1 → ⊥ }
 {}
 
-/// A stream is looked at up to its octet 2^64 - 1.
+/// Looks at the last octet that a framer can count, and below feeds and takes it.
 pub fn last_octet_looked_at(framer: &Framer, piece: &[u8]) -> Result<Look, OutOfMemory>
     requires { framer.now.fed + length piece.now ≡ 18446744073709551615 }
     ensures { IfOk result (λ look. look.next.fed ≡ 18446744073709551615) }
@@ -128,7 +126,6 @@ pub fn last_octet_looked_at(framer: &Framer, piece: &[u8]) -> Result<Look, OutOf
     framer.look(piece)
 }
 
-/// A stream is fed up to its octet 2^64 - 1.
 pub fn last_octet_fed(framer: &mut Framer, piece: &[u8]) -> Result<Vec<Found>, OutOfMemory>
     requires { framer.old.fed + length piece.now ≡ 18446744073709551615 }
     ensures { OnOk result (framer.new.fed ≡ 18446744073709551615) }
@@ -136,14 +133,12 @@ pub fn last_octet_fed(framer: &mut Framer, piece: &[u8]) -> Result<Vec<Found>, O
     framer.feed(piece)
 }
 
-/// A stream is taken up to its octet 2^64 - 1.
 pub fn last_octet_taken(framer: &mut Framer, piece: &[u8]) -> Result<bool, OutOfMemory>
     requires { framer.old.fed + length piece.now ≡ 18446744073709551615 }
 {
     Ok(framer.take_next(piece)?.found.is_some())
 }
 
-/// A stream comes in pieces up to its octet 2^64 - 1.
 pub fn last_octet_of_pieces(alloc: Global, pieces: &[&[u8]]) -> Result<Vec<Found>, OutOfMemory>
     requires { length (flat_map (λ piece. piece.now) pieces.now) ≡ 18446744073709551615 }
 {

@@ -1,4 +1,4 @@
-//! Tests of the public calls of bufr_frame. It has tests only.
+//! Tests of the public calls of bufr_frame, and nothing else.
 #![tactic(auto)]
 
 #[cfg(test)]

@@ -1,4 +1,4 @@
-//! Streams: their frames, and what a framer holds. That pieces do not matter is proved.
+//! Streams: their frames, and what a framer holds.
 
 use bufr_frame::{Found, Framer, Taken, frames_of_pieces};
 use std::alloc::Global;
@@ -19,13 +19,13 @@ const DELAYED_COUNT: &[u8] = b"BUFR\x00\x00\x34\x04\
 \x00\x00\x05\x00\x00\
 7777";
 
-/// What stands before the text of a message of 99 octets.
+/// The octets before the text of a message of 99 octets.
 const BEFORE_TEXT: &[u8] = b"BUFR\x00\x00\x63\x04\
 \x00\x00\x16\x00\x00\x62\x00\x00\x00\x00\x00\x02\x00\x25\x00\x07\xE8\x01\x0F\x0C\x00\x00\
 \x00\x00\x09\x00\x00\x01\x80\x85\x34\
 \x00\x00\x38\x00";
 
-/// That message, whose text is the one of 52 octets.
+/// `BEFORE_TEXT`, with `DELAYED_COUNT` as its text.
 const WITH_TEXT: &[u8] = b"BUFR\x00\x00\x63\x04\
 \x00\x00\x16\x00\x00\x62\x00\x00\x00\x00\x00\x02\x00\x25\x00\x07\xE8\x01\x0F\x0C\x00\x00\
 \x00\x00\x09\x00\x00\x01\x80\x85\x34\
@@ -37,25 +37,23 @@ BUFR\x00\x00\x34\x04\
 7777\
 7777";
 
-/// The message of 62 octets with a total of 63.
+/// `SEQUENCES` with a total length of 63.
 const TOTAL_63: &[u8] = b"BUFR\x00\x00\x3F\x04\
 \x00\x00\x16\x00\x00\x62\x00\x00\x00\x00\x00\x02\x00\x25\x00\x07\xE8\x01\x0F\x0C\x00\x00\
 \x00\x00\x0F\x00\x00\x01\x80\xC1\x01\xC1\x0B\xC1\x0C\x0C\x65\
 \x00\x00\x0D\x00\x14\xC0\x3F\x40\x9E\xC0\x1A\xAC\xC0\
 7777";
 
-/// A frame of 12 octets in one of 22 that the 21st octet rules out.
+/// A frame of 12 octets inside one of 22 that octet 21 rules out.
 const OUTER: &[u8] = b"BUFR\x00\x00\x16\x04BUFR\x00\x00\x0C\x047777";
 
 const INNER: &[u8] = b"BUFR\x00\x00\x0C\x047777";
 
-/// Stops the test where the two differ. It is a function, since a comparison written out in a test
-/// makes the proof of that test more than twice as long.
+/// Stops the test if the two differ. Inline it would lengthen the proof.
 fn same<T: PartialEq + Debug + Drop>(rt: &impl Abort, found: T, wanted: T) {
     assert_eq!(rt; found, wanted);
 }
 
-/// These octets one after another.
 fn joined(rt: &impl Abort, alloc: Global, parts: &[&[u8]]) -> Vec<u8> {
     let mut all = Vec::new(alloc);
     for part in parts {
@@ -64,10 +62,9 @@ fn joined(rt: &impl Abort, alloc: Global, parts: &[&[u8]]) -> Vec<u8> {
     all
 }
 
-/// A place of a stream, and the octets of the frame there.
+/// The place of a frame, and its octets.
 type Frame<'a> = (u64, &'a [u8]);
 
-/// The frames are these.
 fn assert_found(rt: &impl Abort, found: &[Found], wanted: &[Frame<'_>]) {
     same(rt, found.len(), wanted.len());
     for (frame, row) in found.iter().zip(wanted) {
@@ -75,12 +72,11 @@ fn assert_found(rt: &impl Abort, found: &[Found], wanted: &[Frame<'_>]) {
     }
 }
 
-/// So many octets are fed, and so many of them are pending.
 fn assert_state(rt: &impl Abort, framer: &Framer, fed: usize, pending: usize) {
     same(rt, (framer.fed(), framer.pending()), (fed as u64, pending));
 }
 
-/// By which calls a framer takes in a piece.
+/// A call that takes in a piece.
 #[derive(Clone, Copy, Debug)]
 enum Way {
     Feed,
@@ -89,8 +85,7 @@ enum Way {
 
 const WAYS: [Way; 2] = [Way::Feed, Way::TakeNext];
 
-/// Takes in a piece up to its first frame. The framer counts what it takes in, and holds no more
-/// than may be pending.
+/// Takes in a piece up to its first frame, and checks the counts.
 fn take<'p>(rt: &impl Abort, framer: &mut Framer, piece: &'p [u8]) -> Taken<'p> {
     let before = framer.fed();
     assert!(rt; before <= u64::MAX - piece.len() as u64);
@@ -102,7 +97,6 @@ fn take<'p>(rt: &impl Abort, framer: &mut Framer, piece: &'p [u8]) -> Taken<'p> 
     taken
 }
 
-/// Takes in a piece frame by frame.
 fn take_all(rt: &impl Abort, alloc: Global, framer: &mut Framer, piece: &[u8]) -> Vec<Found> {
     let mut all = Vec::new(alloc);
     let mut rest = piece;
@@ -120,7 +114,6 @@ fn take_all(rt: &impl Abort, alloc: Global, framer: &mut Framer, piece: &[u8]) -
     panic!(rt; "no end of frames")
 }
 
-/// Takes in a piece.
 fn give(rt: &impl Abort, alloc: Global, way: Way, framer: &mut Framer, piece: &[u8]) -> Vec<Found> {
     assert!(rt; framer.fed() <= u64::MAX - piece.len() as u64);
     match way {
@@ -129,21 +122,19 @@ fn give(rt: &impl Abort, alloc: Global, way: Way, framer: &mut Framer, piece: &[
     }
 }
 
-/// The stream's end has these frames, and nothing is left behind it.
+/// The end of the stream hands out these frames, and leaves nothing.
 fn assert_end(rt: &impl Abort, framer: &mut Framer, wanted: &[Frame<'_>]) {
     let last = framer.finish().expect(rt, "room");
     assert_found(rt, &last, wanted);
     assert_state(rt, framer, 0, 0);
 }
 
-/// How many octets of a stream are fed by a step, how many frames are handed out by then, and how
-/// many octets are pending.
+/// After a step: the octets fed, the frames handed out, and the octets pending.
 type Step = (usize, usize, usize);
 
 /// The parts of a stream, its frames, and steps to its end.
 type Row<'a> = (&'a [&'a [u8]], &'a [Frame<'a>], &'a [Step]);
 
-/// Streams.
 const ROWS: &[Row<'static>] = &[
     // two frames and a stray: at once, in two pieces, and in more
     (
@@ -179,7 +170,7 @@ const ROWS: &[Row<'static>] = &[
         &[(43, DELAYED_COUNT)],
         &[(98, 0, 98)],
     ),
-    // the inner frame is there once the 21st octet rules the outer one out
+    // octet 21 rules the outer frame out, and the inner one is there
     (&[OUTER, b"\x00"], &[(8, INNER)], &[(20, 0, 20), (21, 1, 0)]),
     // a total one too large, one below 12, and one of 12
     (&[TOTAL_63], &[], &[(62, 0, 62)]),
@@ -188,13 +179,13 @@ const ROWS: &[Row<'static>] = &[
     // another mark, and another end
     (&[b"bufr\x00\x00\x0C\x047777"], &[], &[(12, 0, 0)]),
     (&[b"BUFR\x00\x00\x0C\x047778"], &[], &[(12, 0, 0)]),
-    // frames held behind one that is ruled out
+    // frames held after one that is ruled out
     (
         &[b"BUFR\x00\x00\x24\x04", INNER, INNER, b"8"],
         &[(8, INNER), (20, INNER)],
         &[(32, 0, 32), (33, 2, 0)],
     ),
-    // a length that is too small behind six octets, and a frame behind a mark in two pieces
+    // a length that is too small after six octets, and a frame after a mark in two pieces
     (
         &[
             b"77BUFR\x00\x00",
@@ -207,13 +198,12 @@ const ROWS: &[Row<'static>] = &[
     ),
 ];
 
-/// A part of a list.
 fn part<'a, T>(rt: &impl Abort, list: &'a [T], from: usize, to: usize) -> &'a [T] {
     assert!(rt; from <= to && to <= list.len());
     &list[from..to]
 }
 
-/// A piece has these frames, and the framer stands so then.
+/// A piece has these frames, and leaves the framer as in `step`.
 fn assert_step(
     rt: &impl Abort,
     alloc: Global,
@@ -228,7 +218,7 @@ fn assert_step(
     assert_state(rt, framer, step.0, step.2);
 }
 
-/// The stream has these frames, and the framer stands so after each step.
+/// The stream has these frames, and leaves the framer as in each step.
 fn assert_steps(
     rt: &impl Abort,
     alloc: Global,
@@ -259,7 +249,7 @@ fn streams(rt: HostRuntime) {
     }
 }
 
-/// 12,500 bulletins of one message each, and then a frame in one that lacks its end.
+/// Returns 12,500 bulletins of one message each, and a frame inside one without an end.
 fn many_bulletins(rt: &impl Abort, alloc: Global) -> Vec<u8> {
     let mut stream = Vec::new(alloc);
     for _ in 0..12_500 {
@@ -273,8 +263,7 @@ fn many_bulletins(rt: &impl Abort, alloc: Global) -> Vec<u8> {
     stream
 }
 
-/// These are the next frames of the bulletins, of which so many went before; answers how many there
-/// are then.
+/// The frames are the next after `before` bulletins. Returns the new count.
 fn count_bulletins(rt: &impl Abort, frames: &[Found], before: u64) -> u64 {
     let mut count = before;
     for frame in frames {
@@ -289,7 +278,6 @@ fn count_bulletins(rt: &impl Abort, frames: &[Found], before: u64) -> u64 {
     count
 }
 
-/// The bulletins in large pieces.
 fn assert_bulletins(rt: &impl Abort, alloc: Global, way: Way, stream: &[u8]) {
     let mut framer = Framer::new(alloc);
     let mut count = 0;
@@ -303,7 +291,6 @@ fn assert_bulletins(rt: &impl Abort, alloc: Global, way: Way, stream: &[u8]) {
     assert_end(rt, &mut framer, &[(1_075_008, INNER)]);
 }
 
-/// The bulletins in two pieces, all at once.
 fn assert_at_once(rt: &impl Abort, alloc: Global, stream: &[u8]) {
     assert!(rt; stream.len() == 1_075_020);
     let (front, back) = stream.split_at(500_000);

@@ -1,4 +1,4 @@
-//! Every growth of memory refused in turn to calls of bits, messages and frames. It has tests only.
+//! Tests that refuse every growth in turn to bits, messages and frames.
 #![tactic(auto)]
 
 #[cfg(test)]

@@ -1,2 +1,4 @@
 pub mod ReadingFacts
 mod TakingFacts
+mod LoadFacts
+mod OpenFacts

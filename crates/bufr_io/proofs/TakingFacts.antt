@@ -1,6 +1,6 @@
 -- The frames of a stream taken in as its pieces come: the steps of `take_frames`, `take_piece`,
 -- `take_rest` and `take_stream`, for the contracts of all engines over streams.
-use Rattle.std.proofs.Common.{◌≡◌, ℕ, ◌+◌, ◌^◌, ◌<◌, ◌≤◌, Option, Some, IfSome, IsErrAnd}
+use Rattle.std.proofs.Common.{◌≡◌, ℕ, ◌+◌, ◌^◌, ◌<◌, ◌≤◌, Option, Some, IfSome}
 use Rattle.std.proofs.Common.{List, [], ◌∷◌, ◌++◌, length, take, drop, get_or, Result, Ok, Err}
 use Rattle.std.proofs.Common.{refl, sym, ap, ◌∙◌, subst, arith, length-append, append_assoc}
 use Rattle.std.proofs.Common.{take-append-drop}
@@ -223,12 +223,6 @@ unread_bounded source reads old new after read (faults.ReadFailed which) r = r.3
 unread_bounded source reads old new after read (faults.EndlessInput which) r =
     let all = r.1.reads in omega arith
 unread_bounded source reads old new after read e r = absurd r
-
--- an error that is passed up as it is
-pub passed : {A F : Type 0} (P : Result A F → Type 0) (r : Result A F) (e : F)
-    → IsErrAnd r (λ y. y ≡ e) → P (Err e) → P r
-passed P (Ok x) e is p = absurd is
-passed P (Err y) e is p = subst (λ z. P (Err z)) (sym is) p
 
 -- what follows where a call was done
 pub ok_of : {A E : Type 0} (r : Result A E) (P Q : Type 0) → OnOk r P → (P → Q) → OnOk r Q

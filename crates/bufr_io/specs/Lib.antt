@@ -2,6 +2,10 @@ pub mod Engines
 pub mod Inputs
 pub mod Limits
 pub mod Faults
+pub mod Loads
+pub mod Readers
+pub mod PassingLaws
 pub mod ReadingLaws
+pub mod ReaderLaws
 pub mod WritingLaws
 pub mod Taking

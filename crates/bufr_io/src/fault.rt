@@ -1,37 +1,37 @@
-//! What an engine answers.
+//! What an engine returns.
 
 ghost use Rattle.std.specs.Prelude.{◌≡◌, Some};
 ghost use Rattle.bufr_io.specs.Faults.{input_text};
 ghost use Rattle.bufr_io.specs.declared.fault.ToolFault.TheVariants.{OutOfMemory as NoMemory};
 
-use bufr_answers::OutOfMemory;
+use bufr_base::OutOfMemory;
 use bufr_listing::ListingFault;
 use bufr_sections::EncodeFault;
 use bufr_tables::TableFault;
 use std::fmt;
 use thiserror::Error;
 
-/// What an engine has read and written.
+/// Counts what an engine has read and written; 0 if a command does not count it.
 #[derive(Clone, Copy, Debug, Drop, PartialEq, Eq)]
 pub struct Tally {
-    /// The frames that were found; the messages that were written, the archives that were read.
+    /// The frames of streams, the messages of a listing, or the archives.
     pub frames: u128,
-    /// Those of them that spell no message.
+    /// The refused frames.
     pub refused: u128,
-    /// The octets outside frames, where the command counts them.
+    /// The octets outside frames.
     pub skipped: u128,
-    /// The reports of the archive, where the command has one.
+    /// The reports of the archive.
     pub reports: u128,
 }
 
-/// What is read by a command.
+/// An input of a command.
 #[derive(Clone, Copy, Debug, Drop, PartialEq, Eq)]
 pub enum Input {
     /// The file of Table B.
     TableB,
     /// The file of Table D.
     TableD,
-    /// An input of the engine, counted from 1.
+    /// An input of the engine, from 1.
     Number(u128),
 }
 
@@ -48,16 +48,16 @@ impl fmt::Display for Input {
     }
 }
 
-/// Why an engine gave no tally.
+/// A reason why an engine returns no tally.
 #[derive(Clone, Copy, Debug, Drop, PartialEq, Eq, Error)]
 pub enum ToolFault {
     /// A reader failed.
     #[error("read failed {0}")]
     ReadFailed(Input),
-    /// All reads that were allowed answered octets.
+    /// Every allowed read returned octets.
     #[error("endless input {0}")]
     EndlessInput(Input),
-    /// The writer failed after so many octets of the output.
+    /// The writer failed.
     #[error("write failed after {written} octets")]
     WriteFailed { written: u128 },
     /// The file of a table has a fault.
@@ -66,10 +66,10 @@ pub enum ToolFault {
     /// The listing has a fault.
     #[error("listing: {0}")]
     Listing(ListingFault),
-    /// A message of the listing, counted from 1, is not written.
+    /// A message of the listing, from 1, has no encoding.
     #[error("message {0}: {1}")]
     Encode(u128, EncodeFault),
-    /// An input, counted from 1, is no archive: the start of its first entry that is not right.
+    /// An input, from 1, is no archive: its first wrong entry starts at `place`.
     #[error("not an archive input {input} at {place}")]
     NotAnArchive { input: u128, place: u64 },
     /// Memory ran out.

@@ -1,8 +1,8 @@
-//! Reading an input to its end.
+//! Inputs, read to their end.
 
 ghost use Rattle.std.specs.Prelude.{◌≡◌, ◌≤◌, ◌<◌, ◌+◌, ℕ, List, false, IfOk, OnOk, length, vec_len};
 ghost use Rattle.std.specs.Option.{option_map};
-ghost use Rattle.bufr_answers.specs.Answers.{result_map};
+ghost use Rattle.bufr_base.specs.Answers.{result_map};
 ghost use Rattle.bufr_bits.specs.Devices.{Reading};
 ghost use Rattle.bufr_io.specs.declared.fault.Input.{Input as InputKind};
 ghost use Rattle.bufr_io.specs.Engines.{IsFresh};
@@ -10,36 +10,36 @@ ghost use Rattle.bufr_io.specs.Inputs.{HasRead, ReadsAll, ReadsOn};
 ghost use Rattle.bufr_io.specs.Limits.{most_reads, longest_piece};
 
 use crate::fault::{Input, ToolFault};
-use bufr_answers::OutOfMemory;
+use bufr_base::OutOfMemory;
 use bufr_bits::Source;
 use std::alloc::Global;
 
-/// How many octets a read asks for at the most.
+/// The most octets that a read asks for.
 pub const LONGEST_PIECE: usize = 65_536;
 
-/// How many reads of one input an engine can be told to make at the most.
+/// The most reads of one input that a caller can allow.
 pub const MOST_READS: u64 = 4_294_967_296;
 
-/// Room for one read.
+/// Makes room for one read.
 pub fn room(alloc: Global) -> Result<Vec<u8>, OutOfMemory>
     ensures { IfOk result (λ room. vec_len room ≡ longest_piece) }
 {
     vec![in alloc; 0u8; LONGEST_PIECE]
 }
 
-/// The reads of an input, piece by piece to its end.
+/// A count of the reads of an input.
 #[derive(Debug, Drop)]
 pub struct Pieces {
-    /// The reads that were made.
+    /// The number of reads.
     pub made: u64,
-    /// How many are made at the most.
+    /// The most reads.
     pub most: u64,
-    /// What is read.
+    /// The input.
     pub source: Input,
 }
 
 impl Pieces {
-    /// No read was made yet.
+    /// Counts no read yet.
     pub fn new(most: u64, source: Input) -> Pieces
         ensures { result ≡ record { made = 0; most = most; source = source } }
     {
@@ -50,7 +50,7 @@ impl Pieces {
         }
     }
 
-    /// Reads the next piece into some room: `None` at the end. A piece has some octets.
+    /// Reads the next piece, which has an octet at least, or `None` at the end.
     pub fn next<'r, S: Source>(
         &mut self,
         reader: &mut S,
@@ -80,7 +80,7 @@ impl Pieces {
     }
 }
 
-/// All octets of a reader, by at most so many reads.
+/// Reads all octets of a reader.
 pub fn read_all<S: Source>(
     alloc: Global,
     reads: u64,

@@ -1,13 +1,21 @@
-//! What every engine of `bufr` stands on: inputs read to their end, the frames of streams, outputs
-//! written whole, tallies and faults.
+//! The ends of devices: inputs read to their end, the frames of streams, outputs written whole, files
+//! opened at their first use, the tables of two files, tallies and faults.
 #![tactic(auto)]
 
 mod fault;
+mod files;
 mod input;
+mod lazy_input;
+mod lazy_output;
 mod output;
+mod tables;
 mod taking;
 
 pub use fault::{Input, Tally, ToolFault};
+pub use files::{Unopened, file_of, inputs_of, unopened_path};
 pub use input::{LONGEST_PIECE, MOST_READS, Pieces, read_all, room};
+pub use lazy_input::LazyInput;
+pub use lazy_output::LazyOutput;
 pub use output::{write_after, write_out};
+pub use tables::load_tables;
 pub use taking::{TakesFrames, take_stream};

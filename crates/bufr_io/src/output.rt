@@ -1,4 +1,4 @@
-//! Writing a text.
+//! Outputs, written whole.
 
 ghost use Rattle.std.specs.Prelude.{◌≡◌, ◌+◌, ◌<◌, ◌^◌, false, length};
 ghost use Rattle.bufr_io.specs.Engines.{WritesAfter};
@@ -7,7 +7,7 @@ use crate::fault::ToolFault;
 use bufr_bits::Sink;
 use bufr_bits::device::write_all;
 
-/// Writes all of a text, before which so many octets of the output were written.
+/// Writes all of a text after `before` octets of the output.
 pub fn write_after<W: Sink>(writer: &mut W, before: u128, text: &[u8]) -> Result<(), ToolFault>
     requires works { (W.writing writer.old).failed ≡ false }
     requires fits { before + length text.now < 2 ^ 128 }
@@ -21,7 +21,7 @@ pub fn write_after<W: Sink>(writer: &mut W, before: u128, text: &[u8]) -> Result
     }
 }
 
-/// Writes all of a text, before which so many octets of the output were written, and hands it on.
+/// Writes all of a text after `before` octets of the output, and flushes the writer.
 pub fn write_out<W: Sink>(writer: &mut W, before: u128, text: &[u8]) -> Result<(), ToolFault>
     requires works { (W.writing writer.old).failed ≡ false }
     requires fits { before + length text.now < 2 ^ 128 }

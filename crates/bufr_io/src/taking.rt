@@ -1,4 +1,4 @@
-//! The frames of a stream, read to its end and handed on one after the other.
+//! The frames of a stream, handed on one after the other.
 
 ghost use Rattle.std.specs.Prelude.{◌≡◌, ◌≤◌, ◌<◌, ◌+◌, ◌*◌, ◌^◌, ◌++◌, ◌∷◌, [], ℕ, List, length};
 ghost use Rattle.std.specs.Prelude.{OnOk, IfErr};
@@ -16,22 +16,21 @@ use bufr_bits::Source;
 use bufr_frame::{Framer, NextFrame};
 use std::alloc::Global;
 
-/// What takes in the frames of a stream, one after the other, and puts what it makes of them out.
+/// A consumer of the frames of a stream, which may write to an output `O`.
 pub trait TakesFrames<O> {
-    /// How many frames were taken in.
+    /// Counts the frames.
     ghost count: { Self → O → ℕ };
 
-    /// Since the first of these two states these frames were taken in.
+    /// Says that it took in these frames between the two states.
     ghost HasTaken: { Self → O → Self → O → List FoundFrame → Type 0 };
 
-    /// Nothing is held back of what was taken in.
+    /// Says that it holds nothing back.
     ghost HoldsNone: { Self → O → Type 0 };
 
-    /// Since the first of these two states some or all of these frames were taken in, and then it
-    /// stopped with a fault.
+    /// Says that it stopped with a fault at these frames.
     ghost HasStopped: { Self → O → Self → O → List FoundFrame → ToolFaultKind → Type 0 };
 
-    /// Takes in the frame of these octets at this place.
+    /// Takes in a frame.
     fn take_frame(
         &mut self,
         alloc: Global,
@@ -50,7 +49,7 @@ pub trait TakesFrames<O> {
             → HasStopped first begin self.new out.new (frames ++ frame_at place octets.now ∷ [])
             fault) };
 
-    /// Holds nothing back: so it is behind each piece of the stream.
+    /// Puts out what it holds back, after each piece of the stream.
     fn end_piece(&mut self, out: &mut O) -> Result<(), ToolFault>
         requires { (first : Self) × (begin : O) × (frames : List FoundFrame)
             × HasTaken first begin self.old out.old frames × AreFew frames }
@@ -62,7 +61,7 @@ pub trait TakesFrames<O> {
             (frames : List FoundFrame) → HasTaken first begin self.old out.old frames
             → HasStopped first begin self.new out.new frames fault) };
 
-    /// Stops where memory ran out, and answers the fault that is to be told.
+    /// Stops for want of memory, and returns the fault to report.
     fn halt(&mut self, out: &mut O) -> ToolFault
         requires { (first : Self) × (begin : O) × (frames : List FoundFrame)
             × HasTaken first begin self.old out.old frames × AreFew frames }
@@ -70,14 +69,14 @@ pub trait TakesFrames<O> {
             → HasTaken first begin self.old out.old frames
             → HasStopped first begin self.new out.new frames result };
 
-    /// Each frame that was taken in is counted.
+    /// Proves that `count` counts each frame.
     ghost counts_each: { (first self : Self) (begin out : O) (frames : List FoundFrame)
         → HasTaken first begin self out frames
         → count self out ≡ count first begin + length frames };
 }
 
-/// Takes in the frames that are sure with a piece of a stream. One that lies whole in the piece is
-/// not copied.
+/// Hands on the frames that are sure with a piece of a stream. It copies no frame that lies whole in
+/// the piece.
 fn take_piece<O, T: TakesFrames<O>>(
     alloc: Global,
     piece: &[u8],
@@ -106,7 +105,7 @@ fn take_piece<O, T: TakesFrames<O>>(
     }
 }
 
-/// Ends a stream, and takes in the frames that are left.
+/// Ends a stream, and hands on the other frames.
 fn take_rest<O, T: TakesFrames<O>>(
     alloc: Global,
     framer: &mut Framer,
@@ -130,8 +129,8 @@ fn take_rest<O, T: TakesFrames<O>>(
     Ok(())
 }
 
-/// Reads the stream of a reader to its end through some room, and hands on each of its frames as
-/// soon as it is sure. Behind each piece nothing is held back. Answers how many octets were read.
+/// Reads a stream to its end, and hands on each frame as soon as it is sure. Returns the length of the
+/// stream.
 pub fn take_stream<O, S: Source, T: TakesFrames<O>>(
     alloc: Global,
     reads: u64,

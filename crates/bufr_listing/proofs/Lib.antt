@@ -1,4 +1,4 @@
--- What the contracts and laws of listings are proved from.
+-- Lemmas on listings.
 pub mod OnLiterals
 pub mod ListingFacts
 pub mod FrontFacts

@@ -1,6 +1,4 @@
--- Lines with their ends, joined: the parts of a listing as the writers write them, one behind the
--- other. For `heading_text`, `push_descriptors` and `push_subset`, for `text_of` and for the laws
--- `listings_are_joined_parts` and `subsets_are_joined_lines`.
+-- The parts of a listing join to the whole: for its writers and for the laws on its parts.
 use Rattle.std.proofs.Common.{◌≡◌, ℕ, List, [], ◌∷◌, ◌++◌, map, codes, refl, sym, ap}
 use Rattle.std.proofs.Common.{◌∙◌, append_assoc}
 use Rattle.std.specs.List.{flat_map}
@@ -17,7 +15,6 @@ use Rattle.bufr_listing.specs.Listings.{local_lines, section2_lines, flags_line,
 use Rattle.bufr_listing.specs.Listings.{heading_lines, field_line}
 use Rattle.bufr_listing.specs.Listings.{subset_line, subset_lines, end_line, lines_of, listing}
 
--- lines behind lines are joined one behind the other
 joined_append : (xs ys : List (List ℕ)) → joined (xs ++ ys) ≡ joined xs ++ joined ys
 joined_append [] ys = refl
 joined_append (x ∷ xs) ys = ap (λ zs. line x ++ zs) (joined_append xs ys)
@@ -25,27 +22,23 @@ joined_append (x ∷ xs) ys = ap (λ zs. line x ++ zs) (joined_append xs ys)
 
 -- ---- the lines before the first subset
 
--- the text of the octets for local use is their line, where there are any
 pub local_text : (local : List ℕ) → octets_text (codes "local1") [] (Some local)
     ≡ joined (local_lines local)
 local_text [] = refl
 local_text (x ∷ xs) = sym (append-nil (line (octets_line (codes "local1") (x ∷ xs))))
 
--- that of a section 2 is its line, where there is one
 pub section2_text : (octets : Option (List ℕ))
     → octets_text (codes "section2") (codes "section2\n") octets ≡ joined (section2_lines octets)
 section2_text None = refl
 section2_text (Some []) = refl
 section2_text (Some (x ∷ xs)) = sym (append-nil (line (octets_line (codes "section2") (x ∷ xs))))
 
--- words behind spaces
 spaced_joined : (f : ℕ → List ℕ) (ns : List ℕ)
     → flat_map (λ n. 32 ∷ f n) ns ≡ flat_map (λ w. 32 ∷ w) (map f ns)
 spaced_joined f [] = refl
 spaced_joined f (n ∷ ns) = ap (λ zs. (32 ∷ f n) ++ zs) (spaced_joined f ns)
 
--- a line of numbers that are printed alike, its first word, those and its end, behind what a text
--- has already
+-- a text, then the first word and the numbers of a line
 pub words_behind : (f : ℕ → List ℕ) (t title ns : List ℕ)
     → t ++ title ++ flat_map (λ n. 32 ∷ f n) ns ++ 10 ∷ []
     ≡ t ++ line (words title (map f ns))
@@ -55,7 +48,6 @@ words_behind f t title ns =
     ∙ ap (λ zs. t ++ (title ++ zs)) (spaced_joined f ns))
     ∙ append_assoc t (words title (map f ns)) (10 ∷ [])
 
--- a list and seven behind it
 seven_behind : (t a b c d e f g : List ℕ)
     → t ++ a ++ b ++ c ++ d ++ e ++ f ++ g ≡ t ++ (a ++ (b ++ (c ++ (d ++ e ++ (f ++ g)))))
 seven_behind t a b c d e f g =
@@ -67,7 +59,7 @@ seven_behind t a b c d e f g =
     ∙ append_assoc (t ++ a) b (c ++ (d ++ e ++ (f ++ g)))
     ∙ append_assoc t a (b ++ (c ++ (d ++ e ++ (f ++ g))))
 
--- the lines before the first subset, one behind the other behind what a text has already
+-- a text, then the lines before the first subset in turn
 heading_behind : (t : List ℕ) (m : Message)
     → t ++ codes "message\n" ++ line (section1_line m.head) ++ line (time_line m.head)
     ++ joined (local_lines m.head.local) ++ joined (section2_lines m.section2)
@@ -88,7 +80,6 @@ heading_behind t m =
     ∙ ap (λ zs. t ++ (codes "message\n" ++ (line (section1_line m.head)
     ++ (line (time_line m.head) ++ zs)))) (sym behind)
 
--- so what is written of them in turn is a text with them behind what it had
 pub heading_written : (m : Message) (t a b c d e f g : List ℕ) → a ≡ t ++ codes "message\n"
     → b ≡ a ++ line (section1_line m.head) → c ≡ b ++ line (time_line m.head)
     → d ≡ c ++ joined (local_lines m.head.local) → e ≡ d ++ joined (section2_lines m.section2)
@@ -106,20 +97,19 @@ heading_written m t a b c d e f g first numbers time local two flags last =
 
 -- ---- the lines of subsets
 
--- the lines of fields
 fields_joined : (fields : List Field) → flat_map (λ f. line (field_line f)) fields
     ≡ joined (map field_line fields)
 fields_joined [] = refl
 fields_joined (f ∷ fields) = ap (λ zs. line (field_line f) ++ zs) (fields_joined fields)
 
--- the lines of a subset, its first and those of its fields, behind what a text has already
+-- a text, then the lines of a subset in turn
 pub subset_behind : (t : List ℕ) (s : Subset)
     → t ++ codes "subset\n" ++ flat_map (λ f. line (field_line f)) s.fields
     ≡ t ++ joined (subset_lines s)
 subset_behind t s = append_assoc t (codes "subset\n") (flat_map (λ f. line (field_line f)) s.fields)
     ∙ ap (λ zs. t ++ (codes "subset\n" ++ zs)) (fields_joined s.fields)
 
--- the lines of a subset, its first and those of its fields, up to one of these and from it on
+-- the lines of a subset, split at a field
 pub subset_in_lines : (before left : List Field)
     → joined (subset_lines (record { fields = before ++ left }))
     ≡ line subset_line ++ flat_map (λ f. line (field_line f)) before
@@ -130,7 +120,6 @@ subset_in_lines before left =
     ∙ sym (append_assoc (line subset_line) (flat_map (λ f. line (field_line f)) before)
     (flat_map (λ f. line (field_line f)) left))
 
--- the lines of subsets
 subsets_joined : (subsets : List Subset) → joined (flat_map subset_lines subsets)
     ≡ flat_map (λ s. joined (subset_lines s)) subsets
 subsets_joined [] = refl
@@ -139,7 +128,7 @@ subsets_joined (s ∷ subsets) = joined_append (subset_lines s) (flat_map subset
 
 -- ---- listings
 
--- the listing of a message is its parts, one behind another
+-- a listing is its parts, joined
 pub listing_in_parts : (m : Message) → listing m
     ≡ joined (heading_lines m) ++ flat_map (λ s. joined (subset_lines s)) m.subsets
     ++ line end_line

@@ -1,5 +1,5 @@
--- What stands for a value, and octets between quotes that stand for themselves: for `push_value`
--- and `push_quoted`.
+-- Words for values, and octets that appear as themselves between quotes: for `push_value` and
+-- `push_quoted`.
 use Rattle.std.proofs.Common.{◌≡◌, ℕ, List, [], ◌∷◌, ◌++◌, refl, ap, sym, ◌∙◌, Result, Ok, Err, OnOk}
 use Rattle.std.proofs.Common.{codes, append_assoc}
 use Rattle.std.specs.Prelude.{Bool, true, false, ◌&&◌, if◌then◌else◌, is_ok, Option, Some, None}
@@ -16,18 +16,15 @@ use Rattle.bufr_listing.specs.Listings.{value_word}
 
 -- ---- the value of a number
 
--- a value that there is only where a test fails
 not_missing : (b : Bool) (x : Option Decimal) (d : Decimal)
     → (if b then None else x) ≡ Some d → b ≡ false
 not_missing true x d e = absurd cc
 not_missing false x d e = refl
 
--- the second of two, where a test fails
 second : (b : Bool) (a w : List ℕ) → b ≡ false → (if b then a else w) ≡ w
 second true a w h = absurd cc
 second false a w h = refl
 
--- a field with a value by its kind and its raw value has its digits
 word_by : (kind : Kind) (raw : Raw) (f : Field) (d : Decimal) → value_by kind raw f ≡ Some d
     → value f ≡ Some d → (if is_missing f then codes "missing" else raw_word f raw) ≡ text_of d
 word_by kinds.Text raw f d e v = absurd cc
@@ -48,27 +45,24 @@ word_by kinds.Count (Number n) f d e v =
     second (is_missing f) (codes "missing") (number_word (value f))
     (not_missing (is_missing f) _ d e) ∙ ap number_word v
 
--- what stands for a field with a value is its digits
+-- the word for a field with a value is the value's digits
 pub word_of_value : (f : Field) (d : Decimal) → value f ≡ Some d → value_word f ≡ text_of d
 word_of_value f d e = word_by f.spec.kind f.raw f d e e
 
 -- ---- characters
 
--- the first of two that hold
 both_first : (a b : Bool) → (a && b) ≡ true → a ≡ true
 both_first true b h = refl
 both_first false b h = absurd cc
 
--- the second of two that hold
 both_second : (a b : Bool) → (a && b) ≡ true → b ≡ true
 both_second true b h = h
 both_second false b h = absurd cc
 
--- an octet that stands for itself is printed as itself
 printed_itself : (c : ℕ) → stands_for_itself c ≡ true → quoted_octet c ≡ c ∷ []
 printed_itself c h = rw h refl
 
--- so are octets that all do
+-- octets that all appear as themselves need no change
 pub printed_themselves : (octets : List ℕ) → list_all stands_for_itself octets ≡ true
     → flat_map quoted_octet octets ≡ octets
 printed_themselves [] h = refl
@@ -77,7 +71,6 @@ printed_themselves (c ∷ cs) h =
     let rest = both_second (stands_for_itself c) (list_all stands_for_itself cs) h in
     (λ i. printed_itself c first i ++ printed_themselves cs rest i)
 
--- what is added between quotes, and the line's end
 pub between_quotes : (old first mid octets printed : List ℕ) → octets ≡ printed
     → first ≡ old ++ 34 ∷ [] → mid ≡ first ++ octets
     → mid ++ 34 ∷ 10 ∷ [] ≡ old ++ ((34 ∷ printed ++ 34 ∷ []) ++ 10 ∷ [])
@@ -87,7 +80,6 @@ between_quotes old first mid octets printed same p q =
     ∙ append_assoc old (34 ∷ []) (printed ++ 34 ∷ 10 ∷ [])
     ∙ ap (λ z. old ++ 34 ∷ z) (sym (append_assoc printed (34 ∷ []) (10 ∷ [])))
 
--- what is added where all goes well
 pub on_ok_same : {A E : Type 0} (r : Result A E) (new a b c : List ℕ)
     → new ≡ (if is_ok r then a else b) → a ≡ c → OnOk r (new ≡ c)
 on_ok_same (Ok x) new a b c e f = e ∙ f

@@ -1,5 +1,4 @@
--- Rows that the digits of numbers are written into, up to the line's end: for `push_digits`
--- and `push_numbers`.
+-- Rows filled with digits up to the line's end: for `push_digits` and `push_numbers`.
 use Rattle.std.proofs.Common.{◌≡◌, ℕ, zero, suc, pos, ◌+◌, ◌-◌, ◌<◌, ◌≤◌, List, [], ◌∷◌, ◌++◌}
 use Rattle.std.proofs.Common.{◌∙◌, ◌^◌, ◌*◌, length, take, drop, replicate, set, min, decimal, refl, ap}
 use Rattle.std.proofs.Common.{sym, map, get_or, arith, append_assoc}
@@ -15,7 +14,7 @@ use Rattle.bufr_listing.proofs.ListingFacts.{words_behind}
 
 -- ---- the digits of one number
 
--- what stands from a place on, at or before the first digit: zeros, the digits and the line's end
+-- from `start` on the row has zeros, the digits and the line's end
 padded : (row digits : List ℕ) (first start : ℕ) → start ≤ first → first ≤ 31
     → take first row ≡ take first (replicate 31 48 ++ 10 ∷ [])
     → drop first row ≡ line digits
@@ -34,7 +33,6 @@ padded row digits first start before within same behind =
     ∙ ap (λ zs. zs ++ line digits) (drop-replicate start first 48)
     ∙ sym (append_assoc (replicate (first - start) 48) digits (10 ∷ []))
 
--- the digits before the point, and what stands from the point on once it is written
 with_point : (row digits : List ℕ) (start places : ℕ) → 0 < places → places < length digits
     → start + length digits ≡ 31 → length row ≡ 32
     → drop start row ≡ line digits
@@ -59,14 +57,12 @@ with_point row digits start places some less all long stands =
     (λ i. front i ++ (kept ∙ written) i)
     ∙ sym (append_assoc (take front_of digits) (46 ∷ drop front_of digits) (10 ∷ []))
 
--- the digits of a number by a scale above 0
 pointed_by : (places n : ℕ) → 0 < places → digits_by (pos places) n
     ≡ pointed places (replicate (suc places - length (decimal n)) 48 ++ decimal n)
 pointed_by zero n none = absurd (omega (arith, none))
 pointed_by (suc s) n some = refl
 
--- the digits before the point and then what stands from it on, behind what a text has already, are
--- the number's line
+-- the digits before the point, and the row from the point on, are the number's line
 pub row_written : (old mid row : List ℕ) (n first start places : ℕ) → 0 < places → places ≤ 20
     → first + length (decimal n) ≡ 31 → start ≡ min first (31 - places - 1) → length row ≡ 32
     → take first row ≡ take first (replicate 31 48 ++ 10 ∷ [])
@@ -89,13 +85,12 @@ row_written old mid row n first start places some few all least long same behind
     ∙ ap (λ k. line (pointed places (replicate k 48 ++ decimal n))) zeros
     ∙ ap line (sym (pointed_by places n some)))
 
--- ---- numbers behind spaces
+-- ---- numbers after spaces
 
--- a space and the digits of a number
 abbrev spaced_number : ℕ → List ℕ
 spaced_number n = 32 ∷ decimal n
 
--- a number of 16 bits that stands before an end leaves room for a space before it
+-- a number of 16 bits leaves room for its space
 pub room_before : (n first end : ℕ) → n < 2 ^ 16 → 6 ≤ end → first + length (decimal n) ≡ end
     → (1 ≤ first) × (first - 1 < end) × (end ≤ first - 1 + 6)
 room_before n first end small room all =
@@ -103,7 +98,6 @@ room_before n first end small room all =
     let some = decimal_nonempty n (omega (arith, small)) in
     (omega arith, omega arith, omega arith)
 
--- a space that is put before a number
 space_put : (row rest : List ℕ) (n first : ℕ) → 1 ≤ first → first ≤ length row
     → drop first row ≡ decimal n ++ rest
     → drop (first - 1) (set row (first - 1) 32) ≡ 32 ∷ decimal n ++ rest
@@ -112,7 +106,7 @@ space_put row rest n first some within behind =
     drop-set row (first - 1) 32 (omega arith)
     ∙ ap (λ zs. 32 ∷ zs) (ap (λ k. drop k row) next ∙ behind)
 
--- a number more stands before those that are behind it
+-- the number before those in the row
 number_before : (row rest ns : List ℕ) (k : ℕ) → 0 < k → k ≤ length ns
     → row ≡ 32 ∷ decimal (get_or ns (k - 1) 0) ++ rest
     → rest ≡ flat_map spaced_number (drop k ns) ++ 10 ∷ []
@@ -126,7 +120,6 @@ number_before row rest ns k some within is behind =
     ∙ sym (append_assoc (spaced_number number) (flat_map spaced_number (drop k ns)) (10 ∷ []))
     ∙ ap (λ zs. flat_map spaced_number zs ++ 10 ∷ []) (sym parts)
 
--- so a number more, behind a space, leaves room for those that are left
 pub number_put : (old new ns : List ℕ) (k end first n : ℕ) → 0 < k → k ≤ length ns
     → drop end old ≡ flat_map spaced_number (drop k ns) ++ 10 ∷ []
     → 6 * k ≤ end → end ≤ 48 → n ≡ get_or ns (k - 1) 0 → n < 2 ^ 16 → length new ≡ 49
@@ -144,7 +137,7 @@ number_put old new ns k end first n some within behind low high is small long al
       omega arith,
     )
 
--- the numbers of a row behind their first word are their line
+-- the first word and the row are the line of the numbers
 pub numbers_written : (old mid title row ns : List ℕ) (first left : ℕ) → length row ≡ 49
     → first ≤ 48 → left ≡ 0
     → drop first row ≡ flat_map spaced_number (drop left ns) ++ 10 ∷ []

@@ -1,5 +1,5 @@
--- The listing of a message: lines of words (this project's own text form of a message of FM 94
--- BUFR). Lines stand without their ends; a text has each with its end.
+-- The listing of a message, this project's own text form of FM 94 BUFR: lines of words. A line has
+-- no end by itself; a text has each with its end.
 use Rattle.std.specs.Prelude.{ℕ, ◌==◌, ◌&&◌, not, Bool, true, false, List, [], ◌∷◌, ◌++◌, map}
 use Rattle.std.specs.Prelude.{codes, decimal, Option, Some, None, nat_le, if◌then◌else◌}
 use Rattle.std.specs.List.{flat_map}
@@ -16,7 +16,7 @@ use Rattle.bufr_sections.specs.declared.message.Message.{Message}
 
 -- ---- words and lines
 
--- a first word and words after it, parted by one space
+-- words with a space between them
 abbrev pub words : List ℕ → List (List ℕ) → List ℕ
 words first others = first ++ flat_map (λ w. 32 ∷ w) others
 
@@ -24,17 +24,18 @@ words first others = first ++ flat_map (λ w. 32 ∷ w) others
 abbrev pub line : List ℕ → List ℕ
 line text = text ++ 10 ∷ []
 
--- lines with their ends, joined
+-- the text of lines, each with its end
 abbrev pub joined : List (List ℕ) → List ℕ
 joined ls = flat_map line ls
 
 -- ---- values
 
--- an octet that stands for itself between quotes: 0x20 to 0x7E, but for the quote and the backslash
+-- whether an octet appears as itself between quotes: 0x20 to 0x7E, but not the quote and the
+-- backslash
 abbrev pub stands_for_itself : ℕ → Bool
 stands_for_itself c = nat_le 32 c && nat_le c 126 && not (c == 34) && not (c == 92)
 
--- every other octet stands as a backslash and two digits
+-- an octet between quotes: itself, or a backslash and two lower hexadecimal digits
 abbrev pub quoted_octet : ℕ → List ℕ
 quoted_octet c = if stands_for_itself c then c ∷ [] else 92 ∷ encode_lower (c ∷ [])
 
@@ -42,23 +43,23 @@ quoted_octet c = if stands_for_itself c then c ∷ [] else 92 ∷ encode_lower (
 abbrev pub quoted : List ℕ → List ℕ
 quoted text = 34 ∷ flat_map quoted_octet text ++ 34 ∷ []
 
--- the digits of a value, where there is one
+-- the digits of a value, if there is one
 abbrev pub number_word : Option Decimal → List ℕ
 number_word None = []
 number_word (Some d) = text_of d
 
--- what stands for a raw value that is not missing
+-- the word for a raw value that is not missing
 abbrev pub raw_word : Field → Raw → List ℕ
 raw_word f (Number n) = number_word (value f)
 raw_word f (Text text) = quoted text
 
--- the value of a field
+-- the word for the value of a field
 abbrev pub value_word : Field → List ℕ
 value_word f = if is_missing f then codes "missing" else raw_word f f.raw
 
 -- ---- the lines before the first subset
 
--- the numbers of section 1 but its time
+-- the numbers of section 1 without its time
 abbrev pub section1_numbers : Head → List ℕ
 section1_numbers h =
     h.centre ∷ h.sub_centre ∷ h.update ∷ h.category ∷ h.international ∷ h.local_category
@@ -68,15 +69,15 @@ section1_numbers h =
 abbrev pub time_numbers : Head → List ℕ
 time_numbers h = h.year ∷ h.month ∷ h.day ∷ h.hour ∷ h.minute ∷ h.second ∷ []
 
--- a line of numbers behind its first word
+-- a line of numbers after its first word
 abbrev pub numbers_line : List ℕ → List ℕ → List ℕ
 numbers_line title numbers = words title (map decimal numbers)
 
--- a line of octets behind its first word, in lower hexadecimal digits
+-- a line of octets after its first word, in lower hexadecimal digits
 abbrev pub octets_line : List ℕ → List ℕ → List ℕ
 octets_line title octets = words title (encode_lower octets ∷ [])
 
--- the line of section 1 but its time
+-- the line of section 1 without its time
 abbrev pub section1_line : Head → List ℕ
 section1_line h = numbers_line (codes "section1") (section1_numbers h)
 
@@ -84,27 +85,27 @@ section1_line h = numbers_line (codes "section1") (section1_numbers h)
 abbrev pub time_line : Head → List ℕ
 time_line h = numbers_line (codes "time") (time_numbers h)
 
--- the line of local octets, where there are any
+-- the line of octets for local use, if there are any
 abbrev pub local_lines : List ℕ → List (List ℕ)
 local_lines [] = []
 local_lines (x ∷ xs) = octets_line (codes "local1") (x ∷ xs) ∷ []
 
--- the line of a section 2
+-- the line of a section 2 with these octets
 abbrev pub section2_line : List ℕ → List ℕ
 section2_line [] = codes "section2"
 section2_line (x ∷ xs) = octets_line (codes "section2") (x ∷ xs)
 
--- where there is one
+-- the line of section 2, if there is one
 abbrev pub section2_lines : Option (List ℕ) → List (List ℕ)
 section2_lines None = []
 section2_lines (Some octets) = section2_line octets ∷ []
 
--- a word where a flag is up
+-- a word if a flag is up
 abbrev pub word_if : Bool → List ℕ → List (List ℕ)
 word_if true word = word ∷ []
 word_if false word = []
 
--- the line of flags: those that are set, `observed` first
+-- the line of the flags that are up, `observed` first
 abbrev pub flags_line : Bool → Bool → List ℕ
 flags_line observed compressed =
     words (codes "flags")
@@ -135,7 +136,7 @@ subset_line = codes "subset"
 abbrev pub subset_lines : Subset → List (List ℕ)
 subset_lines s = subset_line ∷ map field_line s.fields
 
--- the last line
+-- the last line of a listing
 abbrev pub end_line : List ℕ
 end_line = codes "end"
 

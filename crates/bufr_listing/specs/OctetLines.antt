@@ -1,9 +1,8 @@
--- The text of a line of octets of a listing, which is not always there.
+-- The text of a line of octets that a listing may lack.
 use Rattle.std.specs.Prelude.{ℕ, List, [], ◌∷◌, Option, Some, None}
 use Rattle.bufr_listing.specs.Listings.{line, octets_line}
 
--- the text of a line of octets, where there is one: with its end behind its first word and the
--- octets, or this where there are no octets
+-- nothing for `None`, `empty` for an empty list, else the line of the octets with its end
 abbrev pub octets_text : List ℕ → List ℕ → Option (List ℕ) → List ℕ
 octets_text title empty None = []
 octets_text title empty (Some []) = empty

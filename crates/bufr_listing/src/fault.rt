@@ -1,4 +1,4 @@
-//! Why a text is no listing.
+//! Why a text is no listing. Each type prints its number, its name and its values.
 
 ghost use Rattle.std.specs.Prelude.{Some};
 ghost use Rattle.bufr_listing.specs.Reasons.{cause_reason, listing_reason};
@@ -7,13 +7,12 @@ use bufr_expand::{TemplateFault, WalkFault};
 use std::error::Error;
 use std::fmt;
 
-/// Why the template of a line's descriptors is refused, or the next field or a subset's end. Its
-/// text is the fault's number, its name and its values.
+/// A cause of L3.
 #[derive(Clone, Copy, Debug, PartialEq, Eq)]
 pub enum Cause {
     /// X1 to X9: the descriptors have no template.
     Template(TemplateFault),
-    /// V1 or V6: no further field can stand.
+    /// V1 or V6: no further field can follow.
     Walk(WalkFault),
 }
 
@@ -30,18 +29,17 @@ impl fmt::Display for Cause {
     }
 }
 
-/// The first fault of a text, in the order of its lines; on one line L3, L1, L2. Lines count from
-/// 1. Its text is the fault's number, its name and its values.
+/// A fault of a text, the first by lines, from 1; on one line L3 comes first, then L1, then L2.
 #[derive(Clone, Copy, Debug, PartialEq, Eq)]
 pub enum ListingFault {
-    /// L1: the line is not the one that is expected, by its first word, the field's descriptor, the
-    /// number of its words or a word that is no descriptor; or the text ends within a block, with
-    /// the number after that of its last line.
+    /// L1: another line has to follow, by the first word, the field's descriptor, the number of
+    /// words, or a word that is no descriptor. If the text ends within a block, the number after
+    /// its last line.
     BadLine(u128),
-    /// L2: another word of the line is none that its place can have.
+    /// L2: another word of the line is wrong at its place.
     BadValue(u128),
-    /// L3: the template is refused at the line of the descriptors, or at this line no further field
-    /// can stand, whatever the line says.
+    /// L3: the descriptors have no template, or no further field can follow at this line, whatever
+    /// its words.
     Refused(u128, Cause),
 }
 

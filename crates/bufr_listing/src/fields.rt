@@ -1,4 +1,4 @@
-//! The lines of fields.
+//! Writes the lines of fields.
 
 ghost use Rattle.std.specs.Prelude.{◌≡◌, ◌≤◌, ◌∷◌, ◌++◌, [], length, take, pos, OnOk, OnErr};
 ghost use Rattle.bufr_tables.specs.Descriptors.{six_digits};
@@ -7,19 +7,19 @@ ghost use Rattle.bufr_listing.specs.Listings as listings;
 ghost use Rattle.bufr_listing.specs.Listings.{line, joined, quoted_octet, quoted};
 ghost use Rattle.bufr_listing.specs.Listings.{value_word, field_line, subset_line, subset_lines};
 
-use bufr_answers::OutOfMemory;
+use bufr_base::OutOfMemory;
 use bufr_fields::{Decimal, Field, Raw, Subset};
 use bufr_tables::Fxy;
 use itoa::write_digits;
 use std::alloc::Global;
 
-/// The most digits behind a point of a number that is written into a row.
+/// The most digits after a point that `push_digits` writes.
 const MOST_PLACES: i32 = 20;
 
-/// Where the line's end stands in a row, behind the digits of a number.
+/// The index of the line's end in a row of digits.
 const ROW_END: usize = 31;
 
-/// Adds the lines of a subset to octets. Where memory runs out they are as they were.
+/// Adds the lines of a subset.
 pub fn push_subset(alloc: Global, text: &mut Vec<u8>, subset: &Subset) -> Result<(), OutOfMemory>
     ensures ok { OnOk result (text.new.items ≡ text.old.items ++ joined (subset_lines subset.now)) }
     ensures err { OnErr result (text.new.items ≡ text.old.items) }
@@ -36,8 +36,7 @@ pub fn push_subset(alloc: Global, text: &mut Vec<u8>, subset: &Subset) -> Result
     Ok(())
 }
 
-/// Adds the first line of a subset to octets. With the line of each field behind it they are the
-/// lines of the subset. Where memory runs out the octets are as they were.
+/// Adds the first line of a subset. The lines of its fields follow.
 pub fn push_subset_line(text: &mut Vec<u8>) -> Result<(), OutOfMemory>
     ensures ok { OnOk result (text.new.items ≡ text.old.items ++ line subset_line) }
     ensures err { OnErr result (text.new.items ≡ text.old.items) }
@@ -45,7 +44,7 @@ pub fn push_subset_line(text: &mut Vec<u8>) -> Result<(), OutOfMemory>
     text.extend_from_slice(b"subset\n")
 }
 
-/// Adds the line of a field to octets. Where memory runs out they are as they were.
+/// Adds the line of a field.
 pub fn push_field(_alloc: Global, text: &mut Vec<u8>, field: &Field) -> Result<(), OutOfMemory>
     ensures ok { OnOk result (text.new.items ≡ text.old.items ++ line (field_line field.now)) }
     ensures err { OnErr result (text.new.items ≡ text.old.items) }
@@ -59,7 +58,7 @@ pub fn push_field(_alloc: Global, text: &mut Vec<u8>, field: &Field) -> Result<(
     added
 }
 
-/// The six digits of a descriptor and a space.
+/// Returns the six digits of a descriptor and a space.
 pub fn title(fxy: Fxy) -> [u8; 7]
     ensures { result ≡ six_digits fxy ++ 32 ∷ [] }
 {
@@ -69,9 +68,9 @@ pub fn title(fxy: Fxy) -> [u8; 7]
     ]
 }
 
-// What follows adds to octets, and only a part where memory runs out.
+// If memory runs out, the functions below leave a part of what they add.
 
-/// Adds what stands for the value of a field, and the line's end.
+/// Adds a field's value and the line's end.
 fn push_value(text: &mut Vec<u8>, field: &Field) -> Result<(), OutOfMemory>
     ensures ok { OnOk result (text.new.items ≡ text.old.items ++ line (value_word field.now)) }
     ensures kept { OnErr result (take (length text.old.items) text.new.items ≡ text.old.items) }
@@ -86,7 +85,6 @@ fn push_value(text: &mut Vec<u8>, field: &Field) -> Result<(), OutOfMemory>
     }
 }
 
-/// Adds a number and the line's end.
 fn push_number(text: &mut Vec<u8>, number: Decimal) -> Result<(), OutOfMemory>
     ensures ok { OnOk result (text.new.items ≡ text.old.items ++ line (text_of number)) }
     ensures kept { OnErr result (take (length text.old.items) text.new.items ≡ text.old.items) }
@@ -102,7 +100,7 @@ fn push_number(text: &mut Vec<u8>, number: Decimal) -> Result<(), OutOfMemory>
     push_digits(text, size as u64, number.scale as usize)
 }
 
-/// Adds the digits of a number, with so many behind a point, and the line's end.
+/// Adds the digits of `size`, `places` of them after a point, and the line's end.
 fn push_digits(text: &mut Vec<u8>, size: u64, places: usize) -> Result<(), OutOfMemory>
     requires { places ≤ 20 }
     ensures ok { OnOk result (text.new.items
@@ -122,7 +120,6 @@ fn push_digits(text: &mut Vec<u8>, size: u64, places: usize) -> Result<(), OutOf
     text.extend_from_slice(&row[point - 1..])
 }
 
-/// Adds characters between quotes and the line's end.
 fn push_quoted(text: &mut Vec<u8>, octets: &[u8]) -> Result<(), OutOfMemory>
     ensures ok { OnOk result (text.new.items ≡ text.old.items ++ line (quoted octets.now)) }
     ensures kept { OnErr result (take (length text.old.items) text.new.items ≡ text.old.items) }
@@ -138,15 +135,14 @@ fn push_quoted(text: &mut Vec<u8>, octets: &[u8]) -> Result<(), OutOfMemory>
     text.extend_from_slice(b"\"\n")
 }
 
-/// Whether an octet of a text stands for itself between quotes.
+/// Whether an octet appears as itself between quotes.
 pub fn stands_for_itself(octet: u8) -> bool
     ensures { result ≡ listings.stands_for_itself octet }
 {
     octet >= 32 && octet <= 126 && octet != b'"' && octet != b'\\'
 }
 
-/// Adds an octet of a text: itself where it can be printed, else a backslash and its two digits, in
-/// lower hexadecimal digits.
+/// Adds an octet between quotes: itself, or a backslash and two lower hexadecimal digits.
 fn push_octet(text: &mut Vec<u8>, octet: u8) -> Result<(), OutOfMemory>
     ensures ok { OnOk result (text.new.items ≡ text.old.items ++ quoted_octet octet) }
     ensures err { OnErr result (text.new.items ≡ text.old.items) }

@@ -1,4 +1,4 @@
-//! The lines of a listing before its first subset.
+//! Writes the lines of a listing before its first subset.
 
 ghost use Rattle.std.specs.Prelude.{◌≡◌, ◌≤◌, ◌∷◌, [], ◌++◌, List, OnOk, IfOk, length, option_copied};
 ghost use Rattle.bufr_fields.specs.declared.field.Subset.{Subset};
@@ -8,25 +8,22 @@ ghost use Rattle.bufr_listing.specs.Listings.{words, line, joined, numbers_line}
 ghost use Rattle.bufr_listing.specs.Listings.{section1_line, time_line, flags_line};
 ghost use Rattle.bufr_listing.specs.Listings.{descriptors_line, heading_lines};
 
-use bufr_answers::{Items, OutOfMemory};
+use bufr_base::{Items, OutOfMemory};
 use bufr_sections::{Head, LentSections};
 use bufr_tables::Fxy;
 use itoa::write_digits;
 use std::alloc::Global;
 
-/// How many octets of memory are asked for at first for the lines before the first subset: most are
-/// shorter.
+/// The first capacity for these lines, in octets.
 const HEADING_ROOM: usize = 512;
 
-/// The most digits of a number of 16 bits, and the space before it.
+/// The most octets of a number of 16 bits with the space before it.
 const MOST_OCTETS: usize = 6;
 
-/// Where the line's end stands in a row, behind eight numbers.
+/// The index of the line's end in a row, after eight numbers.
 const ROW_END: usize = 8 * MOST_OCTETS;
 
-/// The lines of a listing before its first subset, of a message of these sections, whatever its
-/// subsets. With those of each subset and the last line behind them they are the listing of the
-/// message.
+/// Returns the lines of a listing before its first subset, whatever the subsets.
 pub fn heading_text(alloc: Global, sections: &LentSections<'_>) -> Result<Vec<u8>, OutOfMemory>
     ensures { (subsets : List Subset) → IfOk result (λ text.
         text.items ≡ joined (heading_lines (message_lent sections.now subsets))) }
@@ -36,7 +33,6 @@ pub fn heading_text(alloc: Global, sections: &LentSections<'_>) -> Result<Vec<u8
     Ok(text)
 }
 
-/// Adds the lines before the first subset.
 fn push_heading(
     alloc: Global,
     text: &mut Vec<u8>,
@@ -59,7 +55,6 @@ fn push_heading(
     push_descriptors(text, sections.descriptors)
 }
 
-/// Adds the lines of the numbers of section 1.
 fn push_section1(text: &mut Vec<u8>, head: &Head) -> Result<(), OutOfMemory>
     ensures { OnOk result (text.new.items
         ≡ text.old.items ++ line (section1_line head.now) ++ line (time_line head.now)) }
@@ -86,8 +81,7 @@ fn push_section1(text: &mut Vec<u8>, head: &Head) -> Result<(), OutOfMemory>
     push_numbers(text, b"time", &time)
 }
 
-/// Adds a line of eight numbers at most behind its first word. The numbers are put into a row, each
-/// behind a space, the last first, so that they are added at once.
+/// Adds a line of at most eight numbers. Fills a row from its end, and adds it at once.
 fn push_numbers(text: &mut Vec<u8>, title: &[u8], numbers: &[u16]) -> Result<(), OutOfMemory>
     requires { length numbers.now ≤ 8 }
     ensures { OnOk result (text.new.items
@@ -105,8 +99,7 @@ fn push_numbers(text: &mut Vec<u8>, title: &[u8], numbers: &[u16]) -> Result<(),
     text.extend_from_slice(&row[first..])
 }
 
-/// Adds the line of octets, where there is one: two digits each behind its first word, or this
-/// where there are no octets.
+/// Adds a line of octets, `empty` for none, nothing for `None`.
 fn push_octets(
     alloc: Global,
     text: &mut Vec<u8>,
@@ -127,7 +120,6 @@ fn push_octets(
     push_word(text, title, digits.as_bytes())
 }
 
-/// Adds a line of two words.
 fn push_word(text: &mut Vec<u8>, title: &[u8], word: &[u8]) -> Result<(), OutOfMemory>
     ensures { OnOk result (text.new.items
         ≡ text.old.items ++ line (words title.now (word.now ∷ []))) }
@@ -138,7 +130,6 @@ fn push_word(text: &mut Vec<u8>, title: &[u8], word: &[u8]) -> Result<(), OutOfM
     text.extend_from_slice(b"\n")
 }
 
-/// Adds the line of the flags.
 fn push_flags(text: &mut Vec<u8>, observed: bool, compressed: bool) -> Result<(), OutOfMemory>
     ensures { OnOk result (text.new.items
         ≡ text.old.items ++ line (flags_line observed compressed)) }
@@ -152,7 +143,6 @@ fn push_flags(text: &mut Vec<u8>, observed: bool, compressed: bool) -> Result<()
     text.extend_from_slice(words.as_bytes())
 }
 
-/// Adds the line of the descriptors.
 fn push_descriptors(text: &mut Vec<u8>, descriptors: &[Fxy]) -> Result<(), OutOfMemory>
     ensures { OnOk result (text.new.items
         ≡ text.old.items ++ line (descriptors_line descriptors.now)) }

@@ -1,4 +1,4 @@
-//! Listings: messages as lines of words.
+//! Writes listings: messages as lines of words. A call that runs out of memory changes nothing.
 #![tactic(auto)]
 
 mod fault;
@@ -13,4 +13,4 @@ pub use fault::{Cause, ListingFault};
 pub use fields::{push_field, push_subset, push_subset_line, stands_for_itself, title};
 pub use heading::heading_text;
 pub use text::{end_text, subset_text, text_of};
-pub use writer::{ListingWriteFault, write_message};
+pub use writer::{ListingWriteFault, write};

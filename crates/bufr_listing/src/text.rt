@@ -1,11 +1,11 @@
-//! The text of a listing, whole or in parts.
+//! Writes a listing, whole or in parts.
 
 ghost use Rattle.std.specs.Prelude.{◌≡◌, IfOk};
 ghost use Rattle.bufr_listing.specs.Listings.{line, joined, subset_lines, end_line, listing};
 
 use crate::fields::push_subset;
 use crate::heading::heading_text;
-use bufr_answers::OutOfMemory;
+use bufr_base::OutOfMemory;
 use bufr_fields::Subset;
 use bufr_sections::{LentSections, Message};
 use std::alloc::Global;
@@ -13,7 +13,7 @@ use std::alloc::Global;
 /// The last line of a listing.
 const END_LINE: &str = "end\n";
 
-/// The listing of a message: one line for each thing that it says.
+/// Returns the listing of a message.
 #[tactic(auto, using(crate::proofs::ListingFacts::listing_in_parts))]
 pub fn text_of(alloc: Global, message: &Message) -> Result<Vec<u8>, OutOfMemory>
     ensures { IfOk result (λ text. text.items ≡ listing message.now) }
@@ -26,7 +26,7 @@ pub fn text_of(alloc: Global, message: &Message) -> Result<Vec<u8>, OutOfMemory>
     Ok(text)
 }
 
-/// The lines of one subset.
+/// Returns the lines of one subset.
 pub fn subset_text(alloc: Global, subset: &Subset) -> Result<Vec<u8>, OutOfMemory>
     ensures { IfOk result (λ text. text.items ≡ joined (subset_lines subset.now)) }
 {
@@ -35,7 +35,7 @@ pub fn subset_text(alloc: Global, subset: &Subset) -> Result<Vec<u8>, OutOfMemor
     Ok(text)
 }
 
-/// The last line of each listing, behind its subsets. Takes no memory.
+/// Returns the last line of a listing.
 pub fn end_text() -> &'static [u8]
     ensures { result.now ≡ line end_line }
 {

@@ -1,4 +1,4 @@
-//! Worked examples of listings: the quotes of texts, and what is printed of faults.
+//! Worked examples of listings: quotes, and texts of faults.
 
 ghost use Rattle.std.specs.Prelude.{◌≡◌, ◌++◌, ◌∷◌, [], codes};
 ghost use Rattle.bufr_tables.specs.Descriptors.{descriptor};
@@ -8,8 +8,7 @@ ghost use Rattle.bufr_listing.specs.Reasons.{listing_reason};
 use super::{Cause, ListingFault};
 use bufr_expand::{TemplateFault, WalkFault};
 
-/// Octets between quotes, each beside its neighbours: 0x20 to 0x7E stand for themselves but for the
-/// quote and the backslash.
+/// Octets between quotes, at each border of those that appear as themselves.
 #[tactic(auto, unfolding(crate::proofs::OnLiterals::listings_on_literals))]
 pub fn quotes()
     ensures plain { quoted (32 ∷ 33 ∷ 35 ∷ 91 ∷ 93 ∷ 126 ∷ [])
@@ -20,7 +19,7 @@ pub fn quotes()
     ensures own { quoted (34 ∷ 92 ∷ []) ≡ 34 ∷ 92 ∷ codes "22" ++ 92 ∷ codes "5c" ++ 34 ∷ [] }
 {}
 
-/// What is printed of faults.
+/// Texts of faults.
 #[tactic(auto, unfolding(crate::proofs::OnLiterals::listings_on_literals))]
 pub fn reasons_of_listings()
     ensures line { listing_reason (ListingFault.BadLine 3) ≡ codes "L1 BadLine 3" }

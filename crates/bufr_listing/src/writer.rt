@@ -1,4 +1,4 @@
-//! Writing a listing.
+//! Writes a listing to a device.
 
 ghost use Rattle.std.specs.Prelude.{◌≡◌, ◌≤◌, ℕ, true, false, length, take, OnOk, Err};
 ghost use Rattle.bufr_bits.specs.Devices.{Writes};
@@ -11,19 +11,20 @@ use bufr_sections::Message;
 use std::alloc::Global;
 use thiserror::Error;
 
-/// Why a listing was not written.
+/// A fault of writing a listing.
 #[derive(Clone, Copy, Debug, Drop, PartialEq, Eq, Error)]
 pub enum ListingWriteFault {
-    /// The writer failed after so many octets of the listing.
+    /// The writer failed after `written` octets of the listing.
     #[error("write failed after {written} octets")]
     WriteFailed { written: u128 },
-    /// Memory ran out, before anything was written.
+    /// Memory ran out before the first octet.
     #[error("out of memory")]
     OutOfMemory,
 }
 
-/// Writes the listing of a message. A writer that fails has taken a front of it.
-pub fn write_message<W: Sink>(
+/// Writes the listing of a message. A writer that fails has taken as many octets as the fault
+/// counts.
+pub fn write<W: Sink>(
     alloc: Global,
     message: &Message,
     writer: &mut W,

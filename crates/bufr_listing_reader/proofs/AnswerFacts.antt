@@ -1,11 +1,11 @@
--- What a call answers that answers the messages that a text lists, for `read`; and octets that may be
--- absent, for `head_of`.
+-- Results of reading a text against the messages that it lists, and octets that a message may lack:
+-- for `read` and `head_of`.
 use Rattle.std.proofs.Common.{◌≡◌, ℕ, List, [], Vec, Global, Result, Ok, Err, unwrap_or, refl, subst}
 use Rattle.std.specs.Prelude.{IfOk, Option, Some, None, option_map}
-use Rattle.bufr_answers.specs.Answers.{Gives}
+use Rattle.bufr_base.specs.Answers.{Gives}
 use Rattle.bufr_tables.specs.Entries.{Entries}
-use Rattle.bufr_answers.specs.declared.failure.Failure.{Failure}
-use Rattle.bufr_answers.specs.declared.failure.Failure.TheVariants.{Fault}
+use Rattle.bufr_base.specs.declared.failure.Failure.{Failure}
+use Rattle.bufr_base.specs.declared.failure.Failure.TheVariants.{Fault}
 use Rattle.bufr_sections.specs.declared.message.Message.{Message}
 use Rattle.bufr_listing.specs.declared.fault.ListingFault.{ListingFault}
 use Rattle.bufr_listing_reader.specs.Lines.{Listed}
@@ -14,14 +14,12 @@ use Rattle.bufr_listing_reader.specs.Reading.{messages_listed}
 use Rattle.bufr_listing_reader.specs.Laws.{MessagesReadAreListed, MessagesListedAreRead}
 use Rattle.bufr_listing_reader.specs.Laws.{FaultsReadAreFirst, FirstFaultsAreRead}
 
--- an answer of messages is listed by the text
 pub answer_listed : {X : Type 0} → MessagesReadAreListed → (tables : Entries) (text : List ℕ)
     (view : X → List Message) (r : Result X (Failure ListingFault))
     → Gives view r (messages_listed tables text) → IfOk r (λ x. Listed tables text (view x))
 answer_listed law tables text view (Ok x) exact = law tables text (view x) exact
 answer_listed law tables text view (Err e) exact = tt
 
--- and messages that the text lists are the answer
 pub listed_answered : {X : Type 0} → MessagesListedAreRead → (tables : Entries) (text : List ℕ)
     (view : X → List Message) (r : Result X (Failure ListingFault))
     → Gives view r (messages_listed tables text) → (messages : List Message)
@@ -29,7 +27,6 @@ pub listed_answered : {X : Type 0} → MessagesListedAreRead → (tables : Entri
 listed_answered law tables text view r exact messages listed =
     subst (Gives view r) (law tables text messages listed) exact
 
--- an answer of a fault is the first of the text
 pub answer_first_fault : {X : Type 0} → FaultsReadAreFirst → (tables : Entries) (text : List ℕ)
     (view : X → List Message) (r : Result X (Failure ListingFault))
     → Gives view r (messages_listed tables text) → (fault : ListingFault)
@@ -38,7 +35,6 @@ answer_first_fault law tables text view r exact fault is =
     law tables text fault
     (subst (λ r. Gives view r (messages_listed tables text)) is exact)
 
--- and the first fault of the text is the answer
 pub first_fault_answered : {X : Type 0} → FirstFaultsAreRead → (tables : Entries) (text : List ℕ)
     (view : X → List Message) (r : Result X (Failure ListingFault))
     → Gives view r (messages_listed tables text) → (fault : ListingFault)
@@ -46,7 +42,6 @@ pub first_fault_answered : {X : Type 0} → FirstFaultsAreRead → (tables : Ent
 first_fault_answered law tables text view r exact fault first =
     subst (Gives view r) (law tables text fault first) exact
 
--- octets that may be absent, or none
 pub local_items : (o : Option (Vec ℕ Global)) (none : Vec ℕ Global) → none.items ≡ []
     → (unwrap_or o none).items ≡ unwrap_or (option_map (λ v. v.items) o) []
 local_items None none e = e

@@ -1,5 +1,4 @@
--- A line that was taken, and what is read of it: for the readers of lines, by way of which `read`
--- answers the messages that a text lists.
+-- The next line, and what reading makes of it: for the readers of lines.
 use Rattle.std.proofs.Common.{◌≡◌, ℕ, Bool, true, false, List, [], ◌∷◌, length, get_or, drop, codes}
 use Rattle.std.proofs.Common.{inl, inr, arith, Result, Ok, Err, refl, sym, ap, ◌∙◌, subst}
 use Rattle.std.specs.Prelude.{◌==◌, ◌&&◌, ◌||◌, Some, None, nat_le, if◌then◌else◌}
@@ -7,10 +6,10 @@ use Rattle.std.specs.List.{onto_first}
 use Rattle.std.proofs.lemmas.Bool.{cases_Bool, cond-false, false≢true}
 use Rattle.std.proofs.lemmas.List.Splits.{slice_split-cons_yes, slice_split-cons_no}
 use Rattle.std.specs.Str.{bytes_eq}
-use Rattle.bufr_answers.specs.Answers.{◌>>=◌, Fails}
-use Rattle.bufr_answers.specs.declared.failure.Failure.{Failure}
-use Rattle.bufr_answers.specs.declared.failure.Failure.TheVariants.{Fault, OutOfMemory}
-use Rattle.bufr_answers.specs.AnswerLaws.{ok_is}
+use Rattle.bufr_base.specs.Answers.{◌>>=◌, Fails}
+use Rattle.bufr_base.specs.declared.failure.Failure.{Failure}
+use Rattle.bufr_base.specs.declared.failure.Failure.TheVariants.{Fault, OutOfMemory}
+use Rattle.bufr_base.specs.AnswerLaws.{ok_is}
 use Rattle.bufr_listing.specs.declared.fault.ListingFault.{ListingFault}
 use Rattle.bufr_listing.specs.declared.fault.ListingFault.TheVariants.{BadLine, BadValue}
 use Rattle.bufr_listing.specs.Listings.{flags_line}
@@ -24,14 +23,12 @@ use Rattle.bufr_listing_reader.proofs.LineFacts.{IsWord, one_word}
 use Rattle.bufr_listing_reader.proofs.WordFacts.{some_word}
 use Rattle.bufr_listing_reader.proofs.FieldFacts.{same_bytes, other_bytes}
 
--- the line that is taken is the first, and the others are left
 taken_is : (past : ℕ) (ls : List Line) (l : Line) (rest : List Line) → next_of past ls
     ≡ Ok (l, rest) → ls ≡ l ∷ rest
 taken_is past [] l rest h = absurd cc
 taken_is past (x ∷ xs) l rest h = let e : (x, xs) ≡ (l, rest) = ok_is (x, xs) (l, rest) h in
     ap (λ (p : Line × List Line). p.0 ∷ p.1) e
 
--- what a line says, and the lines behind it
 pub taken_ok : {A : Type 0} (read : ℕ → List ℕ → Result A ListingFault) (past : ℕ)
     (ls : List Line) (l : Line) (rest : List Line) (a : A)
     → next_of past ls ≡ Ok (l, rest) → read l.number l.text ≡ Ok a → read_line read past ls
@@ -39,7 +36,6 @@ pub taken_ok : {A : Type 0} (read : ℕ → List ℕ → Result A ListingFault) 
 taken_ok read past ls l rest a h e = ap (read_line read past) (taken_is past ls l rest h)
     ∙ ap (λ r. r >>= with_rest rest) e
 
--- what fails on the line that is taken fails for the lines
 pub taken_err : {A : Type 0} (read : ℕ → List ℕ → Result A ListingFault) (past : ℕ)
     (ls : List Line) (l : Line) (rest : List Line) (e : Failure ListingFault)
     → next_of past ls ≡ Ok (l, rest) → Fails e (read l.number l.text)
@@ -50,21 +46,18 @@ taken_err read past ls l rest (Fault f) h e = ap (read_line read past) (taken_is
 
 -- ---- a line that is one word
 
--- no other text is read
 pub word_is_not : (word : List ℕ) (n : ℕ) (text : List ℕ) → has_octets word ≡ false
     → bytes_eq text word ≡ false → read_word word n (as_printed text) ≡ Err (BadLine n)
 word_is_not word n text plain e = rw (same_test text word plain, e) refl
 
 -- ---- the line of the flags
 
--- a line of flags has no octets
 plain_flags : (o c : Bool) → has_octets (flags_line o c) ≡ false
 plain_flags false false = refl
 plain_flags true false = refl
 plain_flags false true = refl
 plain_flags true true = refl
 
--- a line that is none of the four
 pub flags_are_not : (n : ℕ) (text : List ℕ) → bytes_eq text (flags_line false false) ≡ false
     → bytes_eq text (flags_line true false) ≡ false → bytes_eq text (flags_line false true)
     ≡ false → bytes_eq text (flags_line true true) ≡ false
@@ -81,7 +74,6 @@ flags_are_not n text a b c d =
       count_printed text,
     ) refl
 
--- one of both tests of the last lines fails
 pub flags_are_others : (n : ℕ) (text : List ℕ) → bytes_eq text (flags_line false false) ≡ false
     → bytes_eq text (flags_line true false) ≡ false → bytes_eq text (flags_line false true)
     ≡ false → bytes_eq text (flags_line true true) ≡ false
@@ -90,27 +82,23 @@ pub flags_are_others : (n : ℕ) (text : List ℕ) → bytes_eq text (flags_line
 flags_are_others n text a b c d e =
     flags_are_not n text a b c d ∙ ap (λ b. Err (if b then BadValue n else BadLine n)) e
 
--- ---- the words of a line behind its first
+-- ---- the words of a line after its first
 
--- a first word and those behind it are all
 first_and_others : (us ws : List (List ℕ)) (title : List ℕ) → (us ≡ [] → ⊥)
     → get_or us 0 [] ≡ title → ws ≡ drop 1 us → us ≡ title ∷ ws
 first_and_others [] ws title some first e = absurd (some refl)
 first_and_others (u ∷ us) ws title some first e = λ i. first i ∷ sym e i
 
--- the words of a line with this first word
 pub titled_words : (text title : List ℕ) (ws : List (List ℕ)) → first_word text ≡ title
     → ws ≡ drop 1 (words_of text) → words_of text ≡ title ∷ ws
 titled_words text title ws first e =
     first_and_others (words_of text) ws title (λ none. some_word text none) first e
 
--- what stands before a space is a word still
 onto_word : (c : ℕ) (ws : List (List ℕ)) → (c == 32) ≡ false → IsWord (get_or ws 0 [])
     → IsWord (get_or (onto_first c ws) 0 [])
 onto_word c [] e h = (e, tt)
 onto_word c (w ∷ ws) e h = (e, h)
 
--- the first word of a line has no space
 pub first_is_word : (text : List ℕ) → IsWord (first_word text)
 first_is_word [] = tt
 first_is_word (c ∷ text) =
@@ -124,11 +112,9 @@ first_is_word (c ∷ text) =
           (onto_word c (words_of text) e (first_is_word text))
     ]
 
--- the first word of a line is a word
 pub title_is_word : (text title : List ℕ) → first_word text ≡ title → IsWord title
 title_is_word text title first = subst IsWord first (first_is_word text)
 
--- a line has octets where its first word says so
 pub title_octets : (text title : List ℕ) (b : Bool) → first_word text ≡ title → has_octets title
     ≡ b → has_octets text ≡ b
 title_octets text title b first octets =
@@ -137,16 +123,14 @@ title_octets text title b first octets =
     ap (λ w. bytes_eq w (codes "local1") || bytes_eq w (codes "section2")) (first ∙ sym own)
     ∙ octets
 
--- ---- a line that may be absent
+-- ---- a line that a message may lack
 
--- a line with this first word is read
 read_if_some : {A : Type 0} (title : List ℕ) (read : ℕ → List ℕ → Result A ListingFault)
     (l : TextLine) (rest : List Line) → bytes_eq (first_word l.text.now) title ≡ true
     → read_if title read (printed l ∷ rest)
     ≡ (read (printed l).number (printed l).text >>= λ a. with_rest rest (Some a))
 read_if_some title read l rest is = rw (first_printed l.text.now, is) refl
 
--- what is read of it, and the lines behind it
 pub found_ok : {A : Type 0} (title : List ℕ) (read : ℕ → List ℕ → Result A ListingFault)
     (ls : List Line) (l : TextLine) (rest after : List Line) (a : A)
     → ls ≡ printed l ∷ rest → after ≡ drop 1 ls → bytes_eq (first_word l.text.now) title ≡ true
@@ -156,7 +140,6 @@ found_ok title read ls l rest after a e behind is h =
     ap (read_if title read) e ∙ read_if_some title read l rest is
     ∙ ap (λ r. r >>= λ a. with_rest rest (Some a)) h ∙ ap (λ (xs : List Line). Ok (Some a, xs)) same
 
--- what fails on it fails for the lines
 pub found_err : {A : Type 0} (title : List ℕ) (read : ℕ → List ℕ → Result A ListingFault)
     (ls : List Line) (l : TextLine) (rest : List Line) (e : Failure ListingFault)
     → ls ≡ printed l ∷ rest → bytes_eq (first_word l.text.now) title ≡ true
@@ -166,7 +149,6 @@ found_err title read ls l rest (Fault f) e is h =
     ap (read_if title read) e ∙ read_if_some title read l rest is
     ∙ ap (λ r. r >>= λ a. with_rest rest (Some a)) h
 
--- a line with another first word is left
 pub not_found : {A : Type 0} (title : List ℕ) (read : ℕ → List ℕ → Result A ListingFault)
     (ls : List Line) (l : TextLine) (rest : List Line)
     → ls ≡ printed l ∷ rest → bytes_eq (first_word l.text.now) title ≡ false
@@ -177,7 +159,6 @@ not_found title read ls l rest e is =
     (with_rest (printed l ∷ rest) None) (ap (λ w. bytes_eq w title) (first_printed l.text.now) ∙ is)
     ∙ ap (λ (xs : List Line). Ok (None, xs)) (sym e)
 
--- where no line is left, nothing is read
 pub none_found : {A : Type 0} (title : List ℕ) (read : ℕ → List ℕ → Result A ListingFault)
     (ls : List Line) → ls ≡ [] → read_if title read ls ≡ Ok (None, ls)
 none_found title read ls e = ap (read_if title read) e ∙ ap (λ (xs : List Line). Ok (None, xs))
@@ -185,13 +166,12 @@ none_found title read ls e = ap (read_if title read) e ∙ ap (λ (xs : List Lin
 
 -- ---- the line of section 2
 
--- one word alone
 none_more : (us : List (List ℕ)) → length us ≡ 1 → us ≡ get_or us 0 [] ∷ []
 none_more [] h = absurd (omega arith)
 none_more (u ∷ []) h = refl
 none_more (u ∷ v ∷ us) h = absurd (omega arith)
 
--- only a line of that word alone is printed so
+-- only a line of that word alone prints so
 pub printed_section2 : (text : List ℕ) → bytes_eq text (codes "section2") ≡ false
     → bytes_eq (as_printed text) (codes "section2") ≡ false
 printed_section2 text other =
@@ -205,7 +185,6 @@ printed_section2 text other =
     false≢true (sym other ∙ same_bytes text (codes "section2")
     (line_of_words text (codes "section2") [] alone)))
 
--- a line of section 2 with more than its first word is one of octets
 pub section2_octets : (n : ℕ) (text : List ℕ) → bytes_eq text (codes "section2") ≡ false
     → read_section2 n (as_printed text) ≡ read_octets (codes "section2")
     (length (words_of (as_printed text)) == 2) n (as_printed text)

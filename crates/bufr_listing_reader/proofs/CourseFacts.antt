@@ -1,5 +1,5 @@
--- Each field that a course asks for can be printed: its scale is -600 to 600. For the laws of
--- listings, `listings_list_messages` and `listings_are_read_back`.
+-- A course asks only for fields that decimals can print, with a scale from -600 to 600: for the
+-- laws of listings.
 use Rattle.std.proofs.Common.{◌≡◌, ℕ, ◌<◌, ◌≤◌, true, ℤ, pos, negsuc, arith}
 use Rattle.std.specs.Int.RustNames.{unsigned_abs}
 use Rattle.std.proofs.lemmas.Bool.{le-leb, lt-ltb}
@@ -12,31 +12,27 @@ use Rattle.bufr_expand.specs.Courses.{Course, ends, stops, asks, course}
 use Rattle.bufr_listing_reader.proofs.LowerLaws.{FieldsAreInRange}
 use Rattle.bufr_listing_reader.proofs.FieldFacts.{IsPrintable}
 
--- a number whose size is at most a limit is within it
 within_from_abs : (limit : ℕ) (z : ℤ) → unsigned_abs z ≤ limit → is_within limit z ≡ true
 within_from_abs limit (pos n) h = le-leb n limit h
 within_from_abs limit (negsuc n) h = let k : n < limit = omega arith in lt-ltb n limit k
 
--- a spec in range can be printed
 printable : (spec : Spec) → IsInRange spec → IsPrintable spec
 printable spec h = record {
   scale = within_from_abs 600 spec.scale (omega (arith, h.scale_within));
   reference = omega (arith, h.reference_within);
 }
 
--- each field that a course asks for can be printed
+-- a course asks only for printable fields
 unfoldable pub AsksPrintable : Course → Type 0
 AsksPrintable (ends n) = Unit {0}
 AsksPrintable (stops n fault) = Unit {0}
 AsksPrintable (asks met d spec more) = IsPrintable spec × ((n : ℕ) → AsksPrintable (more n))
 
--- so it is where each is in range
 asks_printable : (c : Course) → EachAsked IsInRange c → AsksPrintable c
 unfolding AsksPrintable EachAsked
 asks_printable (ends n) h = tt
 asks_printable (stops n fault) h = tt
 asks_printable (asks met d spec more) h = (printable spec h.0, λ n. asks_printable (more n) (h.1 n))
 
--- the course of a tree asks for such fields alone
 pub course_printable : FieldsAreInRange → (t : Tree) (used : ℕ) → AsksPrintable (course t used)
 course_printable range t used = asks_printable (course t used) (range t used)

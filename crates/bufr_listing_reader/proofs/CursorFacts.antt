@@ -1,5 +1,4 @@
--- The first line of a text and the lines behind it: for the reader of lines, by way of which `read`
--- answers the messages that a text lists.
+-- The first line of a text and the lines after it: for the reader of lines.
 use Rattle.std.proofs.Common.{◌≡◌, ℕ, ◌+◌, ◌-◌, ◌<◌, Bool, true, false, List, [], ◌∷◌}
 use Rattle.std.proofs.Common.{length, take, drop, get_or, refl, ap, ◌∙◌, subst, arith}
 use Rattle.std.specs.Prelude.{◌==◌, Option, Some, None, nat_lt, if◌then◌else◌}
@@ -16,9 +15,8 @@ use Rattle.memchr.specs.Find.{IsFirstByte, is_byte}
 use Rattle.bufr_listing_reader.specs.Cursors.{line_end, first_line_of, without_return}
 use Rattle.bufr_listing_reader.specs.Lines.{is_skipped, as_printed, counting_from}
 
--- ---- where the first line ends
+-- ---- the end of the first line
 
--- where the first LF is found, the first line ends
 pub end_found : (text : List ℕ) (k : ℕ) → IsFirstByte (is_byte 10) text (Some k)
     → (line_end text ≡ k) × (k < length text)
 end_found text k h = (
@@ -28,14 +26,12 @@ end_found text k h = (
   h.0.high,
 )
 
--- where none is found, the line is the whole text
 pub end_missing : (text : List ℕ) → IsFirstByte (is_byte 10) text None → line_end text ≡ length text
 end_missing text h =
     position_or_len_is (λ b. b == 10) text (length text) 0 (omega arith)
     (λ i lt. false_from_ne_true (get_or text i 0 == 10) (h i (omega arith) lt))
     (λ lt. absurd (omega (arith, lt)))
 
--- the first line before its LF
 pub first_with_end : (text : List ℕ) (k : ℕ) → IsFirstByte (is_byte 10) text (Some k)
     → (length text == 0) ≡ false
     → first_line_of text ≡ Some (without_return (take k text), drop (k + 1) text)
@@ -43,7 +39,6 @@ first_with_end text k h some =
     let e = end_found text k h in
     rw (some, e.0, lt-ltb k (length text) e.1) refl
 
--- the first line of a text without LF
 pub first_without_end : (text : List ℕ) → IsFirstByte (is_byte 10) text None → (length text == 0)
     ≡ false → first_line_of text ≡ Some (text, [])
 first_without_end text h some =
@@ -51,15 +46,13 @@ first_without_end text h some =
     let no : nat_lt (length text) (length text) ≡ false = grind (arith, nat_tests) in
     rw (some, e, no) refl
 
--- ---- the lines behind the first
+-- ---- the lines after the first
 
--- a part behind which others come is a line
 some_parts : (x : List ℕ) (parts : List (List ℕ)) → 0 < length parts → lines_of_parts (x ∷ parts)
     ≡ strip_carriage_return x ∷ lines_of_parts parts
 some_parts x [] h = absurd (omega arith)
 some_parts x (y ∷ more) h = refl
 
--- the first line, and the lines of what comes behind it
 lines_more : (text : List ℕ) → line_end text < length text → lines text ≡ without_return
     (take (line_end text) text) ∷ lines (drop (line_end text + 1) text)
 lines_more text lt =
@@ -69,11 +62,9 @@ lines_more text lt =
     ap lines_of_parts (slice_split_first p text 0 lt) ∙ some_parts (take (line_end text) text)
     (slice_split p rest) (omega (arith, count))
 
--- the last part is a line where it is not empty
 one_part : (x : List ℕ) → (length x == 0) ≡ false → lines_of_parts (x ∷ []) ≡ x ∷ []
 one_part x h = rw h refl
 
--- a text without LF is one line
 lines_one : (text : List ℕ) → nat_lt (line_end text) (length text) ≡ false → (length text == 0)
     ≡ false → lines text ≡ text ∷ []
 lines_one text late some =
@@ -83,16 +74,14 @@ lines_one text late some =
     (λ i lt. fails_before_first p text i 0 (grind (arith, nat_tests))) in
     ap lines_of_parts (slice_split_none p text all) ∙ one_part text some
 
--- the lines of a text whose first line is this one
+-- this is the first line, and the lines of the rest are the others
 pub record Behind (text line rest : List ℕ) : Type 0 where
   pub lines : lines text ≡ line ∷ lines rest
   pub shorter : length rest < length text
 
--- fewer octets are left behind a line
 length_drop : (k : ℕ) (t : List ℕ) → k < length t → length (drop (k + 1) t) < length t
 length_drop k t h = let left = length-drop (k + 1) t in omega (arith, left, h)
 
--- what stands behind the first line, by whether the text is empty and has an LF
 behind_by : (empty within : Bool) (text line rest : List ℕ) → (length text == 0) ≡ empty
     → nat_lt (line_end text) (length text) ≡ within
     → ◌≡◌ {A = Option (List ℕ × List ℕ)} (if empty then None else if within then Some
@@ -111,13 +100,11 @@ behind_by false false text line rest e f h =
     subst (λ (x : List ℕ × List ℕ). Behind text x.0 x.1) is
     (record { lines = lines_one text f e; shorter = grind (arith, nat_tests) })
 
--- what stands behind the first line
 pub behind_first : (text line rest : List ℕ) → first_line_of text ≡ Some (line, rest)
     → Behind text line rest
 behind_first text line rest h =
     behind_by (length text == 0) (nat_lt (line_end text) (length text)) text line rest refl refl h
 
--- where no first line is, by the same
 nothing_by : (empty within : Bool) (text : List ℕ) → (length text == 0) ≡ empty
     → ◌≡◌ {A = Option (List ℕ × List ℕ)} (if empty then None else if within then Some
     (without_return (take (line_end text) text), drop (line_end text + 1) text) else Some
@@ -127,19 +114,16 @@ nothing_by true within text e h = ap lines (nil_from_length text (eqb-true (leng
 nothing_by false true text e h = absurd cc
 nothing_by false false text e h = absurd cc
 
--- where no first line is, there are no lines
 pub no_first : (text : List ℕ) → first_line_of text ≡ None → lines text ≡ []
 no_first text h = nothing_by (length text == 0) (nat_lt (line_end text) (length text)) text refl h
 
 -- ---- lines that count
 
--- a line that is skipped is counted and left out
 pub skipped : (n : ℕ) (text line rest : List ℕ) → lines text ≡ line ∷ lines rest → is_skipped line
     ≡ true → counting_from n (lines text) ≡ counting_from (n + 1) (lines rest)
 unfolding counting_from
 skipped n text line rest e is = ap (counting_from n) e ∙ rw is refl
 
--- a line that is not is the next
 pub counted : (n : ℕ) (text line rest : List ℕ) → lines text ≡ line ∷ lines rest → is_skipped line
     ≡ false
     → counting_from n (lines text) ≡ record { number = n; text = as_printed line } ∷ counting_from
@@ -147,19 +131,16 @@ pub counted : (n : ℕ) (text line rest : List ℕ) → lines text ≡ line ∷ 
 unfolding counting_from
 counted n text line rest e is = ap (counting_from n) e ∙ rw is refl
 
--- no lines, none that count
 pub none_counted : (n : ℕ) (text : List ℕ) → lines text ≡ [] → counting_from n (lines text) ≡ []
 unfolding counting_from
 none_counted n text e = ap (counting_from n) e
 
 -- ---- slices up to the end of a text
 
--- nothing is left behind the whole text
 pub none_left : (text : List ℕ) → take (length text - length text) (drop (length text) text) ≡ []
 none_left text = let none : length text - length text ≡ 0 = omega arith in
     ap (λ n. take n (drop (length text) text)) none
 
--- as many octets of the rest as there are
 pub rest_whole : (k : ℕ) (text : List ℕ) → take (length text - k) (drop k text) ≡ drop k text
 rest_whole k text = let left = length-drop k text in
     take_all (length text - k) (drop k text) (omega (arith, left))

@@ -1,5 +1,4 @@
--- The descriptors of words are those of the line: for the reader of the line of descriptors, which
--- `read` calls.
+-- The descriptors of words are those of the line: for `descriptors_of`.
 use Rattle.std.proofs.Common.{◌≡◌, ℕ, ◌<◌, true, false, List, [], ◌∷◌, length, map, get_or}
 use Rattle.std.proofs.Common.{drop, codes, unwrap_or, refl, sym, ap, ◌∙◌, subst, ◌^◌}
 use Rattle.std.specs.Prelude.{◌==◌, ◌&&◌, not, Option, Some, None, Err}
@@ -28,7 +27,6 @@ pub record DescriptorsFound (ws : List (List ℕ)) (ds : List ℕ) : Type 0 wher
   pub texts : map six_digits ds ≡ ws
   pub values : map (λ w. unwrap_or (of_text w) 0) ws ≡ ds
 
--- descriptors that are read of words, word by word
 pub descriptors_found : DescriptorTexts → (ws : List (List ℕ)) (ds : List ℕ) → descriptors_of ws
     ≡ Some ds → DescriptorsFound ws ds
 unfolding descriptors_of
@@ -44,7 +42,6 @@ descriptors_found law (w ∷ ws) ds h =
     subst (λ xs. DescriptorsFound (w ∷ ws) xs) p.4
     (record { texts = λ i. text i ∷ others.texts i; values = λ i. value i ∷ others.values i })
 
--- descriptors are read of the words that they print
 descriptors_again : DescriptorTexts → (ds : List ℕ) → AllByRecursion (λ d. d < 2 ^ 16) ds
     → descriptors_of (map six_digits ds) ≡ Some ds
 unfolding descriptors_of
@@ -56,11 +53,9 @@ descriptors_again law (d ∷ ds) h =
 
 -- ---- the line of the descriptors
 
--- the first word of the line is a word
 title_word : IsWord (codes "descriptors")
 title_word = literal_word (codes "descriptors") refl
 
--- a line that does not begin with the title is another one
 pub untitled_descriptors : (tables : Entries) (n : ℕ) (text : List ℕ) → bytes_eq (first_word text)
     (codes "descriptors") ≡ false → read_descriptors tables n (as_printed text) ≡ Err (BadLine n)
 untitled_descriptors tables n text other =
@@ -77,14 +72,12 @@ untitled_descriptors tables n text other =
     (ap first_word (sym line) ∙ first_of_words (codes "descriptors")
     (map six_digits ds) title_word)))
 
--- a line of descriptors has no octets
 plain_line : (text : List ℕ) (ws : List (List ℕ)) → words_of text ≡ codes "descriptors" ∷ ws
     → as_printed text ≡ text
 plain_line text ws e =
     own_printed text (title_octets text (codes "descriptors") false
     (ap (λ us. get_or us 0 []) e) refl)
 
--- a word that is no descriptor
 pub descriptors_are_not : DescriptorTexts → (tables : Entries) (n : ℕ) (text : List ℕ)
     (ws : List (List ℕ)) → words_of text ≡ codes "descriptors" ∷ ws → descriptors_of ws ≡ None
     → read_descriptors tables n (as_printed text) ≡ Err (BadLine n)
@@ -103,7 +96,6 @@ descriptors_are_not law tables n text ws e h =
     none-some ds (sym h ∙ ap descriptors_of same
     ∙ descriptors_again law ds (descriptors_small law (drop 1 (words_of text)))))
 
--- the values of the words are the descriptors
 values_are : DescriptorTexts → (text : List ℕ) (ws : List (List ℕ)) (ds : List ℕ)
     → words_of text ≡ codes "descriptors" ∷ ws → descriptors_of ws ≡ Some ds → descriptors_in text
     ≡ ds
@@ -111,7 +103,6 @@ values_are law text ws ds e h =
     ap (λ (us : List (List ℕ)). map (λ w. unwrap_or (of_text w) 0) (drop 1 us)) e
     ∙ (descriptors_found law ws ds h).values
 
--- no descriptor
 pub no_descriptor : DescriptorTexts → (tables : Entries) (n : ℕ) (text : List ℕ)
     (ws : List (List ℕ)) (ds : List ℕ) → words_of text ≡ codes "descriptors" ∷ ws
     → descriptors_of ws ≡ Some ds → (length ds == 0) ≡ true
@@ -127,7 +118,6 @@ no_descriptor law tables n text ws ds e h none =
     (sym count
     ∙ (and_parts (not (length own == 0)) (bytes_eq (descriptors_line own) text) holds).0))
 
--- the descriptors of a line that begins with the title
 pub descriptors_are : DescriptorTexts → (tables : Entries) (n : ℕ) (text : List ℕ)
     (ws : List (List ℕ)) (ds : List ℕ) → words_of text ≡ codes "descriptors" ∷ ws
     → descriptors_of ws ≡ Some ds → (length ds == 0) ≡ false

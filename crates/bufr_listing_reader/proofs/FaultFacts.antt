@@ -1,5 +1,4 @@
--- Where reading lines fails: the lines before, and the next line. For the first faults of listings
--- (`faults_of_listings_are_the_first`).
+-- Faults of reading one line: for the law on first faults.
 use Rattle.std.proofs.Common.{◌≡◌, ◌⊎◌, inl, inr, ℕ, Bool, true, false, List, [], ◌∷◌, ◌++◌, take}
 use Rattle.std.proofs.Common.{drop, Result, Ok, Err, refl, sym, ◌∙◌, subst}
 use Rattle.std.specs.Prelude.{◌&&◌, if◌then◌else◌}
@@ -10,7 +9,7 @@ use Rattle.bufr_expand.specs.declared.operators.Spec.{Spec}
 use Rattle.bufr_fields.specs.Forms.{has_form_by}
 use Rattle.bufr_fields.specs.FormLaws.{asked_passes}
 use Rattle.bufr_expand.specs.OperatorsInForce.{is_within}
-use Rattle.bufr_answers.specs.AnswerLaws.{bind_err, err_is}
+use Rattle.bufr_base.specs.AnswerLaws.{bind_err, err_is}
 use Rattle.bufr_listing.specs.declared.fault.ListingFault.{ListingFault}
 use Rattle.bufr_listing.specs.declared.fault.ListingFault.TheVariants.{BadLine, BadValue}
 use Rattle.bufr_listing.specs.Listings.{field_line}
@@ -20,13 +19,11 @@ use Rattle.bufr_listing_reader.specs.Reading.{with_rest, read_line, fault_behind
 use Rattle.bufr_listing_reader.specs.FirstFaults.{Unfit, bad_line, bad_value, IsLineOf, BeginsWith}
 use Rattle.bufr_listing_reader.proofs.FieldFacts.{IsPrintable, bytes_same, same_bytes, read_field_back}
 
--- an answer is not a fault too
 pub not_both : {A F : Type 0} {P : Type 0} (r : Result A F) (x : A) (y : F) → r ≡ Ok x → r ≡ Err y
     → P
 not_both {A} {F} r x y is e = let both : ◌≡◌ {A = Result A F} (Ok x) (Err y) = sym is ∙ e in
     absurd cc
 
--- no line is left, or what is read of the next one fails
 pub line_err : {A : Type 0} (read : ℕ → List ℕ → Result A ListingFault) (past : ℕ)
     (ls : List Line) (fault : ListingFault) → read_line read past ls ≡ Err fault
     → ((ls ≡ []) × (fault ≡ BadLine past))
@@ -41,28 +38,24 @@ line_err read past (l ∷ ls) fault e =
 
 -- ---- L1 or L2
 
--- the fault of a line that could not stand: L2 where it is of a kind that could, else L1
+-- L2 if the line has a kind that could follow, else L1
 abbrev pub IsFaultOf : Type 0 → ℕ → ListingFault → Type 0
 IsFaultOf Kind n fault = (Kind × (fault ≡ BadValue n)) ⊎ ((Kind → ⊥) × (fault ≡ BadLine n))
 
--- the fault of a line by a test that tells its kind
 pub fault_by : (Kind : Type 0) (b : Bool) (n : ℕ) (fault : ListingFault) → (b ≡ true → Kind)
     → (Kind → b ≡ true) → (if b then BadValue n else BadLine n) ≡ fault → IsFaultOf Kind n fault
 fault_by Kind true n fault is has e = inl (is refl, sym e)
 fault_by Kind false n fault is has e = inr (λ k. let c = has k in absurd cc, sym e)
 
--- the fault of a line of another kind
 pub other_kind : (Kind : Type 0) (n : ℕ) (fault : ListingFault) → (Kind → ⊥) → BadLine n ≡ fault
     → IsFaultOf Kind n fault
 other_kind Kind n fault none e = inr (none, sym e)
 
--- the same fault, of a kind that is told by another word
 pub same_kind_of : (A B : Type 0) (n : ℕ) (fault : ListingFault) → (A → B) → (B → A)
     → IsFaultOf A n fault → IsFaultOf B n fault
 same_kind_of A B n fault to from (inl p) = inl (to p.0, p.1)
 same_kind_of A B n fault to from (inr p) = inr (λ b. p.0 (from b), p.1)
 
--- the next line is one that could not stand
 pub unfit_line : (Could Kind : List ℕ → Type 0) (past : ℕ) (rest : List Line)
     (fault : ListingFault) (l : Line) (behind : List Line)
     → rest ≡ l ∷ behind → (Could l.text → ⊥) → IsFaultOf (Kind l.text) l.number fault
@@ -70,13 +63,11 @@ pub unfit_line : (Could Kind : List ℕ → Type 0) (past : ℕ) (rest : List Li
 unfit_line Could Kind past rest fault l behind e none (inl p) = bad_value l behind e none p.0 p.1
 unfit_line Could Kind past rest fault l behind e none (inr p) = bad_line l behind e none p.0 p.1
 
--- a test that did not pass
 pub if_err : {A F : Type 0} (b : Bool) (x : A) (e fault : F) → (if b then Ok x else Err e)
     ≡ Err fault → e ≡ fault
 if_err true x e fault h = absurd cc
 if_err {A} false x e fault h = err_is {A = A} e fault h
 
--- the fault of a line behind its first word, by the number of its words
 pub behind_fault : (Count : Type 0) (title : List ℕ) (b : Bool) (n : ℕ) (text : List ℕ)
     (fault : ListingFault) → (b ≡ true → Count) → (Count → b ≡ true)
     → fault_behind title b n text ≡ fault → IsFaultOf ((first_word text ≡ title) × Count) n fault
@@ -89,7 +80,6 @@ behind_fault Count title b n text fault is has e =
 
 -- ---- the line of a field
 
--- a line that is read as no field is not one's, and its fault is told by its front
 pub field_err : (d : ℕ) (spec : Spec) (n : ℕ) (text : List ℕ) (fault : ListingFault)
     → IsPrintable spec → read_field d spec n text ≡ Err fault
     → (IsLineOf d spec text → ⊥) × IsFaultOf (BeginsWith d text) n fault

@@ -1,5 +1,4 @@
--- Where reading the lines of fields and subsets fails. For the first faults of listings
--- (`faults_of_listings_are_the_first`).
+-- A fault in fields or subsets is the first fault of the relation: for the law on first faults.
 use Rattle.std.proofs.Common.{◌≡◌, inl, inr, ℕ, zero, suc, ◌+◌, ◌≤◌, false, List, [], ◌∷◌, ◌++◌}
 use Rattle.std.proofs.Common.{length, map, codes, Ok, Err, refl, sym, ap, ◌∙◌, subst, arith}
 use Rattle.std.proofs.Common.{append_assoc, length-append}
@@ -20,7 +19,7 @@ use Rattle.bufr_fields.specs.Fits.{told_of}
 use Rattle.bufr_fields.specs.Asked.{IsAsked, Passes}
 use Rattle.bufr_fields.specs.FormLaws.{asked_is}
 use Rattle.bufr_fields.specs.CourseLaws.{Laws, passes_after, begun, limit_passed}
-use Rattle.bufr_answers.specs.AnswerLaws.{bind_ok, ok_is, bind_err, err_is, passed_ok}
+use Rattle.bufr_base.specs.AnswerLaws.{bind_ok, ok_is, bind_err, err_is, passed_ok}
 use Rattle.bufr_listing.specs.declared.fault.ListingFault.{ListingFault}
 use Rattle.bufr_listing.specs.declared.fault.ListingFault.TheVariants.{BadLine, Refused}
 use Rattle.bufr_listing.specs.declared.fault.Cause.TheVariants as causes
@@ -40,23 +39,22 @@ use Rattle.bufr_listing_reader.proofs.MessageFacts.{none_used}
 use Rattle.bufr_listing_reader.proofs.SubsetFacts.{line_takes, FieldsTaken, fields_take}
 use Rattle.bufr_listing_reader.proofs.FaultFacts.{line_err, unfit_line, field_err}
 
--- ---- what the lower crates say
+-- ---- laws of the crates below
 
--- of descriptors, specs and subsets, and of the fields that come next
 pub record FaultLaws : Type 0 where
   pub lower : LowerLaws
   pub courses : Laws
 
 -- ---- fields, by their course
 
--- what a course refuses at the next line
+-- the next line is not what the course asks for
 abbrev NextRefused : ℕ → Course → List Line → ListingFault → Type 0
 NextRefused past (ends n) rest fault = ⊥
 NextRefused past (stops met why) rest fault = Halted why past rest fault
 NextRefused past (asks met d spec more) rest fault =
     Unfit (IsLineOf d spec) (BeginsWith d) past rest fault
 
--- the first line that a course refuses, behind those of fields that it asked for
+-- such a line follows the lines of fields that the course asked for
 record CourseFault (past : ℕ) (c : Course) (ls : List Line) (fault : ListingFault) : Type 0 where
   before : List Field
   own : List Line
@@ -67,7 +65,6 @@ record CourseFault (past : ℕ) (c : Course) (ls : List Line) (fault : ListingFa
   passed : Passes c before next
   refused : NextRefused past next rest fault
 
--- it is the next line
 here : (past : ℕ) (c : Course) (ls : List Line) (fault : ListingFault)
     → NextRefused past c ls fault → CourseFault past c ls fault
 here past c ls fault r =
@@ -83,7 +80,6 @@ here past c ls fault r =
       refused = r;
     }
 
--- it is behind the line of one field more
 behind_field : (past met d : ℕ) (spec : Spec) (more : ℕ → Course) (l : Line) (f : Field)
     (ls behind : List Line) (fault : ListingFault)
     → ls ≡ l ∷ behind → l.text ≡ field_line f → IsAsked d spec f
@@ -101,7 +97,6 @@ behind_field past met d spec more l f ls behind fault e is asked r =
       refused = r.refused;
     }
 
--- the fault of reading fields is that of such a line
 course_fault : (past : ℕ) (c : Course) (ls : List Line) (fault : ListingFault) → AsksPrintable c
     → fields_read past c ls ≡ Err fault → CourseFault past c ls fault
 unfolding fields_read AsksPrintable
@@ -140,7 +135,7 @@ course_fault past (asks met d spec more) ls fault fit h =
 
 -- ---- fields, by the tree
 
--- what a course refuses next is why no field follows
+-- if the course refuses the next line, no field follows
 follows : FaultLaws → (tree : Tree) (used past : ℕ) (before : List Field) (next : Course)
     (rest : List Line) (fault : ListingFault)
     → used ≤ most_items → After (course tree used) (map told_of before) next
@@ -154,7 +149,6 @@ follows laws tree used past before (asks met d spec more) rest fault le after h 
     unfit d met spec
     ((laws.courses.asked tree used (map told_of before) met d spec le).0 (more, after)) h
 
--- the first fault of a subset's fields
 pub fields_fault : FaultLaws → (tree : Tree) (used past : ℕ) (ls : List Line)
     (fault : ListingFault) → used ≤ most_items → fields_read past (course tree used) ls ≡ Err fault
     → FieldsFault tree used past ls fault
@@ -174,12 +168,10 @@ fields_fault laws tree used past ls fault le h =
 
 -- ---- subsets
 
--- the lines of the fields that were read stand before those that are left
 pub record IsBehind (ls rest : List Line) : Type 0 where
   pub own : List Line
   pub in_order : ls ≡ own ++ rest
 
--- the lines behind those of fields are left
 pub fields_behind : (past : ℕ) (c : Course) (ls : List Line) (r : FieldsListed)
     → fields_read past c ls ≡ Ok r → IsBehind ls r.rest
 unfolding fields_read
@@ -200,14 +192,13 @@ fields_behind past (asks met d spec more) ls r h =
           ∙ ap (λ xs. one.line ∷ xs) others.in_order;
     })
 
--- lines with the same texts behind them have their own texts alone
 pub same_front : (own rest : List Line) (front : List (List ℕ)) → texts (own ++ rest)
     ≡ front ++ texts rest → texts own ≡ front
 same_front own rest front e =
     append_cancel_right (texts own) front (texts rest)
     (sym (map-append (λ (l : Line). l.text) own rest) ∙ e)
 
--- the subsets that were read before some lines, and the first fault of the lines
+-- subsets, and then the first fault
 pub record LaterFault (tree : Tree) (j used past : ℕ) (ls : List Line) (fault : ListingFault) :
     Type 0 where
   pub before : List Subset
@@ -219,7 +210,6 @@ pub record LaterFault (tree : Tree) (j used past : ℕ) (ls : List Line) (fault 
   pub fit : items_of_all (course tree) j used before ≡ Ok items
   pub refused : SubsetFault tree items past rest fault
 
--- no subset stands before the fault
 fault_here : (tree : Tree) (j used past : ℕ) (ls : List Line) (fault : ListingFault)
     → SubsetFault tree used past ls fault → LaterFault tree j used past ls fault
 unfolding items_of_all
@@ -235,17 +225,14 @@ fault_here tree j used past ls fault r =
       refused = r;
     }
 
--- texts that differ are not the same
 pub not_title : (text word : List ℕ) → bytes_eq text word ≡ false → text ≡ word → ⊥
 not_title text word e is = let t = same_bytes text word is in absurd cc
 
--- a line that is neither word begins no subset and ends no message
 neither : (text : List ℕ) → bytes_eq text (codes "end") ≡ false → bytes_eq text (codes "subset")
     ≡ false → BeginsOrEnds text → ⊥
 neither text e s (inl is) = not_title text (codes "subset") s is
 neither text e s (inr is) = not_title text (codes "end") e is
 
--- a line that is read as no word is another
 pub word_err : (word : List ℕ) (n : ℕ) (text : List ℕ) (fault : ListingFault)
     → read_word word n text ≡ Err fault → (bytes_eq text word ≡ false) × (BadLine n ≡ fault)
 word_err word n text fault h = elim (cases_Bool (bytes_eq text word)) [
@@ -253,7 +240,6 @@ word_err word n text fault h = elim (cases_Bool (bytes_eq text word)) [
   | inr other ↦ let g = rw (other) at h in (other, err_is {A = Unit {0}} (BadLine n) fault g)
 ]
 
--- the items of a message are within the limit behind a subset too
 few_items : FaultLaws → (tree : Tree) (used items : ℕ) (fields : List Field) → used ≤ most_items
     → items_of 1 1 (course tree used) fields ≡ Ok items → items ≤ most_items
 unfolding items_of_all
@@ -262,7 +248,6 @@ few_items laws tree used items fields le h =
     rw h refl in
     (laws.lower.fit tree 1 used items (record { fields = fields } ∷ []) le one).3
 
--- a subset before the others
 subset_before : (tree : Tree) (j used past : ℕ) (l : Line) (ls : List Line) (first : FieldsListed)
     (fault : ListingFault) → l.text ≡ codes "subset" → IsBehind ls first.rest
     → FieldsTaken j 1 (course tree used) ls first
@@ -289,12 +274,10 @@ subset_before tree j used past l ls first fault title behind taken r =
       refused = r.refused;
     }
 
--- lines behind others are not more
 not_longer : (ls own rest : List Line) (n : ℕ) → ls ≡ own ++ rest → length ls ≤ n → length rest ≤ n
 not_longer ls own rest n e few = let same = ap length e in let sum = length-append own rest in
     omega (arith, same, sum, few)
 
--- the fault of reading subsets is behind those that were read
 later_fault : FaultLaws → (left past j : ℕ) (tree : Tree) (used : ℕ) (ls : List Line)
     (fault : ListingFault)
     → length ls ≤ left → used ≤ most_items → subsets_read left past (course tree) used ls
@@ -344,7 +327,7 @@ later_fault laws (suc left) past j tree used (l ∷ ls) fault few le h =
           ]
     ]
 
--- the first fault of subsets
+-- the fault of reading subsets is their first
 pub subsets_fault : FaultLaws → (tree : Tree) (past : ℕ) (ls : List Line) (fault : ListingFault)
     → subsets_read (length ls) past (course tree) 0 ls ≡ Err fault → SubsetsFault tree past ls fault
 subsets_fault laws tree past ls fault h =
@@ -360,7 +343,6 @@ subsets_fault laws tree past ls fault h =
       refused = r.refused;
     }
 
--- the lines of the subsets that were read stand before those that are left
 pub subsets_behind : (left past : ℕ) (course : ℕ → Course) (used : ℕ) (ls : List Line)
     (r : SubsetsListed) → subsets_read left past course used ls ≡ Ok r → IsBehind ls r.rest
 unfolding subsets_read

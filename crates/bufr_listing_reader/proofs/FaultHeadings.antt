@@ -1,5 +1,4 @@
--- Where reading the lines of a heading fails. For the first faults of listings
--- (`faults_of_listings_are_the_first`).
+-- A fault in a heading is the first fault of the relation: for the law on first faults.
 use Rattle.std.proofs.Common.{◌≡◌, ◌⊎◌, inl, inr, ℕ, ◌+◌, ◌<◌, ◌≤◌, Bool, true, false, List, []}
 use Rattle.std.proofs.Common.{◌∷◌, ◌++◌, length, drop, codes, Result, Ok, Err, refl, sym, ap, ◌∙◌}
 use Rattle.std.proofs.Common.{subst, arith, append_assoc, ◌^◌}
@@ -14,7 +13,7 @@ use Rattle.bufr_expand.specs.declared.node.TemplateFault.{TemplateFault}
 use Rattle.bufr_expand.specs.Templates.{template}
 use Rattle.bufr_expand.specs.Trees.{Tree}
 use Rattle.bufr_sections.specs.Sections.{AreOctets}
-use Rattle.bufr_answers.specs.AnswerLaws.{bind_ok, ok_is, bind_err, err_is}
+use Rattle.bufr_base.specs.AnswerLaws.{bind_ok, ok_is, bind_err, err_is}
 use Rattle.bufr_listing.specs.declared.fault.ListingFault.{ListingFault}
 use Rattle.bufr_listing.specs.declared.fault.ListingFault.TheVariants.{BadLine, Refused}
 use Rattle.bufr_listing.specs.declared.fault.Cause.TheVariants as causes
@@ -45,7 +44,6 @@ use Rattle.bufr_listing_reader.proofs.FaultFields.{not_title, word_err}
 
 -- ---- lines of numbers
 
--- the fault of a line of numbers, by its words
 numbers_err : (title limits : List ℕ) (n : ℕ) (text : List ℕ) (fault : ListingFault)
     → read_numbers title limits n text ≡ Err fault
     → IsFaultOf (HasWords title (length limits + 1) text) n fault
@@ -58,13 +56,11 @@ numbers_err title limits n text fault h =
     text) (numbers_in text) (fault_behind title (length (words_of text) == length limits + 1) n
     text) fault h)
 
--- what is read of a line that could stand does not fail
 not_read : {A : Type 0} (read : ℕ → List ℕ → Result A ListingFault) (n : ℕ) (text own : List ℕ)
     (a : A) (fault : ListingFault) → text ≡ own → read n own ≡ Ok a → read n text ≡ Err fault → ⊥
 not_read {A} read n text own a fault is back h =
     not_both (read n text) a fault (subst (λ (t : List ℕ). read n t ≡ Ok a) (sym is) back) h
 
--- a line that is read as no numbers of section 1
 pub section1_err : (n : ℕ) (text : List ℕ) (fault : ListingFault)
     → read_numbers (codes "section1") section1_limits n text ≡ Err fault
     → (CouldBeAt at_section1 text → ⊥) × IsFaultOf (IsOfKindAt at_section1 text) n fault
@@ -76,7 +72,6 @@ section1_err n text fault h = (
   numbers_err (codes "section1") section1_limits n text fault h,
 )
 
--- a line that is read as no time
 pub time_err : (n : ℕ) (text : List ℕ) (fault : ListingFault)
     → read_numbers (codes "time") time_limits n text ≡ Err fault
     → (CouldBeAt at_time text → ⊥) × IsFaultOf (IsOfKindAt at_time text) n fault
@@ -88,7 +83,6 @@ time_err n text fault h = (
   numbers_err (codes "time") time_limits n text fault h,
 )
 
--- a line that begins no message
 pub message_err : (n : ℕ) (text : List ℕ) (fault : ListingFault)
     → read_word (codes "message") n text ≡ Err fault
     → (CouldBeAt at_message text → ⊥) × IsFaultOf (IsOfKindAt at_message text) n fault
@@ -97,7 +91,6 @@ message_err n text fault h = let p = word_err (codes "message") n text fault h i
 
 -- ---- lines of octets
 
--- the fault of a line of octets, by its words
 octets_err : (title : List ℕ) (n : ℕ) (text : List ℕ) (fault : ListingFault)
     → read_octets title (length (words_of text) == 2) n text ≡ Err fault
     → IsFaultOf (HasWords title 2 text) n fault
@@ -106,7 +99,6 @@ octets_err title n text fault h =
     (eqb-true (length (words_of text)) 2) (eq-eqb (length (words_of text)) 2)
     (if_err _ _ (fault_behind title (length (words_of text) == 2) n text) fault h)
 
--- a line of octets for local use does not fail
 local_read : (n : ℕ) (text octets : List ℕ) (fault : ListingFault) → AreOctets octets
     → 0 < length octets → text ≡ octets_line (codes "local1") octets → read_local n text
     ≡ Err fault → ⊥
@@ -115,7 +107,6 @@ local_read n text (x ∷ xs) fault fit some is h =
     not_read read_local n text (octets_line (codes "local1") (x ∷ xs)) (x ∷ xs) fault is
     (local_back n x xs fit) h
 
--- a line that is read as no octets for local use
 pub local_err : (n : ℕ) (text : List ℕ) (fault : ListingFault) → read_local n text ≡ Err fault
     → (IsLocal text → ⊥) × IsFaultOf (HasWords (codes "local1") 2 text) n fault
 local_err n text fault h = (
@@ -123,13 +114,11 @@ local_err n text fault h = (
   octets_err (codes "local1") n text fault h,
 )
 
--- a test that did not pass leaves the other answer
 if_read : {A : Type 0} (b : Bool) (x : A) (r : Result A ListingFault) (fault : ListingFault)
     → (if b then Ok x else r) ≡ Err fault → r ≡ Err fault
 if_read true x r fault h = absurd cc
 if_read false x r fault h = h
 
--- a line that is read as no section 2
 pub section2_err : (n : ℕ) (text : List ℕ) (fault : ListingFault) → read_section2 n text
     ≡ Err fault → (IsSection2 text → ⊥) × IsFaultOf (HasWords (codes "section2") 2 text) n fault
 section2_err n text fault h = (
@@ -141,7 +130,6 @@ section2_err n text fault h = (
 
 -- ---- flags
 
--- where none of four tests passed
 if_none_of_four : {A F : Type 0} (a b c d : Bool) (w x y z : A) (e fault : F)
     → (if a then Ok w else if b then Ok x else if c then Ok y else if d then Ok z else Err e)
     ≡ Err fault → e ≡ fault
@@ -151,7 +139,6 @@ if_none_of_four false false true d w x y z e fault h = absurd cc
 if_none_of_four false false false true w x y z e fault h = absurd cc
 if_none_of_four {A} false false false false w x y z e fault h = err_is {A = A} e fault h
 
--- a line that is read as no flags
 pub flags_err : (n : ℕ) (text : List ℕ) (fault : ListingFault) → read_flags n text ≡ Err fault
     → (IsFlags text → ⊥) × IsFaultOf (HasWordsOfFlags text) n fault
 flags_err n text fault h = (
@@ -169,7 +156,6 @@ flags_err n text fault h = (
 
 -- ---- descriptors
 
--- a line that is none of descriptors, or one of descriptors that have no template
 pub data DescriptorsErr (tables : Entries) (n : ℕ) (text : List ℕ) (fault : ListingFault) : Type 0
   where
     no_line : (CouldBeAt at_descriptors text → ⊥) → fault ≡ BadLine n
@@ -177,7 +163,6 @@ pub data DescriptorsErr (tables : Entries) (n : ℕ) (text : List ℕ) (fault : 
     no_template : (ds : List ℕ) (why : TemplateFault) → AreOfLine text ds → template tables ds
         ≡ Err why → fault ≡ Refused n (causes.Template why) → DescriptorsErr tables n text fault
 
--- a line of descriptors that have no template
 no_template_of : (tables : Entries) (n : ℕ) (text ds : List ℕ) (fault : ListingFault)
     (r : Result Tree TemplateFault) → AreOfLine text ds → template tables ds ≡ r
     → described n ds r ≡ Err fault → DescriptorsErr tables n text fault
@@ -186,7 +171,6 @@ no_template_of tables n text ds fault (Err why) line is h =
     no_template ds why line is
     (sym (err_is {A = Described} (Refused n (causes.Template why)) fault h))
 
--- a line that is read as no descriptors, by the test of one
 descriptors_by : (b : Bool) → DescriptorTexts → (tables : Entries) (n : ℕ) (text : List ℕ)
     (fault : ListingFault)
     → (not (length (descriptors_in text) == 0) && bytes_eq
@@ -215,7 +199,6 @@ descriptors_by false laws tables n text fault is h =
     cc)
     (sym (err_is {A = Described} (BadLine n) fault h))
 
--- a line that is read as no descriptors
 pub descriptors_err : DescriptorTexts → (tables : Entries) (n : ℕ) (text : List ℕ)
     (fault : ListingFault) → read_descriptors tables n text ≡ Err fault
     → DescriptorsErr tables n text fault
@@ -223,15 +206,14 @@ descriptors_err laws tables n text fault h =
     descriptors_by (not (length (descriptors_in text) == 0) && bytes_eq
     (descriptors_line (descriptors_in text)) text) laws tables n text fault refl h
 
--- ---- the lines that may be absent
+-- ---- lines that a message may lack
 
--- lines that are read up to some place, and those that are left
+-- the lines read up to a place, and those left
 pub record UpTo (ls : List Line) (lines : List (List ℕ)) (mid : List Line) : Type 0 where
   pub own : List Line
   pub in_order : ls ≡ own ++ mid
   pub spelled : texts own ≡ lines
 
--- some more of them
 pub go_on : (ls mid front rest : List Line) (lines more : List (List ℕ)) → UpTo ls lines mid
     → mid ≡ front ++ rest → texts front ≡ more → UpTo ls (lines ++ more) rest
 go_on ls mid front rest lines more u e is =
@@ -261,7 +243,6 @@ at_place tables past ls fault place read lines mid u before each h =
           p.0 p.1)
     ]
 
--- a line that may be absent is there and fails
 pub record IfErr {A : Type 0} (title : List ℕ) (read : ℕ → List ℕ → Result A ListingFault)
     (ls : List Line) (fault : ListingFault) : Type 0 where
   pub line : Line
@@ -270,7 +251,6 @@ pub record IfErr {A : Type 0} (title : List ℕ) (read : ℕ → List ℕ → Re
   pub titled : first_word line.text ≡ title
   pub fails : read line.number line.text ≡ Err fault
 
--- where a line that may be absent fails, it is there
 pub if_err_at : {A : Type 0} (title : List ℕ) (read : ℕ → List ℕ → Result A ListingFault)
     (ls : List Line) (fault : ListingFault) → read_if title read ls ≡ Err fault
     → IfErr title read ls fault
@@ -294,16 +274,13 @@ if_err_at {A} title read (l ∷ ls) fault h =
       | inr other ↦ let g = rw (other) at h in absurd cc
     ]
 
--- the next line has not this first word
 abbrev pub IsNotTitled : List ℕ → List Line → Type 0
 IsNotTitled title ls = (l : Line) (behind : List Line) → ls ≡ l ∷ behind → first_word l.text
     ≡ title → ⊥
 
--- lists with the same items have the same first
 pub next_is : (l m : Line) (ls behind : List Line) → l ∷ ls ≡ m ∷ behind → l ≡ m
 next_is l m ls behind e = cc
 
--- where it is absent, the next line has another first word
 pub if_absent : {A : Type 0} (title : List ℕ) (read : ℕ → List ℕ → Result A ListingFault)
     (ls rest : List Line) → read_if title read ls ≡ Ok (None, rest) → IsNotTitled title ls
 if_absent title read [] rest h = λ l behind e. absurd cc
@@ -322,7 +299,6 @@ if_absent {A} title read (l ∷ ls) rest h =
 
 -- ---- first words
 
--- the first word of a line of octets for local use
 local_titled : (text : List ℕ) → IsLocal text → first_word text ≡ codes "local1"
 local_titled text could = by could.0 could.2 could.3
   where
@@ -333,17 +309,14 @@ local_titled text could = by could.0 could.2 could.3
         ap first_word is ∙ bytes_same (first_word (octets_line (codes "local1") (x ∷ xs)))
         (codes "local1") refl
 
--- the first word of the line of these octets of section 2
 section2_titled_by : (octets : List ℕ) → first_word (section2_line octets) ≡ codes "section2"
 section2_titled_by [] = refl
 section2_titled_by (x ∷ xs) =
     bytes_same (first_word (section2_line (x ∷ xs))) (codes "section2") refl
 
--- the first word of a line of section 2
 section2_is_titled : (text : List ℕ) → IsSection2 text → first_word text ≡ codes "section2"
 section2_is_titled text could = ap first_word could.2 ∙ section2_titled_by could.0
 
--- the first word of the line of these flags
 flags_titled_by : (observed compressed : Bool) → first_word (flags_line observed compressed)
     ≡ codes "flags"
 flags_titled_by false false = refl
@@ -351,26 +324,21 @@ flags_titled_by true false = refl
 flags_titled_by false true = refl
 flags_titled_by true true = refl
 
--- the first word of a line of flags
 flags_titled : (text : List ℕ) → IsFlags text → first_word text ≡ codes "flags"
 flags_titled text could = ap first_word could.2 ∙ flags_titled_by could.0 could.1
 
--- a line has one first word
 two_words : (text a b : List ℕ) → bytes_eq a b ≡ false → first_word text ≡ a → first_word text ≡ b
     → ⊥
 two_words text a b other is also = not_title a b other (sym is ∙ also)
 
--- the second of two does not hold, so the first does
 first_of : {A B : Type 0} → A ⊎ B → (B → ⊥) → A
 first_of (inl a) none = a
 first_of (inr b) none = absurd (none b)
 
--- the first of two does not hold, so the second does
 second_of : {A B : Type 0} → A ⊎ B → (A → ⊥) → B
 second_of (inl a) none = absurd (none a)
 second_of (inr b) none = b
 
--- a line of octets for local use that fails
 pub local_at : (l : Line) (fault : ListingFault) → first_word l.text ≡ codes "local1"
     → read_local l.number l.text ≡ Err fault
     → (CouldBeAt behind_time l.text → ⊥) × IsFaultOf (IsOfKindAt behind_time l.text) l.number fault
@@ -386,13 +354,12 @@ local_at l fault titled h =
           p.1,
     )
 
--- where the lines up to these ones end: the place behind them
+-- the place after the lines read
 abbrev pub place_behind : Option (List ℕ) → Option (List ℕ) → Place
 place_behind None None = behind_time
 place_behind (Some octets) None = behind_local
 place_behind local (Some octets) = behind_section2
 
--- a line of section 2 that fails
 pub section2_at : (local : Option (List ℕ)) (l : Line) (fault : ListingFault) → first_word l.text
     ≡ codes "section2" → read_section2 l.number l.text ≡ Err fault
     → (CouldBeAt (place_behind local None) l.text → ⊥) × IsFaultOf
@@ -416,7 +383,6 @@ section2_at (Some octets) l fault titled h =
           l.number fault (λ k. inl k) (λ kind. first_of kind (λ flags. no_flags flags.0)) p.1,
     )
 
--- a line of flags that fails
 pub flags_at : (local two : Option (List ℕ)) (l : Line) (fault : ListingFault)
     → (local ≡ None → two ≡ None → first_word l.text ≡ codes "local1" → ⊥)
     → (two ≡ None → first_word l.text ≡ codes "section2" → ⊥)

@@ -1,5 +1,4 @@
--- Where reading the lines of messages fails. For the first faults of listings
--- (`faults_of_listings_are_the_first`).
+-- A fault in a message is the first fault of the relation: for the law on first faults.
 use Rattle.std.proofs.Common.{◌≡◌, inl, inr, ℕ, zero, suc, ◌+◌, ◌<◌, ◌≤◌, true, List, [], ◌∷◌, ◌++◌}
 use Rattle.std.proofs.Common.{length, codes, unwrap_or, Result, Ok, Err, refl, sym, ap, ◌∙◌, subst}
 use Rattle.std.proofs.Common.{arith, append_assoc, length-append}
@@ -30,7 +29,7 @@ use Rattle.bufr_listing_reader.specs.FirstFaults.{IsOfKindAt, AreOfLine}
 use Rattle.bufr_listing_reader.specs.FirstFaults.{up_to_time, up_to_local, MessageFault, in_heading}
 use Rattle.bufr_listing_reader.specs.FirstFaults.{in_subsets, FirstFault}
 use Rattle.bufr_tables.specs.DescriptorLaws.{six_by_place}
-use Rattle.bufr_answers.specs.AnswerLaws.{passed_ok, bind_err}
+use Rattle.bufr_base.specs.AnswerLaws.{passed_ok, bind_err}
 use Rattle.bufr_listing_reader.proofs.FieldFacts.{bytes_same}
 use Rattle.bufr_listing_reader.proofs.SubsetFacts.{line_takes}
 use Rattle.bufr_listing_reader.proofs.LineFacts.{numbers_take, octets_take, flags_take, descriptors_take}
@@ -47,32 +46,27 @@ use Rattle.bufr_listing_reader.proofs.FaultHeadings.{if_absent, section1_err, ti
 use Rattle.bufr_listing_reader.proofs.FaultHeadings.{local_at, section2_at, flags_at, place_behind}
 use Rattle.bufr_listing_reader.proofs.FaultHeadings.{descriptors_err, no_line, no_template}
 
--- ---- the places of a heading, by what was read
+-- ---- the places of a heading
 
--- no octets are octets
 pub none_fit : AreOctets []
 none_fit = All-from_recursion IsOctet [] tt
 
--- the head of section 1's numbers alone
 pub first_head : (ns : List ℕ) → are_below section1_limits ns ≡ true
     → HeadFits (head_with ns (0 ∷ 0 ∷ 0 ∷ 0 ∷ 0 ∷ 0 ∷ []) None)
 unfolding are_below
 first_head ns n = head_fits ns (0 ∷ 0 ∷ 0 ∷ 0 ∷ 0 ∷ 0 ∷ []) None n refl none_fit
 
--- as many numbers as section 1 has are those of a head
 pub section1_is : (ns ts : List ℕ) (local : Option (List ℕ)) → are_below section1_limits ns ≡ true
     → numbers_line (codes "section1") ns ≡ section1_line (head_with ns ts local)
 section1_is ns ts local n =
     ap (numbers_line (codes "section1"))
     (sym (eight_by_place ns (below_length section1_limits ns n)))
 
--- as many as a time has are those of a head
 pub time_is : (ns ts : List ℕ) (local : Option (List ℕ)) → are_below time_limits ts ≡ true
     → numbers_line (codes "time") ts ≡ time_line (head_with ns ts local)
 time_is ns ts local t =
     ap (numbers_line (codes "time")) (six_by_place ts (below_length time_limits ts t))
 
--- where the lines up to section 2 end
 behind_options : (ns ts : List ℕ) (local two : Option (List ℕ)) → HeadFits (head_with ns ts local)
     → IfSome local (λ octets. 0 < length octets) → IfSome two AreOctets
     → AreBefore (place_behind local two) (up_to_local (head_with ns ts local) ++ section2_lines two)
@@ -88,13 +82,11 @@ behind_options ns ts None (Some two) fits some octets =
 behind_options ns ts (Some local) (Some two) fits some octets =
     (head_with ns ts (Some local), fits, two, octets, refl)
 
--- the lines that were read of one that may be absent
 record Front (ls rest : List Line) (more : List (List ℕ)) : Type 0 where
   front : List Line
   in_order : ls ≡ front ++ rest
   spelled : texts front ≡ more
 
--- the lines of one that may be absent stand first
 front_of : {A : Type 0} (read : ℕ → List ℕ → Result A ListingFault) (ls : List Line)
     (o : Option A) (rest : List Line) (more : List (List ℕ))
     → IfTaken read ls o rest → texts ls ≡ more ++ texts rest → Front ls rest more
@@ -108,7 +100,6 @@ front_of read ls (Some a) rest more t is =
           (sym (ap texts t.front) ∙ is);
     }
 
--- octets for local use that were read are some
 some_local : (ls : List Line) (o : Option (List ℕ)) (rest : List Line)
     → IfTaken read_local ls o rest → IfSome o (λ octets. 0 < length octets)
 some_local ls None rest t = tt
@@ -117,7 +108,6 @@ some_local ls (Some octets) rest t =
 
 -- ---- the first fault of a message
 
--- the first fault from the flags on
 flags_fault : FaultLaws → (tables : Entries) (past : ℕ) (ls : List Line) (fault : ListingFault)
     (ns ts : List ℕ) (local two : Option (List ℕ)) (mid : List Line)
     → HeadFits (head_with ns ts local) → IfSome local (λ octets. 0 < length octets)
@@ -190,16 +180,14 @@ flags_fault laws tables past ls fault ns ts local two mid fits some octets u no_
           ]
     ]
 
--- ---- the lines that may be absent
+-- ---- lines that a message may lack
 
--- where a line is absent, none was taken
 same_rest : {A : Type 0} (title : List ℕ) (read : ℕ → List ℕ → Result A ListingFault)
     (ls : List Line) (x : Option A × List Line) → read_if title read ls ≡ Ok x → x.0 ≡ None
     → ls ≡ x.1
 same_rest title read ls (None, rest) h e = if_takes title read ls (None, rest) h
 same_rest title read ls (Some a, rest) h e = absurd cc
 
--- and the next one has another first word
 absent_rest : {A : Type 0} (title : List ℕ) (read : ℕ → List ℕ → Result A ListingFault)
     (ls : List Line) (x : Option A × List Line) → read_if title read ls ≡ Ok x → x.0 ≡ None
     → IsNotTitled title x.1
@@ -208,7 +196,6 @@ absent_rest title read ls (None, rest) h e =
     (if_absent title read ls rest h)
 absent_rest title read ls (Some a, rest) h e = absurd cc
 
--- the first fault from section 2 on
 two_fault : FaultLaws → (tables : Entries) (past : ℕ) (ls : List Line) (fault : ListingFault)
     (ns ts : List ℕ) (local : Option (List ℕ)) (mid : List Line)
     → HeadFits (head_with ns ts local) → IfSome local (λ octets. 0 < length octets)
@@ -240,7 +227,6 @@ two_fault laws tables past ls fault ns ts local mid fits some u no_local h =
           (λ b. absent_rest (codes "section2") read_section2 mid p4.0 p4.1 b) p4.2
     ]
 
--- the first fault of a message
 message_fault : FaultLaws → (tables : Entries) (past : ℕ) (ls : List Line) (fault : ListingFault)
     → message_read tables past ls ≡ Err fault → MessageFault tables past ls fault
 unfolding message_read
@@ -323,7 +309,7 @@ message_fault laws tables past ls fault h =
 
 -- ---- the first fault of a text
 
--- the first fault of lines, and the messages before it
+-- messages, and then the first fault
 record FirstIn (tables : Entries) (past : ℕ) (ls : List Line) (fault : ListingFault) : Type 0 where
   before : List Message
   own : List Line
@@ -334,7 +320,6 @@ record FirstIn (tables : Entries) (past : ℕ) (ls : List Line) (fault : Listing
   begun : 0 < length rest
   refused : MessageFault tables past rest fault
 
--- a message has a line at least
 pub fewer_lines : (ls own rest : List Line) (m : Message) (left : ℕ) → ls ≡ own ++ rest
     → texts own ≡ lines_of m → length ls ≤ suc left → length rest ≤ left
 fewer_lines ls own rest m left e is few =
@@ -346,7 +331,6 @@ fewer_lines ls own rest m left e is few =
     let sum = length-append own rest in
     omega (arith, some, none, same, count, whole, sum, few)
 
--- the fault of reading lines is their first
 first_in : FaultLaws → (left : ℕ) (tables : Entries) (past : ℕ) (ls : List Line)
     (fault : ListingFault) → length ls ≤ left → messages_read left tables past ls ≡ Err fault
     → FirstIn tables past ls fault
@@ -392,7 +376,6 @@ first_in laws (suc left) tables past (l ∷ ls) fault few h =
           ]
     ]
 
--- what reading answers is the first fault
 pub first_fault : FaultLaws → (tables : Entries) (text : List ℕ) (fault : ListingFault)
     → messages_listed tables text ≡ Err fault → FirstFault tables text fault
 first_fault laws tables text fault h =

@@ -1,5 +1,4 @@
--- The raw value that is read of a field's line is the only one that prints it: for the laws of
--- listings, `listings_list_messages` and `listings_are_read_back`.
+-- The raw value read from a field's line is the only one that prints it: for the laws of listings.
 use Rattle.std.proofs.Common.{◌≡◌, ℕ, suc, ◌+◌, ◌/◌, ◌%◌, ◌^◌, ◌<◌, ◌≤◌, Bool, true, false, List}
 use Rattle.std.proofs.Common.{[], ◌∷◌, ◌++◌, length, drop, replicate, codes, refl, sym, ap, ◌∙◌}
 use Rattle.std.proofs.Common.{subst, arith, append_assoc, inl, inr}
@@ -18,7 +17,7 @@ use Rattle.hex.specs.Hex.{encode_with, encode_lower}
 use Rattle.hex.proofs.HexLemmas.{IsDigits-lower_digits}
 use Rattle.bufr_tables.specs.declared.element.Kind.{Kind}
 use Rattle.bufr_tables.specs.declared.element.Kind.TheVariants as kinds
-use Rattle.bufr_answers.specs.AnswerLaws.{passed_ok}
+use Rattle.bufr_base.specs.AnswerLaws.{passed_ok}
 use Rattle.bufr_expand.specs.declared.operators.Spec.{Spec}
 use Rattle.bufr_expand.specs.OperatorsInForce.{is_within}
 use Rattle.bufr_fields.specs.declared.field.Raw.{Raw}
@@ -26,7 +25,7 @@ use Rattle.bufr_fields.specs.declared.field.Raw.TheVariants.{Number, Text}
 use Rattle.bufr_fields.specs.declared.field.Field.{Field}
 use Rattle.bufr_fields.specs.Forms.{has_form_by, matches_spec, same_spec}
 use Rattle.bufr_fields.specs.Values.{size_of, is_all_ones, is_missing, decimal_within, text_of}
-use Rattle.bufr_listing_reader.proofs.DecimalTextFacts.{units_of_text, no_letter}
+use Rattle.bufr_fields.specs.DecimalTextLaws.{units_of_text, no_letter}
 use Rattle.bufr_fields.specs.FormLaws.{same_spec_is, spec_is_same}
 use Rattle.bufr_listing.specs.Listings.{field_line}
 use Rattle.bufr_listing.specs.Listings.{quoted_octet, quoted, number_word, value_word}
@@ -36,33 +35,27 @@ use Rattle.bufr_listing_reader.specs.FieldLines.{field_fault, read_field}
 
 -- ---- tests
 
--- texts that compare alike are the same
 pub bytes_same : (xs ys : List ℕ) → bytes_eq xs ys ≡ true → xs ≡ ys
 bytes_same xs ys e = (bytes_eq-Decides xs ys).0 e
 
--- the same texts compare alike
 pub same_bytes : (xs ys : List ℕ) → xs ≡ ys → bytes_eq xs ys ≡ true
 same_bytes xs ys e = (bytes_eq-Decides xs ys).1 e
 
--- other texts do not
 pub other_bytes : (xs ys : List ℕ) → (xs ≡ ys → ⊥) → bytes_eq xs ys ≡ false
 other_bytes xs ys different =
     false_from_ne_true (bytes_eq xs ys) (λ same. different (bytes_same xs ys same))
 
--- a test that passed, and what was answered then
 pub if_answered : {A F : Type 0} (b : Bool) (r : Result A F) (e : F) (x : A)
     → (if b then r else Err e) ≡ Ok x → (b ≡ true) × (r ≡ Ok x)
 if_answered true r e x h = (refl, h)
 if_answered false r e x h = absurd cc
 
--- a test that can't pass tells the fault
 pub refused : {A F : Type 0} (b : Bool) (r : Result A F) (e : F) → (b ≡ true → ⊥)
     → (if b then r else Err e) ≡ Err e
 refused b r e h = cond-false b r (Err e) (false_from_ne_true b h)
 
 -- ---- quoted octets
 
--- an escaped octet is read of its digits
 escaped_back : (c : ℕ) (more : List ℕ) → c < 256 → octet_at (92 ∷ encode_lower (c ∷ []) ++ more) ≡ c
 unfolding encode_with
 escaped_back c more small =
@@ -70,24 +63,20 @@ escaped_back c more small =
     let low = IsDigits-lower_digits (c % 16) (omega arith) in
     rw (high, low) (omega arith)
 
--- what stands behind an escaped octet
 escaped_behind : (c : ℕ) (more : List ℕ) → behind_octet (92 ∷ encode_lower (c ∷ []) ++ more) ≡ more
 unfolding encode_with
 escaped_behind c more = refl
 
--- an octet that stands for itself, and what stands behind it
 plain_back : (c : ℕ) (more : List ℕ) → (c == 92) ≡ false → (octet_at (c ∷ more) ≡ c)
     × (behind_octet (c ∷ more) ≡ more)
 plain_back c more e = (rw e refl, rw e refl)
 
--- an octet by whether it stands for itself
 octet_by : (printed : Bool) (c : ℕ) (more : List ℕ) → c < 256 → (printed ≡ true → (c == 92) ≡ false)
     → (octet_at ((if printed then c ∷ [] else 92 ∷ encode_lower (c ∷ [])) ++ more) ≡ c)
     × (behind_octet ((if printed then c ∷ [] else 92 ∷ encode_lower (c ∷ [])) ++ more) ≡ more)
 octet_by true c more small plain = plain_back c more (plain refl)
 octet_by false c more small plain = (escaped_back c more small, escaped_behind c more)
 
--- an octet is read of what is quoted for it
 octet_back : (c : ℕ) (more : List ℕ) → c < 256 → (octet_at (quoted_octet c ++ more) ≡ c)
     × (behind_octet (quoted_octet c ++ more) ≡ more)
 octet_back c more small =
@@ -95,7 +84,7 @@ octet_back c more small =
     (λ e. not-true (c == 92) (and_parts (nat_le 32 c && nat_le c 126 && not (c == 34))
     (not (c == 92)) e).1)
 
--- octets are read of what is quoted for them
+-- reading quoted octets returns them
 unquoted_back : (os more : List ℕ) → list_all (λ x. nat_lt x 256) os ≡ true → unquoted (length os)
     (flat_map quoted_octet os ++ more) ≡ os
 unfolding unquoted
@@ -106,14 +95,12 @@ unquoted_back (c ∷ os) more h =
     rw (append_assoc (quoted_octet c) (flat_map quoted_octet os) more, back.0, back.1)
     (ap (λ xs. c ∷ xs) (unquoted_back os more p.1))
 
--- octets that are all 255
 pub all_255 : (os : List ℕ) → list_all (λ x. x == 255) os ≡ true → replicate (length os) 255 ≡ os
 all_255 [] h = refl
 all_255 (c ∷ os) h =
     let p = and_parts (c == 255) (list_all (λ x. x == 255) os) h in
     λ i. sym (eqb-true c 255 p.0) i ∷ all_255 os p.1 i
 
--- the octets of a text, by whether it is missing
 text_by : (missing : Bool) (count : ℕ) (os : List ℕ) → length os ≡ count
     → list_all (λ x. nat_lt x 256) os ≡ true → (missing ≡ true → list_all (λ x. x == 255) os ≡ true)
     → text_in count (if missing then codes "missing" else quoted os) ≡ os
@@ -122,12 +109,11 @@ text_by false count os len small ones = rw (sym len) (unquoted_back os (34 ∷ [
 
 -- ---- numbers
 
--- the specs of fields whose numbers can be printed
+-- specs whose numbers decimals can print
 pub record IsPrintable (spec : Spec) : Type 0 where
   pub scale : is_within 600 spec.scale ≡ true
   pub reference : unsigned_abs spec.reference ≤ 9223372036854775808
 
--- a value has few digits enough to be printed
 pub size_small : (n : ℕ) (reference : ℤ) → n < 18446744073709551616
     → unsigned_abs reference ≤ 9223372036854775808 → size_of (pos n +ℤ reference) < 10 ^ 64
 size_small n (pos m) small within = omega (arith, small, within)
@@ -136,11 +122,9 @@ size_small n (negsuc m) small within = elim (cases_Bool (nat_lt n (suc m))) [
   | inr above ↦ grind (arith, ints)
 ]
 
--- a number behind its reference
 natural_back : (n : ℕ) (reference : ℤ) → natural_part (pos n +ℤ reference -ℤ reference) ≡ n
 natural_back n reference = ap natural_part (+ℤ-neg_ℤ_cancel (pos n) reference)
 
--- a number is read of what is printed for it
 number_back : (spec : Spec) (n : ℕ) → IsPrintable spec → n < 18446744073709551616
     → number_in spec (text_of (record { units = pos n +ℤ spec.reference; scale = spec.scale })) ≡ n
 number_back spec n fit small =
@@ -151,7 +135,6 @@ number_back spec n fit small =
     other_bytes word (codes "missing") (λ e. no_letter units spec.scale _ size e) in
     rw (not_missing, units_of_text units spec.scale size) (natural_back n spec.reference)
 
--- a number, by whether it is missing
 number_by : (missing : Bool) (spec : Spec) (n : ℕ) → IsPrintable spec → n < 18446744073709551616
     → (missing ≡ true → n + 1 ≡ 2 ^ spec.width)
     → number_in spec (if missing then codes "missing" else number_word
@@ -159,12 +142,10 @@ number_by : (missing : Bool) (spec : Spec) (n : ℕ) → IsPrintable spec → n 
 number_by true spec n fit small ones = let e = ones refl in omega (arith, e)
 number_by false spec n fit small ones = rw fit.scale (number_back spec n fit small)
 
--- all bits are one where a field is missing
 missing_ones : (f : Field) → is_missing f ≡ true → is_all_ones f.spec.width f.raw ≡ true
 missing_ones f e =
     let a = (and_parts _ _ e).0 in let b = (and_parts _ _ a).0 in (and_parts _ _ b).1
 
--- a number of at most 64 bits
 pub number_small : (width n : ℕ) → (nat_le width 64 && nat_lt n (2 ^ width)) ≡ true
     → n < 18446744073709551616
 number_small width n form =
@@ -173,7 +154,7 @@ number_small width n form =
     (leb-true width 64 p.0) in
     omega (arith, most, ltb-true n (2 ^ width) p.1)
 
--- the raw value of a field's word is the field's own
+-- reading a field's word returns its raw value
 pub raw_back : (d : ℕ) (spec : Spec) (raw : Raw) → has_form_by spec.kind spec.width raw ≡ true
     → IsPrintable spec → raw_in spec (value_word (record { fxy = d; spec = spec; raw = raw })) ≡ raw
 raw_back d spec raw form fit = raw_by_kind spec.kind raw form
@@ -197,12 +178,10 @@ raw_back d spec raw form fit = raw_by_kind spec.kind raw form
 
 -- ---- lines of fields
 
--- the candidate of a field's own line is the field
 candidate_back : (f : Field) → has_form_by f.spec.kind f.spec.width f.raw ≡ true
     → IsPrintable f.spec → raw_in f.spec (drop 7 (field_line f)) ≡ f.raw
 candidate_back f form fit = raw_back f.fxy f.spec f.raw form fit
 
--- a field is read of its own line
 own_line : (n : ℕ) (f : Field) → IsPrintable f.spec → has_form_by f.spec.kind f.spec.width f.raw
     ≡ true → read_field f.fxy f.spec n (field_line f) ≡ Ok f
 own_line n f fit form =
@@ -217,7 +196,7 @@ own_line n f fit form =
     (same_bytes (field_line (field_in f.fxy f.spec (field_line f))) (field_line f)
     (ap field_line same))) ∙ ap Ok same
 
--- a field that is asked for is read of its line
+-- reading returns the field from its line
 pub read_field_back : (d : ℕ) (spec : Spec) (n : ℕ) (f : Field) → IsPrintable spec
     → matches_spec d spec f ≡ true → read_field d spec n (field_line f) ≡ Ok f
 read_field_back d spec n f fit stands =
@@ -230,7 +209,7 @@ read_field_back d spec n f fit stands =
     (own_line n f (subst IsPrintable (sym own) fit)
     (subst (λ (s : Spec). has_form_by s.kind s.width f.raw ≡ true) (sym own) p.1)))
 
--- a field that is read is asked for, and the line is its own
+-- a field as read prints its line
 pub read_field_takes : (d : ℕ) (spec : Spec) (n : ℕ) (text : List ℕ) (f : Field)
     → read_field d spec n text ≡ Ok f → (text ≡ field_line f) × (matches_spec d spec f ≡ true)
 read_field_takes d spec n text f h =

@@ -1,7 +1,4 @@
--- What the contracts and laws of texts of listings are proved from.
-pub mod DecimalTextFacts
-pub mod DigitRunFacts
-pub mod DigitTestFacts
+-- Lemmas on reading listings.
 pub mod OnLiterals
 pub mod LowerLaws
 pub mod FieldFacts

@@ -1,5 +1,5 @@
--- What is read of one line is what it spells: numbers, octets, flags, descriptors. For the laws of
--- listings, `listings_list_messages` and `listings_are_read_back`.
+-- Reading a line returns what it spells: numbers, octets, flags, descriptors. For the laws of
+-- listings.
 use Rattle.std.proofs.Common.{◌≡◌, ℕ, zero, suc, ◌+◌, ◌/◌, ◌^◌, ◌<◌, ◌≤◌, Bool, true, false, List}
 use Rattle.std.proofs.Common.{[], ◌∷◌, ◌++◌, length, map, get_or, drop, codes, unwrap_or, refl, sym}
 use Rattle.std.proofs.Common.{ap, ◌∙◌, subst, arith}
@@ -22,14 +22,14 @@ use Rattle.bufr_tables.specs.Entries.{Entries}
 use Rattle.bufr_expand.specs.declared.node.TemplateFault.{TemplateFault}
 use Rattle.bufr_expand.specs.Templates.{template}
 use Rattle.bufr_expand.specs.Trees.{Tree}
-use Rattle.bufr_listing_reader.proofs.DecimalTextFacts.{AreDigits, decimal_digits}
+use Rattle.bufr_fields.specs.DecimalTextLaws.{AreDigits, decimal_digits}
 use Rattle.bufr_listing.specs.Listings.{descriptors_line}
 use Rattle.bufr_listing.specs.Listings.{numbers_line, octets_line, section2_line, flags_line}
 use Rattle.bufr_listing_reader.specs.Limits.{two_octets}
 use Rattle.bufr_listing.specs.declared.fault.ListingFault.{ListingFault}
 use Rattle.bufr_listing.specs.declared.fault.ListingFault.TheVariants.{BadLine}
 use Rattle.bufr_sections.specs.Sections.{AreOctets, IsOctet}
-use Rattle.bufr_answers.specs.AnswerLaws.{ok_is, passed_ok}
+use Rattle.bufr_base.specs.AnswerLaws.{ok_is, passed_ok}
 use Rattle.bufr_listing.specs.Listings.{words}
 use Rattle.bufr_listing_reader.specs.Lines.{words_of}
 use Rattle.bufr_listing_reader.specs.Reading.{are_below, numbers_in, read_numbers, octets_by, octets_in}
@@ -40,27 +40,24 @@ use Rattle.bufr_listing_reader.proofs.FieldFacts.{bytes_same, same_bytes, if_ans
 
 -- ---- words
 
--- no space stands in it
+-- the word has no space
 abbrev pub IsWord : List ℕ → Type 0
 IsWord w = AllByRecursion (λ c. (c == 32) ≡ false) w
 
--- a word that is written out
 pub literal_word : (w : List ℕ) → list_all (λ c. not (c == 32)) w ≡ true → IsWord w
 literal_word [] h = tt
 literal_word (c ∷ cs) h =
     let p = and_parts (not (c == 32)) (list_all (λ c. not (c == 32)) cs) h in
     (not-true (c == 32) p.0, literal_word cs p.1)
 
--- a word alone is the one word of a line
 pub one_word : (w : List ℕ) → IsWord w → words_of w ≡ w ∷ []
 one_word w h = slice_split_none (λ c. c == 32) w (All-from_recursion (λ c. (c == 32) ≡ false) w h)
 
--- a word before a space is the first of a line
 pub word_then : (w rest : List ℕ) → IsWord w → words_of (w ++ 32 ∷ rest) ≡ w ∷ words_of rest
 word_then w rest h =
     slice_split_at (λ c. c == 32) w 32 rest (All-from_recursion (λ c. (c == 32) ≡ false) w h) refl
 
--- the words of a line that is made of words are these
+-- the words of a line made of words are these
 pub words_back : (w : List ℕ) (ws : List (List ℕ)) → IsWord w → AllByRecursion (λ v. IsWord v) ws
     → words_of (words w ws) ≡ w ∷ ws
 words_back w [] h hs = ap words_of (append-nil w) ∙ one_word w h
@@ -69,31 +66,26 @@ words_back w (v ∷ ws) h hs =
 
 -- ---- numbers
 
--- a digit is no space
 digit_no_space : (c : ℕ) → is_ascii_digit c ≡ true → (c == 32) ≡ false
 digit_no_space c is = grind arith
 
--- digits are a word
 digits_word : (xs : List ℕ) → AreDigits xs → IsWord xs
 digits_word [] h = tt
 digits_word (c ∷ cs) h = (digit_no_space c h.0, digits_word cs h.1)
 
--- so many that can be printed
+-- decimals can print each
 abbrev pub AreShort : List ℕ → Type 0
 AreShort ns = AllByRecursion (λ n. n < 10 ^ 64) ns
 
--- numbers print words
 pub decimal_words : (ns : List ℕ) → AreShort ns → AllByRecursion (λ v. IsWord v) (map decimal ns)
 decimal_words [] h = tt
 decimal_words (n ∷ ns) h = (digits_word (decimal n) (decimal_digits n h.0), decimal_words ns h.1)
 
--- numbers are read of what they print
 pub values_back : (ns : List ℕ) → AreShort ns → map (digits_value 10) (map decimal ns) ≡ ns
 values_back [] h = refl
 values_back (n ∷ ns) h = let e = (decimal_is_IsNumeral_wide n h.0).1 in
     λ i. e i ∷ values_back ns h.1 i
 
--- numbers below the limits of a line can be printed
 pub below_short : (limits ns : List ℕ) → AllByRecursion (λ l. l ≤ two_octets) limits
     → are_below limits ns ≡ true → AreShort ns
 unfolding are_below
@@ -105,7 +97,6 @@ below_short (l ∷ ls) (n ∷ ns) most h =
     let below = ltb-true n l p.0 in
     (omega (arith, below, most.0), below_short ls ns most.1 p.1)
 
--- numbers that are read are those of the line, each below its limit
 pub numbers_take : (title limits : List ℕ) (n : ℕ) (text ns : List ℕ)
     → read_numbers title limits n text ≡ Ok ns → (text ≡ numbers_line title ns)
     × (are_below limits ns ≡ true)
@@ -119,7 +110,6 @@ numbers_take title limits n text ns h =
       subst (λ ms. are_below limits ms ≡ true) p.1 q.0,
     )
 
--- numbers below their limits are read of their line
 pub numbers_back : (title limits : List ℕ) (n : ℕ) (ns : List ℕ) → IsWord title
     → AllByRecursion (λ l. l ≤ two_octets) limits → are_below limits ns ≡ true
     → read_numbers title limits n (numbers_line title ns) ≡ Ok ns
@@ -135,39 +125,33 @@ numbers_back title limits n ns word most below =
 
 -- ---- octets
 
--- octets by recursion are octets by place
 bytes_from : (xs : List ℕ) → AllByRecursion (λ x. x < 256) xs → IsBytes xs
 bytes_from [] h i = omega arith
 bytes_from (x ∷ xs) h zero = h.0
 bytes_from (x ∷ xs) h (suc i) = bytes_from xs h.1 i
 
--- and the other way round
 octets_from : (xs : List ℕ) → IsBytes xs → AllByRecursion (λ x. x < 256) xs
 octets_from [] h = tt
 octets_from (x ∷ xs) h = (h 0, octets_from xs (λ i. h (suc i)))
 
--- what is decoded are octets
 decoded_octets : (digits : List ℕ) (r : Result (List ℕ) FromHexError) → decode_of digits ≡ r
     → AllByRecursion (λ x. x < 256) (octets_by r)
 decoded_octets digits (Ok os) h = octets_from os (decode_of-ok digits os h).3
 decoded_octets digits (Err e) h = tt
 
--- a list that is not of length 0 has an item
 pub not_empty : (xs : List ℕ) → not (length xs == 0) ≡ true → 0 < length xs
 not_empty [] h = absurd cc
 not_empty (x ∷ xs) h = omega arith
 
--- a length behind another is not 0
 some_not_empty : (n : ℕ) → not (suc n == 0) ≡ true
 some_not_empty n = grind arith
 
--- octets that were read of a line: there is one at least
+-- octets read from a line, at least one
 pub record OctetsTaken (title text os : List ℕ) : Type 0 where
   pub line : text ≡ octets_line title os
   pub some : 0 < length os
   pub octets : AreOctets os
 
--- octets that are read are those of the line
 pub octets_take : (title : List ℕ) (has_count : Bool) (n : ℕ) (text os : List ℕ)
     → read_octets title has_count n text ≡ Ok os → OctetsTaken title text os
 octets_take title has_count n text os h =
@@ -182,7 +166,6 @@ octets_take title has_count n text os h =
           (All-from_recursion IsOctet own (decoded_octets (drop (length title + 1) text) _ refl));
     }
 
--- octets are read of their line
 pub octets_back : (title : List ℕ) (has_count : Bool) (n x : ℕ) (xs : List ℕ) → AreOctets (x ∷ xs)
     → drop (length title + 1) (octets_line title (x ∷ xs)) ≡ encode_lower (x ∷ xs) ++ []
     → read_octets title has_count n (octets_line title (x ∷ xs)) ≡ Ok (x ∷ xs)
@@ -198,12 +181,10 @@ octets_back title has_count n x xs octets digits =
     (some_not_empty (length xs))) (same_bytes (octets_line title own) (octets_line title (x ∷ xs))
     (ap (octets_line title) back))) ∙ ap Ok back
 
--- octets for local use are read of their line
 pub local_back : (n x : ℕ) (xs : List ℕ) → AreOctets (x ∷ xs)
     → read_local n (octets_line (codes "local1") (x ∷ xs)) ≡ Ok (x ∷ xs)
 local_back n x xs octets = octets_back (codes "local1") _ n x xs octets refl
 
--- section 2 by whether its line is one word
 section2_some : (b has_count : Bool) (n : ℕ) (text os : List ℕ) → bytes_eq text (codes "section2")
     ≡ b → (if b then Ok [] else read_octets (codes "section2") has_count n text) ≡ Ok os
     → (text ≡ section2_line os) × AreOctets os
@@ -217,12 +198,10 @@ section2_some false has_count n text [] is h =
 section2_some false has_count n text (x ∷ xs) is h =
     let p = octets_take (codes "section2") has_count n text (x ∷ xs) h in (p.line, p.octets)
 
--- a section 2 that is read is that of the line
 pub section2_take : (n : ℕ) (text os : List ℕ) → read_section2 n text ≡ Ok os
     → (text ≡ section2_line os) × AreOctets os
 section2_take n text os h = section2_some (bytes_eq text (codes "section2")) _ n text os refl h
 
--- section 2 is read of its line
 pub section2_back : (n : ℕ) (os : List ℕ) → AreOctets os → read_section2 n (section2_line os)
     ≡ Ok os
 section2_back n [] octets = refl
@@ -230,7 +209,6 @@ section2_back n (x ∷ xs) octets = octets_back (codes "section2") _ n x xs octe
 
 -- ---- flags
 
--- flags by which of the four lines it is
 if_four : (a b c d : Bool) (text : List ℕ) (fault : ListingFault) (f : Flags)
     → bytes_eq text (flags_line false false) ≡ a → bytes_eq text (flags_line true false) ≡ b
     → bytes_eq text (flags_line false true) ≡ c → bytes_eq text (flags_line true true) ≡ d
@@ -253,7 +231,6 @@ if_four false false false true text fault f p q r s h =
     (bytes_same text (flags_line true true) s)
 if_four false false false false text fault f p q r s h = absurd cc
 
--- flags that are read are those of the line
 pub flags_take : (n : ℕ) (text : List ℕ) (f : Flags) → read_flags n text ≡ Ok f
     → text ≡ flags_line f.observed f.compressed
 flags_take n text f h =
@@ -261,7 +238,6 @@ flags_take n text f h =
     (bytes_eq text (flags_line false true)) (bytes_eq text (flags_line true true)) text _ f refl
     refl refl refl h
 
--- flags are read of their line
 pub flags_back : (n : ℕ) (observed compressed : Bool)
     → read_flags n (flags_line observed compressed)
     ≡ Ok (record { observed = observed; compressed = compressed })
@@ -272,11 +248,9 @@ flags_back n true true = refl
 
 -- ---- descriptors
 
--- a digit of a descriptor is no space
 digit_word : (n : ℕ) → (digit n == 32) ≡ false
 digit_word n = grind arith
 
--- six digits are a word
 pub six_word : (d : ℕ) → IsWord (six_digits d)
 six_word d = (
   digit_word (f_of d),
@@ -289,12 +263,10 @@ six_word d = (
   ),
 )
 
--- descriptors print words
 pub six_words : (ds : List ℕ) → AllByRecursion (λ v. IsWord v) (map six_digits ds)
 six_words [] = tt
 six_words (d ∷ ds) = (six_word d, six_words ds)
 
--- descriptors are read of what they print
 of_texts_back : DescriptorTexts → (ds : List ℕ) → AllByRecursion (λ d. d < 2 ^ 16) ds
     → map (λ w. unwrap_or (of_text w) 0) (map six_digits ds) ≡ ds
 of_texts_back texts [] h = refl
@@ -302,7 +274,6 @@ of_texts_back texts (d ∷ ds) h = let e =
     ap (λ (o : Option ℕ). unwrap_or o 0) ((texts (six_digits d) d).1 (h.0, refl)) in
     λ i. e i ∷ of_texts_back texts ds h.1 i
 
--- descriptors are found in their line
 descriptors_back_in : DescriptorTexts → (ds : List ℕ) → AllByRecursion (λ d. d < 2 ^ 16) ds
     → descriptors_in (descriptors_line ds) ≡ ds
 descriptors_back_in texts ds h =
@@ -311,25 +282,22 @@ descriptors_back_in texts ds h =
     (literal_word (codes "descriptors") refl) (six_words ds))
     ∙ of_texts_back texts ds h
 
--- what is read of a word has 16 bits, be it a descriptor or not
 small_by : DescriptorTexts → (w : List ℕ) (o : Option ℕ) → of_text w ≡ o → unwrap_or o 0 < 2 ^ 16
 small_by texts w None h = omega arith
 small_by texts w (Some d) h = ((texts w d).0 h).0
 
--- what is read of words has
 pub descriptors_small : DescriptorTexts → (ws : List (List ℕ)) → AllByRecursion (λ d. d < 2 ^ 16)
     (map (λ w. unwrap_or (of_text w) 0) ws)
 descriptors_small texts [] = tt
 descriptors_small texts (w ∷ ws) = (small_by texts w (of_text w) refl, descriptors_small texts ws)
 
--- descriptors that were read of a line: there is one at least, and they have a template
+-- descriptors read from a line, at least one, with a template
 pub record DescriptorsTaken (tables : Entries) (text : List ℕ) (x : Described) : Type 0 where
   pub line : text ≡ descriptors_line x.descriptors
   pub some : 0 < length x.descriptors
   pub small : All (λ d. d < 2 ^ 16) x.descriptors
   pub has_template : template tables x.descriptors ≡ Ok x.tree
 
--- descriptors that have a template, as they were read
 described_ok : (tables : Entries) (n : ℕ) (text ds : List ℕ) (r : Result Tree TemplateFault)
     (x : Described) → text ≡ descriptors_line ds → 0 < length ds → All (λ d. d < 2 ^ 16) ds
     → template tables ds ≡ r → described n ds r ≡ Ok x → DescriptorsTaken tables text x
@@ -338,7 +306,6 @@ described_ok tables n text ds (Ok tree) x line some small is h =
     (record { line = line; some = some; small = small; has_template = is })
 described_ok tables n text ds (Err fault) x line some small is h = absurd cc
 
--- descriptors that are read are those of the line
 pub descriptors_take : DescriptorTexts → (tables : Entries) (n : ℕ) (text : List ℕ)
     (x : Described) → read_descriptors tables n text ≡ Ok x → DescriptorsTaken tables text x
 descriptors_take texts tables n text x h =
@@ -351,12 +318,10 @@ descriptors_take texts tables n text x h =
     (All-from_recursion (λ d. d < 2 ^ 16) ds (descriptors_small texts (drop 1 (words_of text))))
     refl p.1
 
--- a list with an item is not of length 0
 not_empty_from : (xs : List ℕ) → 0 < length xs → not (length xs == 0) ≡ true
 not_empty_from [] h = absurd (omega arith)
 not_empty_from (x ∷ xs) h = some_not_empty (length xs)
 
--- a line of descriptors passes the test of one
 pub descriptors_pass : DescriptorTexts → (ds : List ℕ) → 0 < length ds → All (λ d. d < 2 ^ 16) ds
     → (not (length (descriptors_in (descriptors_line ds)) == 0) && bytes_eq
     (descriptors_line (descriptors_in (descriptors_line ds))) (descriptors_line ds)) ≡ true
@@ -367,7 +332,6 @@ descriptors_pass texts ds some small =
     (not_empty_from ds some)) (same_bytes (descriptors_line own) (descriptors_line ds)
     (ap descriptors_line back))
 
--- so what is read of it is the template of its descriptors, or why they have none
 pub descriptors_read : DescriptorTexts → (tables : Entries) (n : ℕ) (ds : List ℕ) → 0 < length ds
     → All (λ d. d < 2 ^ 16) ds
     → read_descriptors tables n (descriptors_line ds) ≡ described n ds (template tables ds)
@@ -378,7 +342,6 @@ descriptors_read texts tables n ds some small =
     (descriptors_pass texts ds some small)
     ∙ ap (λ ys. described n ys (template tables ys)) back
 
--- descriptors that have a template are read of their line
 pub descriptors_back : DescriptorTexts → (tables : Entries) (n : ℕ) (ds : List ℕ) (tree : Tree)
     → 0 < length ds → All (λ d. d < 2 ^ 16) ds → template tables ds ≡ Ok tree
     → read_descriptors tables n (descriptors_line ds)
@@ -388,7 +351,6 @@ descriptors_back texts tables n ds tree some small has_template =
 
 -- ---- numbers of section 1
 
--- eight numbers by their places
 pub eight_by_place : (t : List ℕ) → length t ≡ 8
     → get_or t 0 0 ∷ get_or t 1 0 ∷ get_or t 2 0 ∷ get_or t 3 0 ∷ get_or t 4 0 ∷ get_or t 5 0
     ∷ get_or t 6 0 ∷ get_or t 7 0 ∷ [] ≡ t
@@ -403,7 +365,6 @@ eight_by_place (a ∷ b ∷ c ∷ d ∷ e ∷ f ∷ g ∷ []) h = absurd (omega 
 eight_by_place (a ∷ b ∷ c ∷ d ∷ e ∷ f ∷ g ∷ i ∷ []) h = refl
 eight_by_place (a ∷ b ∷ c ∷ d ∷ e ∷ f ∷ g ∷ i ∷ j ∷ rest) h = absurd (omega arith)
 
--- numbers below limits are as many as these
 pub below_length : (limits ns : List ℕ) → are_below limits ns ≡ true → length ns ≡ length limits
 unfolding are_below
 below_length [] [] h = refl
@@ -412,7 +373,6 @@ below_length (l ∷ ls) [] h = absurd cc
 below_length (l ∷ ls) (n ∷ ns) h =
     ap suc (below_length ls ns (and_parts (nat_lt n l) (are_below ls ns) h).1)
 
--- each of them is below its limit
 pub below_at : (limits ns : List ℕ) (i : ℕ) → are_below limits ns ≡ true → i < length limits
     → get_or ns i 0 < get_or limits i 0
 unfolding are_below

@@ -1,16 +1,16 @@
--- Subsets read one after the other: for the reader of the subsets of a message, which `read` calls.
+-- Subsets read in turn: for `read_subsets`.
 use Rattle.std.proofs.Common.{◌≡◌, ℕ, zero, suc, ◌+◌, ◌<◌, ◌≤◌, true, false, List, [], ◌∷◌, ◌++◌}
 use Rattle.std.proofs.Common.{length, length-append, map, codes, Result, Ok, Err, refl, sym, ap}
 use Rattle.std.proofs.Common.{◌∙◌, arith}
 use Rattle.std.specs.Str.{bytes_eq}
 use Rattle.std.proofs.lemmas.List.{append-nil, length-map}
-use Rattle.bufr_answers.specs.Answers.{◌>>=◌, Fails, result_map}
-use Rattle.bufr_answers.specs.declared.failure.Failure.{Failure}
-use Rattle.bufr_answers.specs.declared.failure.Failure.TheVariants.{Fault, OutOfMemory}
+use Rattle.bufr_base.specs.Answers.{◌>>=◌, Fails, result_map}
+use Rattle.bufr_base.specs.declared.failure.Failure.{Failure}
+use Rattle.bufr_base.specs.declared.failure.Failure.TheVariants.{Fault, OutOfMemory}
 use Rattle.bufr_expand.specs.Courses.{Course}
 use Rattle.bufr_fields.specs.declared.field.Field.{Field}
 use Rattle.bufr_fields.specs.declared.field.Subset.{Subset}
-use Rattle.bufr_answers.specs.AnswerLaws.{bind_ok, ok_is}
+use Rattle.bufr_base.specs.AnswerLaws.{bind_ok, ok_is}
 use Rattle.bufr_listing.specs.declared.fault.ListingFault.{ListingFault}
 use Rattle.bufr_listing.specs.declared.fault.ListingFault.TheVariants.{BadLine}
 use Rattle.bufr_listing_reader.specs.Cursors.{is_end, behind}
@@ -22,31 +22,26 @@ use Rattle.bufr_listing_reader.specs.Steps.{behind_subsets}
 use Rattle.bufr_listing_reader.proofs.SubsetFacts.{line_takes, fields_take}
 use Rattle.bufr_listing_reader.proofs.StepFacts.{subsets_none, subsets_more}
 
--- ---- answers one after the other
+-- ---- results in turn
 
--- what comes behind an answer
 pub goes_on : {A B F : Type 0} (o : Result A F) (k : A → Result B F) (x : A) (y : Result B F)
     → o ≡ Ok x → k x ≡ y → (o >>= k) ≡ y
 goes_on o k x y is next = ap (λ r. r >>= k) is ∙ next
 
--- what comes behind a fault is this fault
 pub fails_on : {A B F : Type 0} (o : Result A F) (k : A → Result B F) (f : F) → o ≡ Err f
     → (o >>= k) ≡ Err f
 fails_on o k f is = ap (λ r. r >>= k) is
 
--- a line that fails
 line_fails : {A : Type 0} (o : Result A ListingFault) (ls : List Line) (f : ListingFault)
     → (o >>= with_rest ls) ≡ Err f → o ≡ Err f
 line_fails (Ok a) ls f h = absurd cc
 line_fails (Err e) ls f h = let same : e ≡ f = cc in ap Err same
 
--- ---- how many lines are left
+-- ---- the number of lines left
 
--- there are as many texts as lines
 pub texts_length : (ls : List Line) → length (texts ls) ≡ length ls
 texts_length ls = length-map ls (λ l. l.text)
 
--- behind fields there are no more lines than before
 fields_shorter : (past : ℕ) (c : Course) (ls : List Line) (r : FieldsListed)
     → fields_read past c ls ≡ Ok r → length r.rest ≤ length ls
 fields_shorter past c ls r h =
@@ -57,7 +52,6 @@ fields_shorter past c ls r h =
     let b = texts_length r.rest in
     omega (arith, front, sum, a, b)
 
--- behind a line there is one fewer
 pub line_shorter : {A : Type 0} (read : ℕ → List ℕ → Result A ListingFault) (past : ℕ)
     (ls : List Line) (x : A × List Line) → read_line read past ls ≡ Ok x
     → length ls ≡ length x.1 + 1
@@ -66,7 +60,6 @@ line_shorter read past ls x h =
     let front = ap length one.front in
     omega (arith, front)
 
--- a subset takes a line at least
 pub subset_shorter : (past : ℕ) (c : Course) (ls mid : List Line) (r : FieldsListed)
     → read_line (read_word (codes "subset")) past ls ≡ Ok (tt, mid) → fields_read past c mid
     ≡ Ok r → length r.rest < length ls
@@ -77,7 +70,7 @@ subset_shorter past c ls mid r word fields =
 
 -- ---- subsets
 
--- what has been read of subsets: these, and those that follow, of which there are lines enough
+-- these subsets, and then those of the lines left, which are enough
 pub record SubsetsSoFar (past : ℕ) (course : ℕ → Course) (start : List Line)
     (subsets : List Subset) (used : ℕ) (ls : List Line) : Type 0 where
   pub fuel : ℕ
@@ -85,7 +78,6 @@ pub record SubsetsSoFar (past : ℕ) (course : ℕ → Course) (start : List Lin
   pub so_far : subsets_read (length start) past course 0 start ≡ behind_subsets subsets
       (subsets_read fuel past course used ls)
 
--- before the first subset nothing was read
 pub no_subset : (past : ℕ) (course : ℕ → Course) (ls : List Line)
     → SubsetsSoFar past course ls [] 0 ls
 no_subset past course ls =
@@ -96,7 +88,6 @@ no_subset past course ls =
           subsets_none (subsets_read (length ls) past course 0 ls);
     }
 
--- a subset before those that are read
 subset_joined : (fields : List Field) (o : Result SubsetsListed ListingFault)
     → (o >>= λ others.
     Ok (record others { subsets = record { fields = fields } ∷ others.subsets })) ≡ behind_subsets
@@ -104,12 +95,10 @@ subset_joined : (fields : List Field) (o : Result SubsetsListed ListingFault)
 subset_joined fields (Ok found) = refl
 subset_joined fields (Err e) = refl
 
--- the line before a subset's fields
 record SubsetBegins (past : ℕ) (l : Line) (ls mid : List Line) : Type 0 where
   word : read_word (codes "subset") l.number l.text ≡ Ok tt
   behind : ls ≡ mid
 
--- the line that begins a subset was taken
 subset_begins : (past : ℕ) (l : Line) (ls mid : List Line)
     → read_line (read_word (codes "subset")) past (l ∷ ls) ≡ Ok (tt, mid)
     → SubsetBegins past l ls mid
@@ -121,7 +110,6 @@ subset_begins past l ls mid h =
           (ok_is (p.0, ls) (tt, mid) p.2);
     }
 
--- a subset is read, and then the others
 subset_step : (fuel past : ℕ) (course : ℕ → Course) (used : ℕ) (l : Line) (ls mid : List Line)
     (r : FieldsListed) → bytes_eq l.text (codes "end") ≡ false
     → read_line (read_word (codes "subset")) past (l ∷ ls) ≡ Ok (tt, mid)
@@ -136,7 +124,6 @@ subset_step fuel past course used l ls mid r other word fields =
     (goes_on _ _ _ _ b.word
     (goes_on _ _ _ _ own (subset_joined r.fields (subsets_read fuel past course r.items r.rest))))
 
--- one subset more was read, by how many lines may be left
 more_by : (fuel past : ℕ) (course : ℕ → Course) (start : List Line) (subsets grown : List Subset)
     (subset : Subset) (used items : ℕ) (l : Line) (ls mid rest : List Line)
     → grown ≡ subsets ++ subset ∷ []
@@ -162,7 +149,6 @@ more_by (suc fuel) past course start subsets grown subset used items l ls mid re
           ∙ ap (λ ss. behind_subsets ss (subsets_read fuel past course items rest)) (sym e);
     }
 
--- one subset more was read
 pub one_subset : (past : ℕ) (course : ℕ → Course) (start : List Line)
     (subsets grown : List Subset) (subset : Subset) (used items : ℕ) (ls mid rest : List Line)
     → grown ≡ subsets ++ subset ∷ []
@@ -178,7 +164,6 @@ one_subset past course start subsets grown subset used items (l ∷ ls) mid rest
     more_by so.fuel past course start subsets grown subset used items l ls mid rest e so.few
     so.so_far other word fields
 
--- what fails behind subsets fails all of them
 all_fail : (past : ℕ) (course : ℕ → Course) (start : List Line) (subsets : List Subset)
     (o : Result SubsetsListed ListingFault) (f : ListingFault)
     → subsets_read (length start) past course 0 start ≡ behind_subsets subsets o → o ≡ Err f
@@ -186,7 +171,6 @@ all_fail : (past : ℕ) (course : ℕ → Course) (start : List Line) (subsets :
 all_fail past course start subsets o f so_far h =
     ap (result_map (λ r. (r.subsets, r.rest))) (so_far ∙ ap (behind_subsets subsets) h)
 
--- the line that is to begin a subset fails, by the same
 word_fails_by : (fuel past : ℕ) (course : ℕ → Course) (used : ℕ) (ls : List Line)
     (f : ListingFault) → length ls ≤ fuel → is_end ls ≡ false
     → read_line (read_word (codes "subset")) past ls ≡ Err f
@@ -201,7 +185,6 @@ word_fails_by (suc fuel) past course used (l ∷ ls) f few other h =
     rw (subsets_read, other)
     (fails_on _ _ f (line_fails (read_word (codes "subset") l.number l.text) ls f h))
 
--- the line that is to begin a subset fails
 pub subset_word_fails : (past : ℕ) (course : ℕ → Course) (start : List Line)
     (subsets : List Subset) (used : ℕ) (ls : List Line) (e : Failure ListingFault)
     → SubsetsSoFar past course start subsets used ls → is_end ls ≡ false
@@ -212,7 +195,6 @@ subset_word_fails past course start subsets used ls (Fault f) so other h =
     all_fail past course start subsets (subsets_read so.fuel past course used ls) f so.so_far
     (word_fails_by so.fuel past course used ls f so.few other h)
 
--- the lines of a subset's fields fail, by the same
 fields_fail_by : (fuel past : ℕ) (course : ℕ → Course) (used : ℕ) (ls mid : List Line)
     (f : ListingFault) → length ls ≤ fuel → is_end ls ≡ false
     → read_line (read_word (codes "subset")) past ls ≡ Ok (tt, mid)
@@ -225,7 +207,6 @@ fields_fail_by (suc fuel) past course used (l ∷ ls) mid f few other word h =
     rw (subsets_read, other)
     (goes_on _ _ _ _ b.word (fails_on _ _ f (ap (fields_read past (course used)) b.behind ∙ h)))
 
--- the lines of a subset's fields fail
 pub subset_fields_fail : (past : ℕ) (course : ℕ → Course) (start : List Line)
     (subsets : List Subset) (used : ℕ) (ls mid : List Line) (e : Failure ListingFault)
     → SubsetsSoFar past course start subsets used ls → is_end ls ≡ false
@@ -236,7 +217,6 @@ subset_fields_fail past course start subsets used ls mid (Fault f) so other word
     all_fail past course start subsets (subsets_read so.fuel past course used ls) f so.so_far
     (fields_fail_by so.fuel past course used ls mid f so.few other word h)
 
--- the message ends, by the same
 end_by : (fuel past : ℕ) (course : ℕ → Course) (used : ℕ) (ls : List Line) → length ls ≤ fuel
     → is_end ls ≡ true → subsets_read fuel past course used ls
     ≡ Ok (record { subsets = []; items = used; rest = behind ls })
@@ -245,7 +225,6 @@ end_by fuel past course used [] few is = absurd cc
 end_by zero past course used (l ∷ ls) few is = absurd (omega (arith, few))
 end_by (suc fuel) past course used (l ∷ ls) few is = rw (subsets_read, is) refl
 
--- the line that ends the subsets
 pub subsets_end : (past : ℕ) (course : ℕ → Course) (start : List Line) (subsets : List Subset)
     (used : ℕ) (ls : List Line) → SubsetsSoFar past course start subsets used ls → is_end ls ≡ true
     → subsets_of past course start ≡ Ok (subsets, behind ls)

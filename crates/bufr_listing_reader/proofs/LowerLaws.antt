@@ -1,5 +1,4 @@
--- What the crates below say of descriptors, specs and subsets: the premises of the laws of
--- listings.
+-- Laws of the crates below on descriptors, specs and subsets, as premises.
 use Rattle.std.specs.Prelude.{◌≡◌, ◌↔◌, ℕ, ◌<◌, List, Some, ◌^◌}
 use Rattle.bufr_tables.specs.Descriptors.{of_text, six_digits}
 use Rattle.bufr_tables.specs.Entries.{Entries}
@@ -11,16 +10,15 @@ use Rattle.bufr_expand.specs.Trees.{Tree}
 use Rattle.bufr_expand.specs.Courses.{course}
 use Rattle.bufr_fields.specs.Laws.{AllCountedFit, AllFittingAreCounted}
 
--- a text is read as a descriptor exactly where it is what the descriptor prints
+-- a text reads as a descriptor exactly if the descriptor prints it
 abbrev pub DescriptorTexts : Type 0
 DescriptorTexts =
     (text : List ℕ) (d : ℕ) → ((of_text text ≡ Some d) ↔ ((d < 2 ^ 16) × (text ≡ six_digits d)))
 
--- each field that a course asks for is in range
+-- a course asks only for fields in range
 abbrev pub FieldsAreInRange : Type 0
 FieldsAreInRange = (tree : Tree) (used : ℕ) → EachAsked IsInRange (course tree used)
 
--- all of them
 pub record LowerLaws : Type 0 where
   pub descriptors : DescriptorTexts
   pub specs : FieldsAreInRange

@@ -1,5 +1,4 @@
--- What is read of the lines of messages is what they spell: for the laws of listings,
--- `listings_list_messages` and `listings_are_read_back`.
+-- Reading the lines of messages returns what they spell: for the laws of listings.
 use Rattle.std.proofs.Common.{◌≡◌, ℕ, zero, suc, ◌<◌, ◌≤◌, Bool, true, false, List, [], ◌∷◌, ◌++◌}
 use Rattle.std.proofs.Common.{length, get_or, codes, unwrap_or, refl, sym, ap, ◌∙◌}
 use Rattle.std.proofs.Common.{subst, arith, append_assoc, length-append}
@@ -8,7 +7,7 @@ use Rattle.std.specs.List.{flat_map, AllByRecursion}
 use Rattle.std.specs.Str.{bytes_eq}
 use Rattle.std.proofs.lemmas.Bool.{and_from, lt-ltb}
 use Rattle.std.proofs.lemmas.List.Elements.{All-from_recursion}
-use Rattle.bufr_answers.specs.Answers.{◌>>=◌}
+use Rattle.bufr_base.specs.Answers.{◌>>=◌}
 use Rattle.bufr_tables.specs.Entries.{Entries}
 use Rattle.bufr_expand.specs.Courses.{course}
 use Rattle.bufr_expand.specs.Limits.{most_items}
@@ -24,7 +23,7 @@ use Rattle.bufr_listing.specs.Listings.{section1_numbers, time_numbers, numbers_
 use Rattle.bufr_listing_reader.specs.Limits.{two_octets}
 use Rattle.bufr_listing.specs.declared.fault.ListingFault.{ListingFault}
 use Rattle.bufr_sections.specs.Sections.{AreOctets, HeadFits, IsOctet}
-use Rattle.bufr_answers.specs.AnswerLaws.{bind_ok, ok_is, passed_ok}
+use Rattle.bufr_base.specs.AnswerLaws.{bind_ok, ok_is, passed_ok}
 use Rattle.bufr_listing_reader.specs.Lines.{Line, texts, first_word}
 use Rattle.bufr_listing_reader.specs.Lines.{CanBeListed}
 use Rattle.bufr_listing_reader.specs.Reading.{with_rest, read_if, read_word, are_below}
@@ -39,15 +38,14 @@ use Rattle.bufr_listing_reader.proofs.LineFacts.{octets_take, section2_take}
 use Rattle.bufr_listing_reader.proofs.LineFacts.{flags_take, descriptors_take}
 use Rattle.bufr_listing_reader.proofs.LineFacts.{eight_by_place, below_length, below_at}
 
--- ---- lines that may be absent
+-- ---- lines that a message may lack
 
--- a line that may be absent was read, or none was
+-- reading found the line, or the message lacks it
 abbrev pub IfTaken : {A : Type 0} → (ℕ → List ℕ → Result A ListingFault) → List Line → Option A
     → List Line → Type 0
 IfTaken read ls None rest = ls ≡ rest
 IfTaken read ls (Some a) rest = LineTaken read ls a rest
 
--- what was read of one, by whether the next line has its first word
 if_takes_by : {A : Type 0} (b : Bool) (read : ℕ → List ℕ → Result A ListingFault) (l : Line)
     (ls : List Line) (x : Option A × List Line)
     → (if b then (read l.number l.text >>= λ a. with_rest ls (Some a)) else with_rest
@@ -59,7 +57,6 @@ if_takes_by {A} true read l ls x h =
 if_takes_by {A} false read l ls x h =
     subst (λ (y : Option A × List Line). IfTaken read (l ∷ ls) y.0 y.1) (ok_is _ _ h) refl
 
--- what was read of one
 pub if_takes : {A : Type 0} (title : List ℕ) (read : ℕ → List ℕ → Result A ListingFault)
     (ls : List Line) (x : Option A × List Line) → read_if title read ls ≡ Ok x
     → IfTaken read ls x.0 x.1
@@ -67,9 +64,8 @@ if_takes {A} title read [] x h = subst (λ (y : Option A × List Line). IfTaken 
     (ok_is _ _ h) refl
 if_takes title read (l ∷ ls) x h = if_takes_by (bytes_eq (first_word l.text) title) read l ls x h
 
--- ---- local octets and section 2
+-- ---- octets for local use and section 2
 
--- the octets for local use that were read are those of the lines
 pub local_takes : (ls : List Line) (o : Option (List ℕ)) (rest : List Line)
     → IfTaken read_local ls o rest → (texts ls ≡ local_lines (unwrap_or o []) ++ texts rest)
     × AreOctets (unwrap_or o [])
@@ -81,7 +77,6 @@ local_takes ls (Some (x ∷ xs)) rest h =
     let p = octets_take (codes "local1") _ h.line.number h.line.text (x ∷ xs) h.reads in
     (ap texts h.front ∙ ap (λ t. t ∷ texts rest) p.line, p.octets)
 
--- the section 2 that was read is that of the lines
 pub section2_takes : (ls : List Line) (o : Option (List ℕ)) (rest : List Line)
     → IfTaken read_section2 ls o rest → (texts ls ≡ section2_lines o ++ texts rest)
     × IfSome o AreOctets
@@ -90,13 +85,11 @@ section2_takes ls (Some os) rest h =
     let p = section2_take h.line.number h.line.text os h.reads in
     (ap texts h.front ∙ ap (λ t. t ∷ texts rest) p.0, p.1)
 
--- the line of section 2 has its first word
 pub section2_titled : (os : List ℕ) → bytes_eq (first_word (section2_line os)) (codes "section2")
     ≡ true
 section2_titled [] = refl
 section2_titled (x ∷ xs) = refl
 
--- the line of flags has not the first word of section 2
 pub flags_not_section2 : (observed compressed : Bool)
     → bytes_eq (first_word (flags_line observed compressed)) (codes "section2") ≡ false
 flags_not_section2 false false = refl
@@ -104,7 +97,6 @@ flags_not_section2 true false = refl
 flags_not_section2 false true = refl
 flags_not_section2 true true = refl
 
--- nor that of local octets
 pub flags_not_local : (observed compressed : Bool)
     → bytes_eq (first_word (flags_line observed compressed)) (codes "local1") ≡ false
 flags_not_local false false = refl
@@ -112,7 +104,6 @@ flags_not_local true false = refl
 flags_not_local false true = refl
 flags_not_local true true = refl
 
--- what follows the octets for local use has another first word
 pub not_local : (two : Option (List ℕ)) (observed compressed : Bool) (others : List (List ℕ))
     → bytes_eq
     (first_word (get_or (section2_lines two ++ flags_line observed compressed ∷ others) 0 []))
@@ -121,21 +112,18 @@ not_local None observed compressed others = flags_not_local observed compressed
 not_local (Some []) observed compressed others = refl
 not_local (Some (x ∷ xs)) observed compressed others = refl
 
--- ---- the lines of a message, one after the other
+-- ---- the lines of a message in turn
 
--- the lines of a message from its flags on, and others
 abbrev from_flags : Message → List (List ℕ) → List (List ℕ)
 from_flags m others =
     flags_line m.observed m.compressed ∷ descriptors_line m.descriptors ∷ flat_map subset_lines
     m.subsets ++ codes "end" ∷ others
 
--- the lines of a message in turn, and others
 abbrev in_turn : Message → List (List ℕ) → List (List ℕ)
 in_turn m others =
     codes "message" ∷ section1_line m.head ∷ time_line m.head
     ∷ local_lines m.head.local ++ (section2_lines m.section2 ++ from_flags m others)
 
--- they are its lines before the others
 pub regrouped : (m : Message) (others : List (List ℕ)) → lines_of m ++ others ≡ in_turn m others
 unfolding heading_lines lines_of
 regrouped m others =
@@ -152,7 +140,6 @@ regrouped m others =
 
 -- ---- the numbers of section 1
 
--- the numbers of a head are below the limits of their lines
 pub head_below : (h : Head) → HeadFits h → (are_below section1_limits (section1_numbers h) ≡ true)
     × (are_below time_limits (time_numbers h) ≡ true)
 unfolding are_below
@@ -173,7 +160,6 @@ head_below h fits = (
       (and_from _ _ (lt-ltb h.second 256 fits.second) refl))))),
 )
 
--- numbers below these limits are those of a head
 pub head_fits : (ns ts : List ℕ) (local : Option (List ℕ)) → are_below section1_limits ns ≡ true
     → are_below time_limits ts ≡ true → AreOctets (unwrap_or local [])
     → HeadFits (head_with ns ts local)
@@ -195,18 +181,16 @@ head_fits ns ts local n t octets = record {
   local = octets;
 }
 
--- ---- a message that is read
+-- ---- a message as read
 
--- the lines of a message that was read, which can be listed
+-- the lines of a message as read, which a text can list
 pub record MessageTaken (tables : Entries) (ls : List Line) (x : MessageRead) : Type 0 where
   pub front : texts ls ≡ lines_of x.0 ++ texts x.1
   pub can : CanBeListed tables x.0
 
--- no item is within the limit
 pub none_used : 0 ≤ most_items
 none_used = omega arith
 
--- a message that is read is that of the lines
 pub message_takes : LowerLaws → (tables : Entries) (past : ℕ) (ls : List Line) (x : MessageRead)
     → message_read tables past ls ≡ Ok x → MessageTaken tables ls x
 message_takes laws tables past ls x h =
@@ -265,13 +249,11 @@ message_takes laws tables past ls x h =
       };
     })
 
--- ---- lines that are spelt
+-- ---- lines that writers print
 
--- a word is read of itself
 pub word_back : (word : List ℕ) (n : ℕ) → read_word word n word ≡ Ok tt
 word_back word n = rw (same_bytes word word refl) refl
 
--- no limit of section 1 is above 65,536
 pub limits_most : AllByRecursion (λ l. l ≤ two_octets) section1_limits
 limits_most = (
   omega arith,
@@ -281,12 +263,10 @@ limits_most = (
   ),
 )
 
--- nor one of the time
 pub time_limits_most : AllByRecursion (λ l. l ≤ two_octets) time_limits
 time_limits_most =
     (omega arith, (omega arith, (omega arith, (omega arith, (omega arith, (omega arith, tt))))))
 
--- the line of section 1 but its time is read
 pub section1_back : (n : ℕ) (h : Head) → HeadFits h
     → read_numbers (codes "section1") section1_limits n
     (numbers_line (codes "section1") (section1_numbers h))
@@ -295,7 +275,6 @@ section1_back n h fits =
     numbers_back (codes "section1") section1_limits n (section1_numbers h)
     (literal_word (codes "section1") refl) limits_most (head_below h fits).0
 
--- the line of the time is read
 pub time_back : (n : ℕ) (h : Head) → HeadFits h
     → read_numbers (codes "time") time_limits n (numbers_line (codes "time") (time_numbers h))
     ≡ Ok (time_numbers h)
@@ -305,13 +284,12 @@ time_back n h fits =
 
 -- ---- messages
 
--- the lines of messages that were read, which can be listed
+-- the lines of messages as read, which a text can list
 pub record MessagesTaken (tables : Entries) (ls : List Line) (messages : List Message) : Type 0
   where
     pub front : texts ls ≡ flat_map lines_of messages
     pub each : AllByRecursion (λ m. CanBeListed tables m) messages
 
--- messages that are read are those of the lines
 pub messages_take : LowerLaws → (left : ℕ) (tables : Entries) (past : ℕ) (ls : List Line)
     (messages : List Message) → messages_read left tables past ls ≡ Ok messages
     → MessagesTaken tables ls messages
@@ -331,7 +309,6 @@ messages_take laws (suc left) tables past (l ∷ ls) messages h =
       each = (own.can, others.each);
     })
 
--- a message has a line
 pub some_line : (m : Message) (others : List (List ℕ)) → 0 < length (lines_of m ++ others)
 unfolding heading_lines lines_of
 some_line m others = omega arith

@@ -1,10 +1,8 @@
--- A message in the order of its lines: what follows each of its parts, and the parts that were read
--- of it. For `read_message`, by way of which `read` answers the messages that a text lists, and for
--- the laws of listings.
+-- A message by its parts in the order of their lines: for `read_message` and the laws of listings.
 use Rattle.std.proofs.Common.{◌≡◌, ℕ, List, length, codes, Result, Ok}
 use Rattle.std.specs.Prelude.{Option}
-use Rattle.bufr_answers.specs.Answers.{◌>>=◌}
-use Rattle.bufr_answers.specs.AnswerLaws.{bind_ok, ok_is}
+use Rattle.bufr_base.specs.Answers.{◌>>=◌}
+use Rattle.bufr_base.specs.AnswerLaws.{bind_ok, ok_is}
 use Rattle.bufr_tables.specs.Entries.{Entries}
 use Rattle.bufr_expand.specs.Courses.{course}
 use Rattle.bufr_fields.specs.declared.field.Subset.{Subset}
@@ -32,34 +30,30 @@ message_with head two flags list subsets =
       subsets = subsets;
     }
 
--- what follows the descriptors
 abbrev pub from_subsets : ℕ → Head → Option (List ℕ) → Flags → Described → List Line
     → Result MessageRead ListingFault
 from_subsets past head two flags list ls =
     subsets_read (length ls) past (course list.tree) 0 ls
     >>= λ found. with_rest found.rest (message_with head two flags list found.subsets)
 
--- what follows section 1, section 2 and the flags
 abbrev pub from_descriptors : Entries → ℕ → Head → Option (List ℕ) → Flags → List Line
     → Result MessageRead ListingFault
 from_descriptors tables past head two flags ls =
     read_line (read_descriptors tables) past ls
     >>= λ list. from_subsets past head two flags list.0 list.1
 
--- what follows section 1 and section 2
 abbrev pub from_flags : Entries → ℕ → Head → Option (List ℕ) → List Line
     → Result MessageRead ListingFault
 from_flags tables past head two ls =
     read_line read_flags past ls >>= λ flags. from_descriptors tables past head two flags.0 flags.1
 
--- what follows section 1
 abbrev pub from_section2 : Entries → ℕ → Head → List Line → Result MessageRead ListingFault
 from_section2 tables past head ls =
     read_if (codes "section2") read_section2 ls >>= λ two. from_flags tables past head two.0 two.1
 
--- ---- the parts that were read
+-- ---- the parts as read
 
--- the parts of a message that was read, each with the lines behind it
+-- the parts of a message, each with the lines after it
 pub record MessageParts (tables : Entries) (past : ℕ) (ls : List Line) (x : MessageRead) : Type 0
   where
     pub begin : Unit {0} × List Line
@@ -84,7 +78,6 @@ pub record MessageParts (tables : Entries) (past : ℕ) (ls : List Line) (x : Me
       found.rest,
     ) ≡ x
 
--- a message that was read has such parts
 pub message_parts : (tables : Entries) (past : ℕ) (ls : List Line) (x : MessageRead)
     → message_read tables past ls ≡ Ok x → MessageParts tables past ls x
 unfolding message_read

@@ -1,16 +1,16 @@
--- The lines of a message one after the other: for their readers, and so for `read`.
+-- Reading a message part by part: for `read_message`.
 use Rattle.std.proofs.Common.{◌≡◌, ℕ, ◌<◌, List, [], ◌∷◌}
 use Rattle.std.proofs.Common.{◌++◌, append_assoc, length, length-append, codes, Result, Ok, Err}
 use Rattle.std.proofs.Common.{refl, sym, ap, ◌∙◌, subst, arith}
 use Rattle.std.specs.Prelude.{Option, Some, None}
-use Rattle.bufr_answers.specs.Answers.{◌>>=◌, Fails, result_map}
+use Rattle.bufr_base.specs.Answers.{◌>>=◌, Fails, result_map}
 use Rattle.bufr_tables.specs.Entries.{Entries}
-use Rattle.bufr_answers.specs.declared.failure.Failure.{Failure}
-use Rattle.bufr_answers.specs.declared.failure.Failure.TheVariants.{Fault, OutOfMemory}
+use Rattle.bufr_base.specs.declared.failure.Failure.{Failure}
+use Rattle.bufr_base.specs.declared.failure.Failure.TheVariants.{Fault, OutOfMemory}
 use Rattle.bufr_expand.specs.Courses.{course}
 use Rattle.bufr_fields.specs.declared.field.Subset.{Subset}
 use Rattle.bufr_sections.specs.declared.message.Head.{Head}
-use Rattle.bufr_answers.specs.AnswerLaws.{ok_is}
+use Rattle.bufr_base.specs.AnswerLaws.{ok_is}
 use Rattle.bufr_listing.specs.declared.fault.ListingFault.{ListingFault}
 use Rattle.bufr_listing_reader.specs.Lines.{Line}
 use Rattle.bufr_listing_reader.specs.Reading.{with_rest, read_line, read_if, read_word, read_numbers}
@@ -27,13 +27,11 @@ use Rattle.bufr_listing_reader.proofs.FaultFields.{IsBehind, subsets_behind}
 
 -- ---- section 1 first
 
--- an answer from one step, and then another
 bind_one : {D E G F : Type 0} (d : Result D F) (e : D → Result E F) (k : E → Result G F)
     → ((d >>= λ w. e w) >>= k) ≡ (d >>= λ w. (e w >>= k))
 bind_one (Ok w) e k = refl
 bind_one (Err f) e k = refl
 
--- from four steps
 bind_four : {A B C D E G F : Type 0} (a : Result A F) (b : A → Result B F)
     (c : A → B → Result C F) (d : A → B → C → Result D F) (e : A → B → C → D → Result E F)
     (k : E → Result G F)
@@ -45,7 +43,6 @@ bind_four a b c d e k =
     ∙ (λ i. a >>= λ x. b x >>= λ y. bind_one (c x y) (λ z. d x y z >>= λ w. e x y z w) k i)
     ∙ (λ i. a >>= λ x. b x >>= λ y. c x y >>= λ z. bind_one (d x y z) (e x y z) k i)
 
--- a message is section 1 and what follows
 by_head : (tables : Entries) (past : ℕ) (ls : List Line) → message_read tables past ls
     ≡ (head_read past ls >>= λ h. from_section2 tables past h.0 h.1)
 unfolding message_read
@@ -60,14 +57,12 @@ by_head tables past ls =
 
 -- ---- step by step
 
--- where section 1 was read
 pub at_section2 : (tables : Entries) (past : ℕ) (ls l1 : List Line) (h : Head) → head_read past ls
     ≡ Ok (h, l1) → message_read tables past ls ≡ from_section2 tables past h l1
 at_section2 tables past ls l1 h e =
     by_head tables past ls ∙ ap (λ (r : Result (Head × List Line) ListingFault). r >>= λ x.
     from_section2 tables past x.0 x.1) e
 
--- where section 2 was read too
 pub at_flags : (tables : Entries) (past : ℕ) (ls l1 l2 : List Line) (h : Head)
     (two : Option (List ℕ)) → head_read past ls ≡ Ok (h, l1)
     → read_if (codes "section2") read_section2 l1 ≡ Ok (two, l2)
@@ -77,7 +72,6 @@ at_flags tables past ls l1 l2 h two e f =
     ∙ ap (λ (r : Result (Option (List ℕ) × List Line) ListingFault). r >>= λ x.
     from_flags tables past h x.0 x.1) f
 
--- where the flags were read too
 pub at_descriptors : (tables : Entries) (past : ℕ) (ls l1 l2 l3 : List Line) (h : Head)
     (two : Option (List ℕ)) (flags : Flags) → head_read past ls ≡ Ok (h, l1)
     → read_if (codes "section2") read_section2 l1 ≡ Ok (two, l2)
@@ -87,7 +81,6 @@ at_descriptors tables past ls l1 l2 l3 h two flags e f g = at_flags tables past 
     ∙ ap (λ (r : Result (Flags × List Line) ListingFault). r >>= λ x. from_descriptors tables past
     h two x.0 x.1) g
 
--- where the descriptors were read too
 pub at_subsets : (tables : Entries) (past : ℕ) (ls l1 l2 l3 l4 : List Line) (h : Head)
     (two : Option (List ℕ)) (flags : Flags) (list : Described) → head_read past ls ≡ Ok (h, l1)
     → read_if (codes "section2") read_section2 l1 ≡ Ok (two, l2)
@@ -100,28 +93,24 @@ at_subsets tables past ls l1 l2 l3 l4 h two flags list e f g d =
 
 -- ---- faults
 
--- where the next step fails, all do
 pub step_fails : {A B : Type 0} (m : Result B ListingFault) (o : Result A ListingFault)
     (k : A → Result B ListingFault) (e : Failure ListingFault) → m ≡ (o >>= k) → Fails e o
     → Fails e m
 step_fails m o k OutOfMemory so h = tt
 step_fails m o k (Fault f) so h = so ∙ ap (λ r. r >>= k) h
 
--- where section 1 fails, the message does
 pub head_fails : (tables : Entries) (past : ℕ) (ls : List Line) (e : Failure ListingFault)
     → Fails e (head_read past ls) → Fails e (message_read tables past ls)
 head_fails tables past ls e h =
     step_fails _ (head_read past ls) (λ x. from_section2 tables past x.0 x.1) e
     (by_head tables past ls) h
 
--- what fails when it is changed failed before
 map_fails : (o : Result SubsetsListed ListingFault) (e : Failure ListingFault)
     → Fails {Y = List Subset × List Line} e (result_map (λ r. (r.subsets, r.rest)) o) → Fails e o
 map_fails o OutOfMemory h = tt
 map_fails (Ok r) (Fault f) h = absurd cc
 map_fails (Err g) (Fault f) h = let same : g ≡ f = cc in ap Err same
 
--- where the subsets fail, the message does
 pub subsets_fail : (tables : Entries) (past : ℕ) (ls mid : List Line) (h : Head)
     (two : Option (List ℕ)) (flags : Flags) (list : Described) (e : Failure ListingFault)
     → message_read tables past ls ≡ from_subsets past h two flags list mid
@@ -130,14 +119,12 @@ subsets_fail tables past ls mid h two flags list e so fails =
     step_fails _ (subsets_read (length mid) past (course list.tree) 0 mid) _ e so
     (map_fails (subsets_read (length mid) past (course list.tree) 0 mid) e fails)
 
--- what was answered before it was changed
 map_ok : (o : Result SubsetsListed ListingFault) (x : List Subset × List Line)
     → result_map (λ r. (r.subsets, r.rest)) o ≡ Ok x → (r : SubsetsListed) × (o ≡ Ok r)
     × ((r.subsets, r.rest) ≡ x)
 map_ok (Ok r) x h = (r, refl, ok_is (r.subsets, r.rest) x h)
 map_ok (Err f) x h = absurd cc
 
--- the message of its lines
 pub message_is : (tables : Entries) (past : ℕ) (ls mid rest : List Line) (h : Head)
     (two : Option (List ℕ)) (flags : Flags) (list : Described) (subsets : List Subset)
     → message_read tables past ls ≡ from_subsets past h two flags list mid
@@ -151,7 +138,6 @@ message_is tables past ls mid rest h two flags list subsets so s =
 
 -- ---- messages
 
--- lines behind lines that stand behind others
 then_behind : (ls mid rest : List Line) → IsBehind ls mid → IsBehind mid rest → IsBehind ls rest
 then_behind ls mid rest a b =
     record {
@@ -160,19 +146,16 @@ then_behind ls mid rest a b =
           ∙ sym (append_assoc a.own b.own rest);
     }
 
--- what is left behind a line
 line_behind : {A : Type 0} (read : ℕ → List ℕ → Result A ListingFault) (past : ℕ) (ls : List Line)
     (x : A × List Line) → read_line read past ls ≡ Ok x → IsBehind ls x.1
 line_behind read past ls x h = let l = line_takes read past ls x h in
     record { own = l.line ∷ []; in_order = l.front }
 
--- what is left behind one that may be absent
 taken_behind : {A : Type 0} (read : ℕ → List ℕ → Result A ListingFault) (ls : List Line)
     (o : Option A) (rest : List Line) → IfTaken read ls o rest → IsBehind ls rest
 taken_behind read ls None rest e = record { own = []; in_order = e }
 taken_behind read ls (Some a) rest t = record { own = t.line ∷ []; in_order = t.front }
 
--- what is left behind a message stands behind its first line
 behind_begin : (tables : Entries) (past : ℕ) (ls : List Line) (x : MessageRead)
     (p : MessageParts tables past ls x) → IsBehind p.begin.1 x.1
 behind_begin tables past ls x p =
@@ -190,7 +173,7 @@ behind_begin tables past ls x p =
     (subsets_behind (length p.list.1) past (course p.list.0.tree) 0 p.list.1 p.found
     p.has_found)))))))
 
--- what is left behind a message
+-- the lines left after a message
 pub message_behind : (tables : Entries) (past : ℕ) (ls : List Line) (x : MessageRead)
     → message_read tables past ls ≡ Ok x → IsBehind ls x.1
 message_behind tables past ls x h =
@@ -199,7 +182,6 @@ message_behind tables past ls x h =
     (line_behind (read_word (codes "message")) past ls p.begin p.begins)
     (behind_begin tables past ls x p)
 
--- behind a message there are fewer lines
 pub message_shorter : (tables : Entries) (past : ℕ) (ls : List Line) (x : MessageRead)
     → message_read tables past ls ≡ Ok x → length x.1 < length ls
 message_shorter tables past ls x h =

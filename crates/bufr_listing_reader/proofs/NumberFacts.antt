@@ -1,5 +1,4 @@
--- The numbers and descriptors of words are those of the line: for the readers of lines of them,
--- which `read` calls.
+-- The numbers of words are those of the line: for `read_numbers`.
 use Rattle.std.proofs.Common.{◌≡◌, ℕ, suc, ◌+◌, ◌≤◌, Bool, true, false, List, [], ◌∷◌, length}
 use Rattle.std.proofs.Common.{map, get_or, drop, refl, sym, ap, ◌∙◌, subst, arith}
 use Rattle.std.specs.Prelude.{◌==◌, decimal, Option, Some, None, IfSome, option_and_then, Ok}
@@ -12,8 +11,8 @@ use Rattle.std.proofs.lemmas.List.{append-nil}
 use Rattle.std.proofs.lemmas.Option.{none-some}
 use Rattle.bufr_fields.specs.declared.field.Decimal.{Decimal}
 use Rattle.bufr_fields.specs.Values.{text_of}
-use Rattle.bufr_listing_reader.specs.DecimalTexts.{decimal_of}
-use Rattle.bufr_listing_reader.proofs.DecimalTextFacts.{IsRead, decimal_found, decimal_only}
+use Rattle.bufr_fields.specs.DecimalTexts.{decimal_of}
+use Rattle.bufr_fields.specs.DecimalTextLaws.{IsRead, decimal_found, decimal_only}
 use Rattle.bufr_listing_reader.specs.Limits.{two_octets}
 use Rattle.bufr_listing.specs.declared.fault.ListingFault.TheVariants.{BadLine, BadValue}
 use Rattle.bufr_listing.specs.Listings.{words, numbers_line}
@@ -28,7 +27,6 @@ use Rattle.bufr_listing_reader.proofs.PrintedFacts.{own_printed, first_printed, 
 
 -- ---- numbers below limits
 
--- a word that is read is the digits of the number, which is below the limit
 below_by : (limit : ℕ) (w : List ℕ) (n : ℕ) (o : Option Decimal)
     → IfSome o (λ d. IsRead (pos 0) w d) → option_and_then (λ (d : Decimal). below limit d.units)
     o ≡ Some n → (decimal n ≡ w) × (nat_lt n limit ≡ true)
@@ -50,12 +48,10 @@ below_by limit w n (Some d) read h = by_units d.units d.scale read.0 read.2 h
         (subst (λ s. text_of (record { units = pos m; scale = s }) ≡ w) zero_scale text)
     by_units (negsuc m) scale zero_scale text h = absurd cc
 
--- a number that is read prints its word, and is below its limit
 word_taken : (limit : ℕ) (w : List ℕ) (n : ℕ) → number_below limit w ≡ Some n → (decimal n ≡ w)
     × (nat_lt n limit ≡ true)
 word_taken limit w n h = below_by limit w n (decimal_of (pos 0) w) (decimal_found (pos 0) w) h
 
--- a number below its limit is read of what it prints
 word_back : (limit n : ℕ) → limit ≤ two_octets → nat_lt n limit ≡ true
     → number_below limit (decimal n)
     ≡ Some n
@@ -67,12 +63,11 @@ word_back limit n most h =
     (record { units = omega (arith, small, most); scale = refl }) refl refl in
     rw (read, h) refl
 
--- the words are the digits of the numbers, which are below the limits
+-- the words are the digits of numbers below the limits
 pub record NumbersTaken (limits : List ℕ) (ws : List (List ℕ)) (ns : List ℕ) : Type 0 where
   pub texts : map decimal ns ≡ ws
   pub below : are_below limits ns ≡ true
 
--- an answer before others, taken apart
 pub onto_taken : {A : Type 0} (o : Option A) (xs : Option (List A)) (ys : List A)
     → onto o xs ≡ Some ys → (x : A) × (rest : List A) × (o ≡ Some x) × (xs ≡ Some rest)
     × (x ∷ rest ≡ ys)
@@ -80,7 +75,6 @@ onto_taken None xs ys h = absurd cc
 onto_taken (Some x) None ys h = absurd cc
 onto_taken (Some x) (Some rest) ys h = (x, rest, refl, refl, cc)
 
--- numbers that are read of words, word by word
 pub numbers_taken : (limits : List ℕ) (ws : List (List ℕ)) (ns : List ℕ) → numbers_of limits ws
     ≡ Some ns → NumbersTaken limits ws ns
 unfolding numbers_of are_below
@@ -95,7 +89,6 @@ numbers_taken (limit ∷ limits) (w ∷ ws) ns h =
     subst (λ xs. NumbersTaken (limit ∷ limits) (w ∷ ws) xs) p.4
     (record { texts = λ i. first.0 i ∷ others.texts i; below = and_from _ _ first.1 others.below })
 
--- numbers below their limits are read of what they print
 pub numbers_again : (limits ns : List ℕ) → AllByRecursion (λ l. l ≤ two_octets) limits
     → are_below limits ns ≡ true → numbers_of limits (map decimal ns) ≡ Some ns
 unfolding numbers_of are_below
@@ -108,14 +101,12 @@ numbers_again (l ∷ ls) (n ∷ ns) most h =
 
 -- ---- lines of numbers
 
--- the first word of a line that is made of words
 pub first_of_words : (title : List ℕ) (ws : List (List ℕ)) → IsWord title
     → first_word (words title ws) ≡ title
 first_of_words title [] h = ap first_word (append-nil title) ∙ ap (λ us. get_or us 0 [])
     (one_word title h)
 first_of_words title (v ∷ ws) h = ap (λ us. get_or us 0 []) (word_then title (words v ws) h)
 
--- a line that does not begin with the title is another one
 pub untitled_numbers : (title limits : List ℕ) (n : ℕ) (text : List ℕ) → IsWord title
     → bytes_eq (first_word text) title ≡ false → read_numbers title limits n (as_printed text)
     ≡ Err (BadLine n)
@@ -129,7 +120,6 @@ untitled_numbers title limits n text word other =
     ∙ first_of_words title (map decimal (numbers_in t)) word)))
     ∙ rw first refl
 
--- the numbers of a line that begins with the title
 pub numbers_are : (title limits : List ℕ) (n : ℕ) (text : List ℕ) (ws : List (List ℕ))
     (ns : List ℕ) → IsWord title → AllByRecursion (λ l. l ≤ two_octets) limits → has_octets title
     ≡ false
@@ -144,7 +134,6 @@ numbers_are title limits n text ws ns word most plain e h =
     ap (read_numbers title limits n) (own_printed text octets ∙ line)
     ∙ numbers_back title limits n ns word most taken.below
 
--- words that are no numbers make no line of numbers
 pub numbers_are_not : (title limits : List ℕ) (n : ℕ) (text : List ℕ) (ws : List (List ℕ))
     → IsWord title → AllByRecursion (λ l. l ≤ two_octets) limits → has_octets title ≡ false
     → words_of text ≡ title ∷ ws → numbers_of limits ws ≡ None → read_numbers title limits n

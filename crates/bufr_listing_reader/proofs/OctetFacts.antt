@@ -1,5 +1,4 @@
--- Hexadecimal digits of either case are those of the same octets: for the readers of their lines,
--- which `read` calls.
+-- Hexadecimal digits of either case spell the same octets: for the readers of octets.
 use Rattle.std.proofs.Common.{◌≡◌, ℕ, zero, suc, ◌+◌, ◌-◌, ◌*◌, ◌/◌, ◌%◌, ◌<◌, Bool, true, false}
 use Rattle.std.proofs.Common.{List, [], ◌∷◌, ◌++◌, length, map, drop, get_or, refl, sym, ap, ◌∙◌}
 use Rattle.std.proofs.Common.{subst, arith, inl, inr, ◌⊎◌}
@@ -13,7 +12,7 @@ use Rattle.std.proofs.lemmas.List.{append-nil, length-map}
 use Rattle.std.proofs.lemmas.Option.{none-some, same_Some}
 use Rattle.hex.specs.declared.error.FromHexError.{FromHexError}
 use Rattle.hex.specs.declared.error.FromHexError.TheVariants as hexes
-use Rattle.bufr_answers.specs.AnswerLaws.{ok_is}
+use Rattle.bufr_base.specs.AnswerLaws.{ok_is}
 use Rattle.hex.specs.Hex.{hex_digit_value, digit_or_error, value_at, pair_value, lower_digits}
 use Rattle.hex.specs.Hex.{encode_with, encode_lower, decode_pairs, decode_of, ◌>>=◌}
 use Rattle.hex.proofs.HexLemmas.{IsDigits-lower_digits}
@@ -29,7 +28,6 @@ use Rattle.bufr_listing_reader.proofs.PrintedFacts.{count_printed, line_of_words
 
 -- ---- digits
 
--- a digit has its value in either case
 value_lower : (c i : ℕ) → value_at (lower_digit c) i ≡ value_at c i
 value_lower c i =
     elim (cases_Bool (nat_le 65 c && nat_le c 70)) [
@@ -41,7 +39,6 @@ value_lower c i =
       | inr e ↦ let own : lower_digit c ≡ c = rw e refl in ap (λ x. value_at x i) own
     ]
 
--- pairs of digits have theirs
 decode_pairs_lower : (i : ℕ) (w : List ℕ) → decode_pairs i (map lower_digit w) ≡ decode_pairs i w
 unfolding decode_pairs
 decode_pairs_lower i [] = refl
@@ -50,15 +47,12 @@ decode_pairs_lower i (high ∷ low ∷ rest) =
     λ j. (value_lower high i j >>= λ h. value_lower low (i + 1) j >>= λ l. Ok (h * 16 + l))
     >>= λ byte. decode_pairs_lower (i + 2) rest j >>= λ bytes. Ok (byte ∷ bytes)
 
--- digits are decoded alike in either case
 pub decode_lower : (w : List ℕ) → decode_of (map lower_digit w) ≡ decode_of w
 decode_lower w = rw (length-map w lower_digit, decode_pairs_lower 0 w) refl
 
--- the digit of a value as it is printed
 abbrev digit_for : ℕ → ℕ
 digit_for a = if nat_lt a 10 then 48 + a else 87 + a
 
--- a digit has a value below 16, and in lower case it is the one of its value
 value_place : (c a : ℕ) → hex_digit_value c ≡ Some a → (a < 16) × (lower_digit c ≡ digit_for a)
 value_place c a h =
     elim (cases_Bool (nat_le 65 c && nat_le c 70)) [
@@ -86,11 +80,9 @@ value_place c a h =
           ]
     ]
 
--- a digit's value is below 16
 pub value_small : (c a : ℕ) → hex_digit_value c ≡ Some a → a < 16
 value_small c a h = (value_place c a h).0
 
--- one of some digits that all pass a test
 pub passes_at : (test : ℕ → Bool) (t : List ℕ) (k : ℕ) → list_all test t ≡ true → k < length t
     → test (slice_index t k) ≡ true
 passes_at test [] k h few = absurd (omega arith)
@@ -98,13 +90,11 @@ passes_at test (c ∷ cs) zero h few = (and_parts (test c) (list_all test cs) h)
 passes_at test (c ∷ cs) (suc k) h few =
     passes_at test cs k (and_parts (test c) (list_all test cs) h).1 (omega arith)
 
--- a digit as it is printed is in lower case
 pub printed_lower : (k : ℕ) → k < 16 → lower_digit (slice_index lower_digits k)
     ≡ slice_index lower_digits k
 printed_lower k small =
     eqb-true _ _ (passes_at (λ c. lower_digit c == c) lower_digits k refl small)
 
--- a digit's value is printed as the digit in lower case
 pub digit_printed : (c a : ℕ) → hex_digit_value c ≡ Some a → slice_index lower_digits a
     ≡ lower_digit c
 digit_printed c a h =
@@ -113,7 +103,6 @@ digit_printed c a h =
     ∙ (value_place (slice_index lower_digits a) a (IsDigits-lower_digits a small)).1
     ∙ sym (value_place c a h).1
 
--- a digit that is decoded has its value
 value_is : (c i a : ℕ) → value_at c i ≡ Ok a → hex_digit_value c ≡ Some a
 value_is c i a h = by_value (hex_digit_value c) refl h
   where
@@ -122,13 +111,11 @@ value_is c i a h = by_value (hex_digit_value c) refl h
     by_value None e h = absurd cc
     by_value (Some b) e h = let same : b ≡ a = cc in e ∙ ap Some same
 
--- what was answered first, and what was made of it
 hex_ok : {A B : Type 0} (x : Result A FromHexError) (f : A → Result B FromHexError) (y : B)
     → (x >>= f) ≡ Ok y → (a : A) × (x ≡ Ok a) × (f a ≡ Ok y)
 hex_ok (Ok a) f y e = (a, refl, e)
 hex_ok (Err fault) f y e = absurd cc
 
--- pairs that are decoded are printed in lower case
 pairs_printed : (i : ℕ) (w os : List ℕ) → decode_pairs i w ≡ Ok os → encode_lower os
     ≡ map lower_digit w
 unfolding decode_pairs encode_with
@@ -154,7 +141,7 @@ pairs_printed i (high ∷ low ∷ rest) os h =
     subst (λ xs. encode_lower xs ≡ map lower_digit (high ∷ low ∷ rest))
     (ok_is (p.0 ∷ q.0) os q.2) (λ j. high_is j ∷ low_is j ∷ more j)
 
--- octets that are read of digits are printed as these digits in lower case
+-- octets print as their digits in lower case
 pub octets_printed_as : (w os : List ℕ) → decode_of w ≡ Ok os → encode_lower os ≡ map lower_digit w
 octets_printed_as w os h =
     elim (cases_Bool (length w % 2 == 1)) [
@@ -164,7 +151,6 @@ octets_printed_as w os h =
 
 -- ---- lines of octets
 
--- a digit as it is printed is no space
 digit_no_space : (t : List ℕ) (k : ℕ) → list_all (λ c. not (c == 32)) t ≡ true
     → (slice_index t k == 32) ≡ false
 digit_no_space [] k h = refl
@@ -173,7 +159,6 @@ digit_no_space (c ∷ cs) zero h =
 digit_no_space (c ∷ cs) (suc k) h =
     digit_no_space cs k (and_parts (not (c == 32)) (list_all (λ c. not (c == 32)) cs) h).1
 
--- octets print a word
 digits_word : (os : List ℕ) → IsWord (encode_lower os)
 unfolding encode_with
 digits_word [] = tt
@@ -185,7 +170,6 @@ digits_word (x ∷ xs) = (
   ),
 )
 
--- the words of a line of octets, digits in lower case
 lower_words : (text title : List ℕ) (ws : List (List ℕ)) → has_octets text ≡ true
     → words_of text ≡ title ∷ ws → words_of (as_printed text) ≡ title ∷ map
     (λ w. map lower_digit w) ws
@@ -198,7 +182,6 @@ lower_words text title ws octets e =
     let same : map lower_digit title ≡ title = sym (ap (λ us. get_or us 0 []) all) ∙ first in
     all ∙ ap (λ w. w ∷ map (λ w. map lower_digit w) ws) same
 
--- a line of another number of words than two
 pub octets_are_not : (title : List ℕ) (n : ℕ) (text : List ℕ) (ws : List (List ℕ)) → IsWord title
     → has_octets text ≡ true → words_of text ≡ title ∷ ws → (length ws ≡ 1 → ⊥)
     → read_octets title (length (words_of (as_printed text)) == 2) n (as_printed text) ≡ Err
@@ -216,7 +199,6 @@ octets_are_not title n text ws word octets e other =
     ∙ ap (λ b. Err (if b then BadValue n else BadLine n))
     (and_right (bytes_eq (first_word t) title) (length (words_of t) == 2) not_two)
 
--- the digits of a line of two words
 two_words : (title : List ℕ) (text digits : List ℕ) → has_octets text ≡ true
     → words_of text ≡ title ∷ digits ∷ [] → as_printed text ≡ words title
     (map lower_digit digits ∷ [])
@@ -224,7 +206,6 @@ two_words title text digits octets e =
     line_of_words (as_printed text) title (map lower_digit digits ∷ [])
     (lower_words text title (digits ∷ []) octets e)
 
--- what stands behind the first word and a space
 drop_title : (title rest : List ℕ) → drop (length title + 1) (title ++ 32 ∷ rest) ≡ rest
 drop_title [] rest = refl
 drop_title (c ∷ title) rest = let next : suc (length title) + 1 ≡ suc (length title + 1) =
@@ -240,7 +221,6 @@ read_digits title text digits octets e =
     ∙ append-nil (map lower_digit digits))
     ∙ ap octets_by (decode_lower digits)
 
--- digits that are none of octets
 pub octets_are_bad : (title : List ℕ) (n : ℕ) (text digits : List ℕ) → has_octets text ≡ true
     → words_of text ≡ title ∷ digits ∷ [] → octets_by (decode_of digits) ≡ []
     → read_octets title (length (words_of (as_printed text)) == 2) n (as_printed text) ≡ Err
@@ -257,7 +237,6 @@ octets_are_bad title n text digits octets e none =
     let no = subst (λ (xs : List ℕ). not (length xs == 0) ≡ true) empty none in cc no)
     ∙ rw (same_bytes (first_word t) title first, count) refl
 
--- the octets of digits
 pub octets_are : (title : List ℕ) (n : ℕ) (text digits os : List ℕ) → has_octets text ≡ true
     → words_of text ≡ title ∷ digits ∷ [] → decode_of digits ≡ Ok os → (length os == 0) ≡ false
     → read_octets title (length (words_of (as_printed text)) == 2) n (as_printed text) ≡ Ok os
@@ -273,7 +252,6 @@ octets_are title n text digits os octets e decoded some =
     same_bytes (octets_line title own) t (ap (octets_line title) same ∙ printed) in
     rw (not_empty, line) (ap Ok same)
 
--- a fault of the digits that is no want of memory
 pub undecoded_is : (digits : List ℕ) (fault : FromHexError) (bad : ListingFault)
     (meant : Result (List ℕ) ListingFault) → (fault ≡ hexes.OutOfMemory → ⊥)
     → (decode_of digits ≡ Err fault → meant ≡ Err bad)

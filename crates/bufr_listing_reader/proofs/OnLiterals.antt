@@ -1,4 +1,4 @@
--- What opens the definitions on literals: for the examples, which the gate computes.
+-- The definitions that the worked examples open.
 use Rattle.std.specs.Fmt.{digits}
 use Rattle.hex.specs.Hex.{encode_with, decode_pairs}
 use Rattle.bufr_tables.specs.Descriptors.{of_text}
@@ -12,7 +12,6 @@ use Rattle.bufr_listing_reader.specs.FieldLines.{unquoted}
 use Rattle.bufr_listing_reader.specs.Reading.{are_below, fields_read, subsets_read, message_read}
 use Rattle.bufr_listing_reader.specs.Reading.{messages_read}
 
--- opens them
 unfoldable pub listings_on_literals : Unit {0}
 unfolding at expand_list expand_within tree_within turns course_then counting_from are_below
     unquoted fields_read subsets_read message_read messages_read heading_lines lines_of listing

@@ -1,5 +1,4 @@
--- What `parse_decimal` answers is the only decimal of a text: for the readers of numbers, which
--- `read` calls.
+-- `parse_decimal` returns the only decimal of a text: for the readers of numbers.
 use Rattle.std.proofs.Common.{◌≡◌, ◌<◌, ◌≤◌, ◌^◌, ℕ, false, List, inl, inr, refl, sym, ap}
 use Rattle.std.proofs.Common.{◌∙◌, arith}
 use Rattle.std.specs.Prelude.{Option, Some, None, IfSome, ℤ, pos, negsuc, option_and_then, nat_lt}
@@ -8,17 +7,15 @@ use Rattle.std.proofs.lemmas.Bool.Decides.{nat_tests}
 use Rattle.bufr_listing_reader.specs.Words.{below, number_below}
 use Rattle.bufr_fields.specs.declared.field.Decimal.{Decimal}
 use Rattle.bufr_fields.specs.Values.{text_of}
-use Rattle.bufr_listing_reader.specs.DecimalTexts.{IsDecimal, decimal_of}
-use Rattle.bufr_listing_reader.proofs.DecimalTextFacts.{IsRead, decimal_found, decimal_only}
+use Rattle.bufr_fields.specs.DecimalTexts.{IsDecimal, decimal_of}
+use Rattle.bufr_fields.specs.DecimalTextLaws.{IsRead, decimal_found, decimal_only}
 
--- where no decimal is read, a text is that of none
 none_by : (o : Option Decimal) (scale : ℤ) (text : List ℕ) → IfSome o (λ d. IsRead scale text d)
     → ((d : Decimal) → IsDecimal d → d.scale ≡ scale → text_of d ≡ text
     → ◌≡◌ {A = Option Decimal} None (Some d)) → None ≡ o
 none_by None scale text found only = refl
 none_by (Some d) scale text found only = absurd (cc (only d found.1 found.0 found.2))
 
--- what is read is the only decimal of the text
 pub parsed : (r : Option Decimal) (scale : ℤ) (text : List ℕ) → IfSome r (λ d. IsRead scale text d)
     → ((d : Decimal) → IsDecimal d → d.scale ≡ scale → text_of d ≡ text → r ≡ Some d)
     → r ≡ decimal_of scale text
@@ -28,7 +25,6 @@ parsed (Some d) scale text found only = sym (decimal_only scale text d found.1 f
 
 -- ---- numbers below a limit
 
--- what is not below 2 to the 64th is below no lower limit
 pub below_none : (limit : ℕ) (z : ℤ) → limit ≤ 2 ^ 64 → below (2 ^ 64) z ≡ None
     → below limit z ≡ None
 below_none limit (negsuc n) small h = refl
@@ -38,7 +34,6 @@ below_none limit (pos n) small h =
       | inr e ↦ let no : nat_lt n limit ≡ false = grind (arith, nat_tests) in rw no refl
     ]
 
--- what is below 2 to the 64th is a number
 pub number_is : (z : ℤ) (n : ℕ) → below (2 ^ 64) z ≡ Some n → z ≡ pos n
 number_is (negsuc m) n h = absurd cc
 number_is (pos m) n h =
@@ -48,18 +43,15 @@ number_is (pos m) n h =
       | inr e ↦ absurd (let own : below (2 ^ 64) (pos m) ≡ None = rw e refl in cc (sym own ∙ h))
     ]
 
--- a number below a limit
 pub below_some : (limit n : ℕ) (z : ℤ) → below (2 ^ 64) z ≡ Some n → n < limit
     → below limit z ≡ Some n
 below_some limit n z h lt = ap (below limit) (number_is z n h) ∙ rw (lt-ltb n limit lt) refl
 
--- a number that is not below it
 pub below_over : (limit n : ℕ) (z : ℤ) → below (2 ^ 64) z ≡ Some n → (n < limit → ⊥)
     → below limit z ≡ None
 below_over limit n z h above = let large : nat_lt n limit ≡ false = grind (arith, nat_tests) in
     ap (below limit) (number_is z n h) ∙ rw large refl
 
--- the number of a word, by its decimal
 pub word_by : (limit : ℕ) (word : List ℕ) (o : Option Decimal) → decimal_of (pos 0) word ≡ o
     → number_below limit word ≡ option_and_then (λ (d : Decimal). below limit d.units) o
 word_by limit word o h = ap (option_and_then (λ (d : Decimal). below limit d.units)) h

@@ -1,5 +1,5 @@
--- A line as it would be printed has the words of the line, but for the case of hexadecimal digits:
--- for the readers of lines, which `read` calls.
+-- A line as writers print it has the same words, apart from the case of hexadecimal digits: for the
+-- readers of lines.
 use Rattle.std.proofs.Common.{◌≡◌, ℕ, true, false, List, [], ◌∷◌, ◌++◌, length, map}
 use Rattle.std.proofs.Common.{get_or, codes, refl, sym, ap, ◌∙◌, subst, arith, inl, inr}
 use Rattle.std.proofs.lemmas.Bool.{cases_Bool, or_cases, false≢true}
@@ -16,17 +16,14 @@ use Rattle.bufr_listing_reader.proofs.FieldFacts.{bytes_same, other_bytes}
 
 -- ---- words in lower case
 
--- a space is one in either case
 lower_space : (c : ℕ) → (lower_digit c == 32) ≡ (c == 32)
 lower_space c = grind (arith, nat_tests)
 
--- a character before words, in lower case
 onto_lower : (c : ℕ) (parts : List (List ℕ)) → onto_first (lower_digit c)
     (map (λ w. map lower_digit w) parts) ≡ map (λ w. map lower_digit w) (onto_first c parts)
 onto_lower c [] = refl
 onto_lower c (part ∷ parts) = refl
 
--- the words of a line in lower case are its words so
 pub words_lower : (text : List ℕ) → words_of (map lower_digit text) ≡ map (λ w. map lower_digit w)
     (words_of text)
 words_lower [] = refl
@@ -47,24 +44,20 @@ words_lower (c ∷ text) =
           (slice_split-cons_no (λ c. c == 32) c text e))
     ]
 
--- the first of them
 first_of_map : (ws : List (List ℕ)) → get_or (map (λ w. map lower_digit w) ws) 0 []
     ≡ map lower_digit (get_or ws 0 [])
 first_of_map [] = refl
 first_of_map (w ∷ ws) = refl
 
--- ---- lines as they would be printed
+-- ---- lines as writers print them
 
--- a line without octets is printed as it is
 pub own_printed : (text : List ℕ) → has_octets text ≡ false → as_printed text ≡ text
 own_printed text e = rw e refl
 
--- a line of octets is printed in lower case
 pub lower_printed : (text : List ℕ) → has_octets text ≡ true → as_printed text
     ≡ map lower_digit text
 lower_printed text e = rw e refl
 
--- the first word of a line of octets is in lower case
 octets_word : (text : List ℕ) → has_octets text ≡ true → map lower_digit (first_word text)
     ≡ first_word text
 octets_word text e =
@@ -76,7 +69,6 @@ octets_word text e =
           subst (λ w. map lower_digit w ≡ w) (sym same) refl
     ]
 
--- a line as it is printed has its first word
 pub first_printed : (text : List ℕ) → first_word (as_printed text) ≡ first_word text
 first_printed text =
     elim (cases_Bool (has_octets text)) [
@@ -85,7 +77,6 @@ first_printed text =
       | inr e ↦ ap first_word (own_printed text e)
     ]
 
--- and as many words
 pub count_printed : (text : List ℕ) → length (words_of (as_printed text)) ≡ length (words_of text)
 count_printed text =
     elim (cases_Bool (has_octets text)) [
@@ -94,12 +85,10 @@ count_printed text =
       | inr e ↦ ap (λ t. length (words_of t)) (own_printed text e)
     ]
 
--- it has octets where the line has
 pub octets_printed : (text : List ℕ) → has_octets (as_printed text) ≡ has_octets text
 octets_printed text = ap (λ w. bytes_eq w (codes "local1") || bytes_eq w (codes "section2"))
     (first_printed text)
 
--- a line of no octets is compared as it stands
 pub same_test : (text other : List ℕ) → has_octets other ≡ false
     → bytes_eq (as_printed text) other ≡ bytes_eq text other
 same_test text other plain =
@@ -114,12 +103,11 @@ same_test text other plain =
 
 -- ---- words joined
 
--- words joined by spaces are a line of them
 joined_words : (w : List ℕ) (ws : List (List ℕ)) → join_with_byte 32 (w ∷ ws) ≡ words w ws
 joined_words w [] = sym (append-nil w)
 joined_words w (v ∷ ws) = ap (λ rest. w ++ 32 ∷ rest) (joined_words v ws)
 
--- a line is its words, parted by one space
+-- a line is its words with one space between two
 pub line_of_words : (text w : List ℕ) (ws : List (List ℕ)) → words_of text ≡ w ∷ ws
     → text ≡ words w ws
 line_of_words text w ws e = sym (join_with_byte-slice_split 32 text) ∙ ap (join_with_byte 32) e

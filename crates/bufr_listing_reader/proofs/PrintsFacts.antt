@@ -1,5 +1,4 @@
--- The raw value that a word prints, read from the left, is the one whose field prints the word: for
--- the reader of the line of a field, which `read` calls.
+-- The number read from a word is the only one that prints it: for `number_of` in `raw_values`.
 use Rattle.std.proofs.Common.{◌≡◌, ℕ, suc, ◌+◌, ◌-◌, ◌^◌, ◌<◌, ◌≤◌, Bool, true, false, List, codes}
 use Rattle.std.proofs.Common.{refl, sym, ap, ◌∙◌, subst, arith, inl, inr}
 use Rattle.std.specs.Prelude.{ℤ, pos, negsuc, ◌+ℤ◌, ◌-ℤ◌, ◌==◌, ◌&&◌, not, Option, Some, None}
@@ -19,8 +18,8 @@ use Rattle.bufr_expand.specs.declared.operators.Spec.{Spec}
 use Rattle.bufr_expand.specs.OperatorsInForce.{is_within}
 use Rattle.bufr_fields.specs.declared.field.Decimal.{Decimal}
 use Rattle.bufr_fields.specs.Values.{decimal_within, text_of}
-use Rattle.bufr_listing_reader.specs.DecimalTexts.{decimal_of}
-use Rattle.bufr_listing_reader.proofs.DecimalTextFacts.{IsRead, decimal_found, decimal_only, no_letter}
+use Rattle.bufr_fields.specs.DecimalTexts.{decimal_of}
+use Rattle.bufr_fields.specs.DecimalTextLaws.{IsRead, decimal_found, decimal_only, no_letter}
 use Rattle.bufr_listing.specs.Listings.{number_word}
 use Rattle.bufr_listing_reader.specs.FieldLines.{is_missing_word}
 use Rattle.bufr_listing_reader.specs.RawWords.{may_be_missing, missing_number, unless_missing}
@@ -31,43 +30,36 @@ use Rattle.bufr_listing_reader.proofs.RawFacts.{number_by}
 
 -- ---- numbers
 
--- a number of so many bits, and one that is missing
 abbrev pub has_bits : Spec → ℕ → Bool
 has_bits spec n = nat_le spec.width 64 && nat_lt n (2 ^ spec.width)
 
--- whether a number is that of a missing value
 abbrev pub is_missing_number : Spec → ℕ → Bool
 is_missing_number spec n =
     has_bits spec n && n + 1 == 2 ^ spec.width && not (spec.width == 1) && not
     (same_kind spec.kind kinds.Count)
 
--- what is printed of it
 abbrev pub print_number : Bool → Spec → ℕ → List ℕ
 print_number missing spec n =
     if missing then codes "missing" else number_word (if missing then None else decimal_within
     (pos n +ℤ spec.reference) spec.scale)
 
--- a number of the form, whose field prints the word
+-- a number of the form whose field prints the word
 pub record NumberIs (spec : Spec) (word : List ℕ) (n : ℕ) : Type 0 where
   pub bits : has_bits spec n ≡ true
   pub printed : print_number (is_missing_number spec n) spec n ≡ word
 
--- a power of two is 1 at least
 some_bits : (w : ℕ) → 1 ≤ 2 ^ w
 some_bits w = pow-le-pow_right {n = 2} (omega arith) {i = 0} {j = w} (omega arith)
 
--- a test of four parts fails where those in the middle do
 four : (p q a b : Bool) → (q && (a && b)) ≡ false → (p && q && a && b) ≡ false
 four false q a b h = refl
 four true false a b h = refl
 four true true false b h = refl
 four true true true b h = h
 
--- a test of four parts passes
 three : (p q a b : Bool) → p ≡ true → q ≡ true → (a && b) ≡ true → (p && q && a && b) ≡ true
 three p q a b hp hq h = rw (hp, hq) h
 
--- all bits are one in either form
 same_ones : (n w : ℕ) → (n + 1 == 2 ^ w) ≡ (n == 2 ^ w - 1)
 same_ones n w =
     let some = some_bits w in
@@ -85,7 +77,6 @@ same_ones n w =
           ]
     ]
 
--- the missing one
 missing_is : (spec : Spec) (n : ℕ) → spec.width ≤ 64 → missing_number spec ≡ Some n
     → NumberIs spec (codes "missing") n
 missing_is spec n small h =
@@ -111,7 +102,6 @@ record AboveIs (spec : Spec) (z : ℤ) (n : ℕ) : Type 0 where
   most : n ≤ 2 ^ spec.width - 1
   not_missing : (n == 2 ^ spec.width - 1 && may_be_missing spec) ≡ false
 
--- a number that is not missing
 unless_is : (spec : Spec) (m n : ℕ) → unless_missing spec m ≡ Some n → AboveIs spec (pos m) n
 unless_is spec m n h =
     elim (cases_Bool (nat_lt (2 ^ spec.width - 1) m)) [
@@ -130,16 +120,13 @@ unless_is spec m n h =
           ]
     ]
 
--- a number above its reference
 above_is : (spec : Spec) (z : ℤ) (n : ℕ) → number_above spec z ≡ Some n → AboveIs spec z n
 above_is spec (negsuc m) n h = absurd cc
 above_is spec (pos m) n h = unless_is spec m n h
 
--- a value is its number above the reference
 back_above : (z r : ℤ) (n : ℕ) → z -ℤ r ≡ pos n → pos n +ℤ r ≡ z
 back_above z r n h = omega (arith, ints)
 
--- a number whose decimal was found prints the word
 value_is : (spec : Spec) (word : List ℕ) (n : ℕ) (d : Decimal) → spec.width ≤ 64
     → IsRead spec.scale word d → number_above spec (d.units -ℤ spec.reference) ≡ Some n
     → NumberIs spec word n
@@ -169,7 +156,6 @@ value_is spec word n d small read h =
           ∙ same ∙ read.2;
     }
 
--- a number, by the decimal that was found
 found_by : (spec : Spec) (word : List ℕ) (n : ℕ) (o : Option Decimal) → spec.width ≤ 64
     → nat_lt 64 spec.width ≡ false → is_missing_word word ≡ false → decimal_of spec.scale word ≡ o
     → IfSome o (λ d. IsRead spec.scale word d) → number_of spec word ≡ Some n → NumberIs spec word n
@@ -178,12 +164,11 @@ found_by spec word n None small few other is read h =
 found_by spec word n (Some d) small few other is read h =
     value_is spec word n d small read (sym (number_by spec word (Some d) few other is) ∙ h)
 
--- the number of a missing value
 missing_number_of : (spec : Spec) (word : List ℕ) → nat_lt 64 spec.width ≡ false
     → is_missing_word word ≡ true → number_of spec word ≡ missing_number spec
 missing_number_of spec word few is = rw (few, is) refl
 
--- a number that is read prints the word
+-- a number as read prints the word
 pub number_is : (spec : Spec) (word : List ℕ) (n : ℕ) → number_of spec word ≡ Some n
     → NumberIs spec word n
 number_is spec word n h =
@@ -200,7 +185,6 @@ number_is spec word n h =
           ]
     ]
 
--- a value fits 128 bits
 units_fit : (n : ℕ) (r : ℤ) → n < 18446744073709551616 → unsigned_abs r ≤ 9223372036854775808
     → FitsSigned w128 (pos n +ℤ r)
 units_fit n (pos m) small within = omega (arith, small, within)
@@ -209,7 +193,6 @@ units_fit n (negsuc m) small within = elim (cases_Bool (nat_lt n (suc m))) [
   | inr above ↦ grind (arith, ints)
 ]
 
--- a number is read of what it prints, by whether it is missing
 back_by : (missing : Bool) (spec : Spec) (n : ℕ) (word : List ℕ) → IsPrintable spec
     → has_bits spec n ≡ true → is_missing_number spec n ≡ missing → print_number missing spec n
     ≡ word → number_of spec word ≡ Some n
@@ -263,7 +246,7 @@ back_by false spec n word fit bits is e =
     left_out true true false b hp h = refl
     left_out true true true b hp h = h
 
--- a number is read of the word that it prints
+-- a word reads as the number that prints it
 pub number_back : (spec : Spec) (n : ℕ) (word : List ℕ) → IsPrintable spec → NumberIs spec word n
     → number_of spec word ≡ Some n
 number_back spec n word fit h =

@@ -1,5 +1,4 @@
--- The octets that a text between quotes spells, read from the left: for the reader of the line of a
--- field, which `read` calls.
+-- The octets that a text between quotes spells, read from the left: for the readers of texts.
 use Rattle.std.proofs.Common.{◌≡◌, ℕ, zero, suc, ◌+◌, ◌-◌, ◌*◌, ◌/◌, ◌%◌, ◌<◌, true, false}
 use Rattle.std.proofs.Common.{List, [], ◌∷◌, ◌++◌, append_assoc, length, refl, sym, ap, ◌∙◌, subst}
 use Rattle.std.proofs.Common.{arith, inl, inr}
@@ -27,7 +26,6 @@ record DigitIs (c v : ℕ) : Type 0 where
   small : v < 16
   printed : slice_index lower_digits v ≡ c
 
--- a digit that has a value is one
 digit_is : (c v : ℕ) → lower_value c ≡ Some v → DigitIs c v
 digit_is c v h =
     elim (cases_Bool (nat_le 48 c && nat_le c 57)) [
@@ -53,7 +51,6 @@ digit_is c v h =
           ]
     ]
 
--- a digit in lower case has the value of a digit
 value_from_hex : (c v : ℕ) → hex_digit_value c ≡ Some v → lower_digit c ≡ c → lower_value c ≡ Some v
 value_from_hex c v h low =
     elim (cases_Bool (nat_le 65 c && nat_le c 70)) [
@@ -77,7 +74,6 @@ value_from_hex c v h low =
           ]
     ]
 
--- a digit as it is printed has its value
 digit_value : (k : ℕ) → k < 16 → lower_value (slice_index lower_digits k) ≡ Some k
 digit_value k small =
     value_from_hex (slice_index lower_digits k) k (IsDigits-lower_digits k small)
@@ -85,12 +81,11 @@ digit_value k small =
 
 -- ---- one octet
 
--- the octet that stands at the front of a text
+-- the first octet of a text
 record OctetFront (text : List ℕ) (c : ℕ) (rest : List ℕ) : Type 0 where
   small : c < 256
   front : quoted_octet c ++ rest ≡ text
 
--- an octet that is read of two digits is quoted so
 escaped_is : (high low a b c : ℕ) (more rest : List ℕ) → lower_value high ≡ Some a
     → lower_value low ≡ Some b → escaped (Some (16 * a + b)) more ≡ Some (c, rest)
     → OctetFront (92 ∷ high ∷ low ∷ more) c rest
@@ -121,7 +116,6 @@ escaped_is high low a b c more rest is_high is_low h =
           })
     ]
 
--- an octet that is read of a pair is
 pair_is : (high low c : ℕ) (more rest : List ℕ) (o p : Option ℕ) → lower_value high ≡ o
     → lower_value low ≡ p → escaped (pair_of o p) more ≡ Some (c, rest)
     → OctetFront (92 ∷ high ∷ low ∷ more) c rest
@@ -130,7 +124,6 @@ pair_is high low c more rest (Some a) None is_high is_low h = absurd cc
 pair_is high low c more rest (Some a) (Some b) is_high is_low h =
     escaped_is high low a b c more rest is_high is_low h
 
--- an octet that is read behind a backslash is
 behind_backslash : (text rest : List ℕ) (c : ℕ) → escaped_octet text ≡ Some (c, rest)
     → OctetFront (92 ∷ text) c rest
 behind_backslash [] rest c h = absurd cc
@@ -138,11 +131,9 @@ behind_backslash (high ∷ []) rest c h = absurd cc
 behind_backslash (high ∷ low ∷ more) rest c h =
     pair_is high low c more rest (lower_value high) (lower_value low) refl refl h
 
--- an octet that stands for itself is below 256
 plain_small : (c : ℕ) → stands_for_itself c ≡ true → c < 256
 plain_small c h = grind (arith, nat_tests)
 
--- the octet that is read first is quoted so
 front_is : (text rest : List ℕ) (c : ℕ) → first_octet text ≡ Some (c, rest) → OctetFront text c rest
 front_is [] rest c h = absurd cc
 front_is (x ∷ behind) rest c h =
@@ -165,13 +156,11 @@ front_is (x ∷ behind) rest c h =
           ]
     ]
 
--- an octet that stands for itself is no backslash
 plain_no_backslash : (c : ℕ) → stands_for_itself c ≡ true → (c == 92) ≡ false
 plain_no_backslash c h =
     not-true (c == 92) (and_parts (nat_le 32 c && nat_le c 126 && not (c == 34))
     (not (c == 92)) h).1
 
--- an octet is read of what is quoted for it
 front_back : (c : ℕ) (more : List ℕ) → c < 256 → first_octet (quoted_octet c ++ more) ≡ Some
     (c, more)
 unfolding encode_with
@@ -194,27 +183,24 @@ front_back c more small =
           ∙ own
     ]
 
--- ---- all of them
+-- ---- all octets
 
--- what was answered first, and what was made of it
 and_then_some : {A B : Type 0} (o : Option A) (f : A → Option B) (y : B) → option_and_then f o
     ≡ Some y → (x : A) × (o ≡ Some x) × (f x ≡ Some y)
 and_then_some None f y h = absurd cc
 and_then_some (Some x) f y h = (x, refl, h)
 
--- what was answered before it was changed
 pub map_some : {A B : Type 0} (o : Option A) (f : A → B) (y : B) → option_map f o ≡ Some y
     → (x : A) × (o ≡ Some x) × (f x ≡ y)
 map_some None f y h = absurd cc
 map_some (Some x) f y h = (x, refl, same_Some (f x) y h)
 
--- octets that a text spells before its last quote
+-- octets up to the last quote
 pub record QuotedIs (n : ℕ) (text os : List ℕ) : Type 0 where
   pub count : length os ≡ n
   pub small : list_all (λ x. nat_lt x 256) os ≡ true
   pub spelled : flat_map quoted_octet os ++ 34 ∷ [] ≡ text
 
--- octets that are read are quoted so
 pub quoted_is : (n : ℕ) (text os : List ℕ) → octets_before n text ≡ Some os → QuotedIs n text os
 unfolding octets_before
 quoted_is zero text os h =
@@ -234,7 +220,6 @@ quoted_is (suc n) text os h =
           ∙ ap (λ t. quoted_octet p.0.0 ++ t) more.spelled ∙ one.front;
     })
 
--- octets are read of what is quoted for them
 pub quoted_back : (os : List ℕ) → list_all (λ x. nat_lt x 256) os ≡ true
     → octets_before (length os) (flat_map quoted_octet os ++ 34 ∷ []) ≡ Some os
 unfolding octets_before

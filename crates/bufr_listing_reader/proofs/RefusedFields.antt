@@ -1,13 +1,11 @@
--- The first fault of fields and of subsets is what reading them answers: the other way round than
--- FaultFields. For the first faults of listings (`faults_of_listings_are_the_first`, clause
--- `answered`).
+-- Reading returns the first fault of fields and subsets, the converse of FaultFields.
 use Rattle.std.proofs.Common.{◌≡◌, inl, inr, ℕ, zero, suc, ◌+◌, ◌≤◌, false}
 use Rattle.std.proofs.Common.{List, [], ◌∷◌, ◌++◌, length, length-append, map, get_or, drop, codes}
 use Rattle.std.proofs.Common.{Result, Ok, Err, refl, sym, ap, ◌∙◌, subst, arith, append_assoc}
 use Rattle.std.specs.List.{flat_map}
 use Rattle.std.specs.Str.{bytes_eq}
 use Rattle.std.proofs.lemmas.List.{map-append}
-use Rattle.bufr_answers.specs.Answers.{◌>>=◌}
+use Rattle.bufr_base.specs.Answers.{◌>>=◌}
 use Rattle.bufr_expand.specs.Limits.{most_items}
 use Rattle.bufr_expand.specs.declared.operators.Spec.{Spec}
 use Rattle.bufr_expand.specs.declared.walk.WalkFault.{WalkFault}
@@ -23,7 +21,7 @@ use Rattle.bufr_fields.specs.Fits.{HasForm, told_of}
 use Rattle.bufr_fields.specs.Asked.{Passes}
 use Rattle.bufr_fields.specs.FormLaws.{asked_is, asked_passes}
 use Rattle.bufr_fields.specs.CourseLaws.{Formed, passes_after, one_left}
-use Rattle.bufr_answers.specs.AnswerLaws.{bind_ok}
+use Rattle.bufr_base.specs.AnswerLaws.{bind_ok}
 use Rattle.bufr_listing.specs.declared.fault.ListingFault.{ListingFault}
 use Rattle.bufr_listing.specs.declared.fault.ListingFault.TheVariants.{BadLine}
 use Rattle.bufr_listing.specs.Listings.{field_line, subset_lines}
@@ -47,7 +45,7 @@ use Rattle.bufr_listing_reader.proofs.RefusedLines.{unfit_read, cut_lines, same_
 
 -- ---- fields, by their course
 
--- fields with which a subset can begin are those that its course asks for in turn
+-- a course asks in turn for fields with which a subset can begin
 asked_in_turn : (c : Course) (fields : List Field) → Formed fields
     → ((before others : List Field) (f : Field) → fields ≡ before ++ f ∷ others
     → (met : ℕ) × AsksAfter c (map told_of before) met f.fxy f.spec)
@@ -75,7 +73,6 @@ asked_in_turn (asks met d spec more) (f ∷ fields) formed each =
       ((own, same, subst (λ (s : Spec). HasForm s f.raw) same formed.0), later.1),
     )
 
--- behind them it asks for fields that can be printed
 printable_behind : (c : Course) (fields : List Field) (next : Course) → AsksPrintable c
     → Passes c fields next → AsksPrintable next
 unfolding AsksPrintable
@@ -85,7 +82,7 @@ printable_behind (stops n w) (f ∷ fields) next fit h = absurd h
 printable_behind (asks met d spec more) (f ∷ fields) next fit h =
     printable_behind (more (number_of f.raw)) fields next (fit.1 (number_of f.raw)) h.1
 
--- their lines are read, so that where reading fails behind them it fails
+-- after their lines, a fault of the rest is the fault
 behind_fields_fails : (past : ℕ) (c : Course) (fields : List Field) (next : Course)
     (own rest : List Line) (fault : ListingFault) → AsksPrintable c → Passes c fields next
     → texts own ≡ map field_line fields → fields_read past next rest ≡ Err fault
@@ -113,7 +110,6 @@ behind_fields_fails past (asks met d spec more) (f ∷ fields) next
     goes_on (read_line (read_field d spec) past (l ∷ own ++ rest)) _ (f, own ++ rest) _ line
     (fails_on (fields_read past (more (number_of f.raw)) (own ++ rest)) _ fault later)
 
--- where nothing can stand, that is the fault
 halted_read : (met past : ℕ) (why : WalkFault) (rest : List Line) (fault : ListingFault)
     → Halted why past rest fault → fields_read past (stops met why) rest ≡ Err fault
 unfolding fields_read
@@ -122,7 +118,6 @@ halted_read met past why rest fault (text_ends none is) =
 halted_read met past why rest fault (halted l behind e is) =
     ap (λ (ls : List Line). fields_read past (stops met why) ls) e ∙ ap Err (sym is)
 
--- the line of a field that is asked for
 field_decides : (d : ℕ) (spec : Spec) (l : Line) → IsPrintable spec
     → Decides (IsLineOf d spec) (BeginsWith d) (read_field d spec) l
 field_decides d spec l fit =
@@ -133,7 +128,6 @@ field_decides d spec l fit =
       refused = λ fault h none. (field_err d spec l.number l.text fault fit h).1;
     }
 
--- where it could not stand, that is the fault
 field_refused : (met past d : ℕ) (spec : Spec) (more : ℕ → Course) (rest : List Line)
     (fault : ListingFault) → AsksPrintable (asks met d spec more)
     → Unfit (IsLineOf d spec) (BeginsWith d) past rest fault
@@ -146,7 +140,6 @@ field_refused met past d spec more rest fault fit h =
 
 -- ---- fields, by the tree
 
--- why no field follows these ones is the fault
 no_field_read : FaultLaws → (tree : Tree) (used past : ℕ) (before : List Field) (next : Course)
     (rest : List Line) (fault : ListingFault) → used ≤ most_items
     → After (course tree used) (map told_of before) next → AsksPrintable next
@@ -169,7 +162,6 @@ no_field_read laws tree used past before next rest fault le after fit (no_spec d
     ap (λ (k : Course). fields_read past k rest) e
     ∙ halted_read met past (EffectiveRange d) rest fault h
 
--- the first fault of a subset's fields is read
 fields_refused : FaultLaws → (tree : Tree) (used past : ℕ) (ls : List Line)
     (fault : ListingFault) → used ≤ most_items → FieldsFault tree used past ls fault
     → fields_read past (course tree used) ls ≡ Err fault
@@ -187,7 +179,6 @@ fields_refused laws tree used past ls fault le h =
     h.spelled
     (no_field_read laws tree used past h.before passed.0 h.rest fault le after later h.refused)
 
--- the lines of fields that fit are read, and those behind them are left
 fields_passed : (past j i : ℕ) (c : Course) (own rest : List Line) (fields : List Field)
     (items : ℕ) → AsksPrintable c → items_of j i c fields ≡ Ok items
     → texts own ≡ map field_line fields
@@ -205,14 +196,12 @@ fields_passed past j i c own rest fields items fit h e =
 
 -- ---- subsets
 
--- no line is left
 no_line_left : (left past : ℕ) (course : ℕ → Course) (used : ℕ)
     → subsets_read left past course used [] ≡ Err (BadLine past)
 unfolding subsets_read
 no_line_left zero past course used = refl
 no_line_left (suc left) past course used = refl
 
--- the next line neither begins a subset nor ends the message
 neither_read : (left past : ℕ) (course : ℕ → Course) (used : ℕ) (l : Line) (behind : List Line)
     → length (l ∷ behind) ≤ left → (BeginsOrEnds l.text → ⊥)
     → subsets_read left past course used (l ∷ behind) ≡ Err (BadLine l.number)
@@ -223,7 +212,6 @@ neither_read (suc left) past course used l behind few none =
     let no_subset = other_bytes l.text (codes "subset") (λ e. none (inl e)) in
     rw (subsets_read, no_end, no_subset) refl
 
--- a subset begins whose fields fail
 inside_read : (left past : ℕ) (course : ℕ → Course) (used : ℕ) (l : Line) (behind : List Line)
     (fault : ListingFault) → length (l ∷ behind) ≤ left → l.text ≡ codes "subset"
     → fields_read past (course used) behind ≡ Err fault
@@ -235,7 +223,6 @@ inside_read (suc left) past course used l behind fault few title h =
     subst (λ (t : List ℕ). bytes_eq t (codes "end") ≡ false) (sym title) refl in
     rw (subsets_read, no_end, same_bytes l.text (codes "subset") title, h) refl
 
--- the fault of the next subset is read
 subset_refused : FaultLaws → (left past : ℕ) (tree : Tree) (used : ℕ) (ls : List Line)
     (fault : ListingFault) → length ls ≤ left → used ≤ most_items
     → SubsetFault tree used past ls fault
@@ -253,7 +240,6 @@ subset_refused laws left past tree used ls fault few le (inside l behind e title
     ∙ inside_read left past (course tree) used l behind fault (omega (arith, few, same)) title
     (fields_refused laws tree used past behind fault le h)
 
--- fewer lines are left behind a subset
 fewer_behind : (own front behind rest : List Line) (left : ℕ) → own ≡ front ++ behind
     → suc (length (own ++ rest)) ≤ suc left → length (behind ++ rest) ≤ left
 fewer_behind own front behind rest left e few =
@@ -263,7 +249,6 @@ fewer_behind own front behind rest left e few =
     let c = length-append behind rest in
     omega (arith, few, same, a, b, c)
 
--- subsets that fit are read, so that where reading fails behind them it fails
 behind_subsets_fails : FaultLaws → (left past j : ℕ) (tree : Tree) (used items : ℕ)
     (before : List Subset) (own rest : List Line) (fault : ListingFault)
     → length (own ++ rest) ≤ left → items ≤ most_items
@@ -301,7 +286,6 @@ behind_subsets_fails laws (suc left) past j tree used items (s ∷ before)
     ap (λ (xs : List Line). subsets_read (suc left) past (course tree) used (l ∷ xs)) joined
     ∙ rw (subsets_read, no_end, same_bytes l.text (codes "subset") title, first, later) refl
 
--- the first fault of subsets is read
 pub subsets_refused : FaultLaws → (tree : Tree) (past : ℕ) (ls : List Line)
     (fault : ListingFault) → SubsetsFault tree past ls fault
     → subsets_read (length ls) past (course tree) 0 ls ≡ Err fault

@@ -1,16 +1,14 @@
--- The lines of a heading are read, and the first that could not stand is the one that reading
--- refuses: the other way round than FaultHeadings. For the first faults of listings
--- (`faults_of_listings_are_the_first`, clause `answered`), and for messages that are read of their
--- lines (`listings_list_messages`).
+-- Reading takes the lines of a heading and returns the fault of the first that could not follow,
+-- the converse of FaultHeadings.
 use Rattle.std.proofs.Common.{◌≡◌, inl, inr, ℕ, ◌<◌, true, false, List, [], ◌∷◌}
 use Rattle.std.proofs.Common.{◌++◌, length, length-append, get_or, drop, codes, unwrap_or}
 use Rattle.std.proofs.Common.{Result, Ok, Err, refl, sym, ap, ◌∙◌, subst, arith}
 use Rattle.std.specs.Prelude.{IfSome, Option, Some, None}
 use Rattle.std.specs.Str.{bytes_eq}
 use Rattle.std.proofs.lemmas.List.{append-nil}
-use Rattle.bufr_answers.specs.Answers.{◌>>=◌}
+use Rattle.bufr_base.specs.Answers.{◌>>=◌}
 use Rattle.bufr_tables.specs.Entries.{Entries}
-use Rattle.bufr_answers.specs.declared.failure.Failure.TheVariants.{Fault}
+use Rattle.bufr_base.specs.declared.failure.Failure.TheVariants.{Fault}
 use Rattle.bufr_sections.specs.declared.message.Head.{Head}
 use Rattle.bufr_sections.specs.Sections.{AreOctets, HeadFits}
 use Rattle.bufr_listing.specs.declared.fault.ListingFault.{ListingFault}
@@ -46,23 +44,22 @@ use Rattle.bufr_listing_reader.proofs.RefusedLines.{Decides, unfit_read, word_de
 use Rattle.bufr_listing_reader.proofs.RefusedLines.{absent_read, titled_read, titled_refused}
 use Rattle.bufr_listing_reader.proofs.RefusedLines.{none_before, line_passed}
 
--- ---- what is refused
+-- ---- faults
 
--- a line that could not stand at a place of section 1 is the fault of section 1
+-- section 1 has the fault of its line
 abbrev RefusedInHead : Place → Type 0
 RefusedInHead place = (past : ℕ) (own rest : List Line) (fault : ListingFault)
     → AreBefore place (texts own) → Unfit (CouldBeAt place) (IsOfKindAt place) past rest fault
     → head_read past (own ++ rest) ≡ Err fault
 
--- one that could not stand at a place of a heading is that of the message
+-- the message has the fault of its line
 abbrev pub RefusedAt : Entries → Place → Type 0
 RefusedAt tables place = (past : ℕ) (own rest : List Line) (fault : ListingFault)
     → AreBefore place (texts own) → Unfit (CouldBeAt place) (IsOfKindAt place) past rest fault
     → message_read tables past (own ++ rest) ≡ Err fault
 
--- ---- reading decides which lines could stand
+-- ---- which lines could follow
 
--- the line of section 1 but its time
 section1_decides : (l : Line)
     → Decides (CouldBeAt at_section1) (IsOfKindAt at_section1)
     (read_numbers (codes "section1") section1_limits) l
@@ -75,14 +72,12 @@ section1_decides l =
       refused = λ f h none. (section1_err l.number l.text f h).1;
     }
 
--- the head of the time's numbers alone
 time_head : (ts : List ℕ) → are_below time_limits ts ≡ true
     → HeadFits (head_with (0 ∷ 0 ∷ 0 ∷ 0 ∷ 0 ∷ 0 ∷ 0 ∷ 0 ∷ []) ts None)
 unfolding are_below
 time_head ts below =
     head_fits (0 ∷ 0 ∷ 0 ∷ 0 ∷ 0 ∷ 0 ∷ 0 ∷ 0 ∷ []) ts None refl below none_fit
 
--- the line of the time
 time_decides : (l : Line)
     → Decides (CouldBeAt at_time) (IsOfKindAt at_time) (read_numbers (codes "time") time_limits) l
 time_decides l =
@@ -97,7 +92,6 @@ time_decides l =
       refused = λ f h none. (time_err l.number l.text f h).1;
     }
 
--- a line of octets for local use
 local_decides : (l : Line) → first_word l.text ≡ codes "local1"
     → Decides (CouldBeAt behind_time) (IsOfKindAt behind_time) read_local l
 local_decides l titled =
@@ -108,13 +102,11 @@ local_decides l titled =
       refused = λ f h none. (local_at l f titled h).1;
     }
 
--- a line of section 2 could stand behind the time and behind the local octets
 section2_could : (local : Option (List ℕ)) (text : List ℕ) → IsSection2 text
     → CouldBeAt (place_behind local None) text
 section2_could None text is = inr (inl is)
 section2_could (Some octets) text is = inl is
 
--- a line of section 2
 section2_decides : (local : Option (List ℕ)) (l : Line) → first_word l.text ≡ codes "section2"
     → Decides (CouldBeAt (place_behind local None)) (IsOfKindAt (place_behind local None))
     read_section2 l
@@ -126,7 +118,6 @@ section2_decides local l titled =
       refused = λ f h none. (section2_at local l f titled h).1;
     }
 
--- a line of flags could stand behind the time, the local octets and section 2
 flags_could : (local two : Option (List ℕ)) (text : List ℕ) → IsFlags text
     → CouldBeAt (place_behind local two) text
 flags_could None None text is = inr (inr is)
@@ -134,7 +125,6 @@ flags_could (Some octets) None text is = inr is
 flags_could None (Some two) text is = is
 flags_could (Some octets) (Some two) text is = is
 
--- a line of flags, where none of those that may be absent stands
 flags_decide : (local two : Option (List ℕ)) (l : Line)
     → (local ≡ None → two ≡ None → first_word l.text ≡ codes "local1" → ⊥)
     → (two ≡ None → first_word l.text ≡ codes "section2" → ⊥)
@@ -148,7 +138,6 @@ flags_decide local two l no_local no_two =
       refused = λ fault h none. (flags_at local two l fault no_local no_two h).1;
     }
 
--- a line of descriptors
 descriptors_decide : DescriptorTexts → (tables : Entries) (l : Line)
     → Decides (CouldBeAt at_descriptors) (IsOfKindAt at_descriptors) (read_descriptors tables) l
 descriptors_decide texts tables l =
@@ -165,20 +154,18 @@ descriptors_decide texts tables l =
 
 -- ---- up to the time
 
--- the octets for local use and what is made of section 1
 abbrev from_local : Head → List Line → Result (Head × List Line) ListingFault
 from_local h ls =
     read_if (codes "local1") read_local ls
     >>= λ local. with_rest local.1 (head_with (section1_numbers h) (time_numbers h) local.0)
 
--- the lines up to the time are read, and these are left before the others
+-- reading takes the lines up to the time, and leaves these
 record UpToTime (past : ℕ) (ls rest : List Line) (h : Head) (more : List (List ℕ))
     : Type 0 where
   others : List Line
   reads : head_read past ls ≡ from_local h (others ++ rest)
   spelled : texts others ≡ more
 
--- lines of which the first are those up to the time are read up to it
 time_passed : (past : ℕ) (own rest : List Line) (h : Head) (more : List (List ℕ)) → HeadFits h
     → texts own ≡ up_to_time h ++ more → UpToTime past (own ++ rest) rest h more
 time_passed past own rest h more fits e =
@@ -195,7 +182,6 @@ time_passed past own rest h more fits e =
       spelled = c.spelled;
     }
 
--- the first line could not stand
 message_line_refused : RefusedInHead at_message
 message_line_refused past own rest fault e h =
     ap (λ (ls : List Line). head_read past ls) (none_before own rest e)
@@ -203,7 +189,6 @@ message_line_refused past own rest fault e h =
     (unfit_read (CouldBeAt at_message) (IsOfKindAt at_message) (read_word (codes "message")) past
     rest fault (λ l behind is. word_decides (codes "message") l) h)
 
--- that of section 1 could not
 section1_line_refused : RefusedInHead at_section1
 section1_line_refused past own rest fault e h =
     let read = read_numbers (codes "section1") section1_limits in
@@ -215,7 +200,6 @@ section1_line_refused past own rest fault e h =
     (λ l behind is. section1_decides l) h in
     goes_on _ _ _ _ a.reads (fails_on (read_line read past (a.others ++ rest)) _ fault fails)
 
--- that of the time could not
 time_line_refused : RefusedInHead at_time
 time_line_refused past own rest fault before h =
     let read = read_numbers (codes "time") time_limits in
@@ -231,16 +215,15 @@ time_line_refused past own rest fault before h =
     goes_on _ _ _ _ a.reads
     (goes_on _ _ _ _ b.reads (fails_on (read_line read past (b.others ++ rest)) _ fault fails))
 
--- ---- lines that may be absent
+-- ---- lines that a message may lack
 
--- a line that may be absent is read, or it is absent, and these are left before the others
+-- reading takes the line or finds none, and leaves these
 record IfPassed {A : Type 0} (title : List ℕ) (read : ℕ → List ℕ → Result A ListingFault)
     (ls rest : List Line) (o : Option A) (more : List (List ℕ)) : Type 0 where
   others : List Line
   reads : read_if title read ls ≡ Ok (o, others ++ rest)
   spelled : texts others ≡ more
 
--- it is there
 present_passed : {A : Type 0} (title : List ℕ) (read : ℕ → List ℕ → Result A ListingFault)
     (own rest : List Line) (text : List ℕ) (more : List (List ℕ)) (a : A)
     → bytes_eq (first_word text) title ≡ true → ((n : ℕ) → read n text ≡ Ok a)
@@ -259,14 +242,12 @@ present_passed {A} title read (l ∷ own) rest text more a titled each e =
       spelled = ap (λ xs. drop 1 xs) e;
     }
 
--- it is not
 absent_passed : {A : Type 0} (title : List ℕ) (read : ℕ → List ℕ → Result A ListingFault)
     (own rest : List Line) (more : List (List ℕ)) → IsNotTitled title (own ++ rest)
     → texts own ≡ more → IfPassed title read (own ++ rest) rest None more
 absent_passed title read own rest more other e =
     record { others = own; reads = absent_read title read (own ++ rest) other; spelled = e }
 
--- the next line has another first word
 not_titled_next : (title : List ℕ) (own rest : List Line) (more : List (List ℕ))
     → 0 < length more → bytes_eq (first_word (get_or more 0 [])) title ≡ false
     → texts own ≡ more → IsNotTitled title (own ++ rest)
@@ -279,13 +260,12 @@ not_titled_next title (l ∷ own) rest more some other e = λ m behind is titled
     not_title (first_word (get_or more 0 [])) title other
     (ap first_word (sym first) ∙ same ∙ titled)
 
--- the octets for local use are read, as many as there are
+-- reading takes the octets for local use
 record LocalPassed (ls rest : List Line) (local : List ℕ) (more : List (List ℕ)) : Type 0 where
   found : Option (List ℕ)
   is : unwrap_or found [] ≡ local
   passed : IfPassed (codes "local1") read_local ls rest found more
 
--- lines of which the first is that of local octets, if any, are read up to it
 local_passed : (own rest : List Line) (local : List ℕ) (more : List (List ℕ)) → AreOctets local
     → (local ≡ [] → (others : List Line) → texts others ≡ more
     → IsNotTitled (codes "local1") (others ++ rest))
@@ -306,7 +286,6 @@ local_passed own rest (x ∷ xs) more octets other e =
           more (x ∷ xs) refl (λ n. local_back n x xs octets) e;
     }
 
--- section 2 is read, where there is one
 section2_passed : (own rest : List Line) (two : Option (List ℕ)) (more : List (List ℕ))
     → IfSome two AreOctets → 0 < length more
     → bytes_eq (first_word (get_or more 0 [])) (codes "section2") ≡ false
@@ -319,14 +298,13 @@ section2_passed own rest (Some os) more octets some other e =
     present_passed (codes "section2") read_section2 own rest (section2_line os) more os
     (section2_titled os) (λ n. section2_back n os octets) e
 
--- section 1 is read, and these lines are left before the others
+-- reading takes section 1, and leaves these
 record HeadPassed (past : ℕ) (ls rest : List Line) (h : Head) (more : List (List ℕ))
     : Type 0 where
   others : List Line
   reads : head_read past ls ≡ Ok (h, others ++ rest)
   spelled : texts others ≡ more
 
--- lines of which the first are those of section 1 are read up to these
 head_passed : (past : ℕ) (own rest : List Line) (h : Head) (more : List (List ℕ)) → HeadFits h
     → (h.local ≡ [] → (others : List Line) → texts others ≡ more
     → IsNotTitled (codes "local1") (others ++ rest))
@@ -346,7 +324,6 @@ head_passed past own rest h more fits other e =
 
 -- ---- the flags
 
--- the flags could not stand, nor what may be absent before them
 flags_refused : (local two : Option (List ℕ)) (past : ℕ) (ls : List Line) (fault : ListingFault)
     → (local ≡ None → two ≡ None → IsNotTitled (codes "local1") ls)
     → (two ≡ None → IsNotTitled (codes "section2") ls)
@@ -359,7 +336,6 @@ flags_refused local two past ls fault no_local no_two h =
     (λ l behind e.
     flags_decide local two l (λ a b. no_local a b l behind e) (λ b. no_two b l behind e)) h
 
--- where neither section 2 nor the flags could stand, that is the fault
 section2_refused : (tables : Entries) (past : ℕ) (h : Head) (local : Option (List ℕ))
     (ls : List Line) (fault : ListingFault) → (local ≡ None → IsNotTitled (codes "local1") ls)
     → Unfit (CouldBeAt (place_behind local None)) (IsOfKindAt (place_behind local None))
@@ -379,9 +355,8 @@ section2_refused tables past h local ls fault no_local u =
           (flags_refused local None past ls fault (λ a b. no_local a) (λ b. other) u))
     ]
 
--- ---- behind the time
+-- ---- after the time
 
--- no line that could stand behind the time is there
 behind_time_refused : (tables : Entries) → RefusedAt tables behind_time
 behind_time_refused tables past own rest fault before u =
     let h = before.0 in
@@ -406,7 +381,6 @@ behind_time_refused tables past own rest fault before u =
           ∙ section2_refused tables past g None rest fault (λ a. other) u
     ]
 
--- nor behind the octets for local use
 behind_local_refused : (tables : Entries) → RefusedAt tables behind_local
 behind_local_refused tables past own rest fault before u =
     let h = before.0 in
@@ -419,17 +393,14 @@ behind_local_refused tables past own rest fault before u =
     at_section2 tables past (own ++ rest) rest h head
     ∙ section2_refused tables past h (Some h.local) rest fault (λ a. absurd cc) u
 
--- lines behind others are some
 some_behind : (a : List (List ℕ)) (b : List ℕ) (c : List (List ℕ)) → 0 < length (a ++ b ∷ c)
 some_behind a b c = let sum = length-append a (b ∷ c) in omega (arith, sum)
 
--- the line of section 2 has not the first word of local octets
 section2_not_local : (two : List ℕ)
     → bytes_eq (first_word (section2_line two)) (codes "local1") ≡ false
 section2_not_local [] = refl
 section2_not_local (x ∷ xs) = refl
 
--- nor behind section 2
 behind_section2_refused : (tables : Entries) → RefusedAt tables behind_section2
 behind_section2_refused tables past own rest fault before u =
     let h = before.0 in
@@ -449,7 +420,6 @@ behind_section2_refused tables past own rest fault before u =
 
 -- ---- the descriptors
 
--- lines that stand before the descriptors are read up to these
 pub flags_passed : (tables : Entries) (past : ℕ) (own rest : List Line)
     (before : AreBefore at_descriptors (texts own)) → message_read tables past (own ++ rest)
     ≡ from_descriptors tables past before.0 before.2
@@ -475,7 +445,6 @@ flags_passed tables past own rest before =
     ∙ ap (λ (ls : List Line). from_descriptors tables past h two flags ls)
     (none_before f.others rest f.spelled)
 
--- the descriptors could not stand
 descriptors_refused : DescriptorTexts → (tables : Entries) → RefusedAt tables at_descriptors
 descriptors_refused texts tables past own rest fault before u =
     flags_passed tables past own rest before
@@ -483,14 +452,12 @@ descriptors_refused texts tables past own rest fault before u =
     (unfit_read (CouldBeAt at_descriptors) (IsOfKindAt at_descriptors) (read_descriptors tables)
     past rest fault (λ l behind e. descriptors_decide texts tables l) u)
 
--- ---- at each place
+-- ---- each place
 
--- where section 1 is refused, so is the message
 in_head : (tables : Entries) (place : Place) → RefusedInHead place → RefusedAt tables place
 in_head tables place refused past own rest fault before u =
     head_fails tables past (own ++ rest) (Fault fault) (refused past own rest fault before u)
 
--- a line that could not stand at a place of the heading is refused
 pub place_refused : DescriptorTexts → (tables : Entries) (place : Place) → RefusedAt tables place
 place_refused texts tables at_message = in_head tables at_message message_line_refused
 place_refused texts tables at_section1 = in_head tables at_section1 section1_line_refused

@@ -1,6 +1,5 @@
--- A line that could not stand is refused, for the fault that the relation names: the other way
--- round than FaultFacts. For the first faults of listings (`faults_of_listings_are_the_first`,
--- clause `answered`).
+-- Reading refuses a line that could not follow, with the fault of the relation, the converse of
+-- FaultFacts.
 use Rattle.std.proofs.Common.{◌≡◌, ◌⊎◌, inl, inr, ℕ, List, [], ◌∷◌}
 use Rattle.std.proofs.Common.{◌++◌, length, length-append, get_or, drop, Result, Ok, Err}
 use Rattle.std.proofs.Common.{refl, sym, ap, ◌∙◌, subst, arith}
@@ -8,8 +7,8 @@ use Rattle.std.specs.Prelude.{Some, None}
 use Rattle.std.specs.Str.{bytes_eq}
 use Rattle.std.proofs.lemmas.Bool.{cases_Bool}
 use Rattle.std.proofs.lemmas.List.{drop_at}
-use Rattle.bufr_answers.specs.Answers.{◌>>=◌}
-use Rattle.bufr_answers.specs.AnswerLaws.{passed_ok}
+use Rattle.bufr_base.specs.Answers.{◌>>=◌}
+use Rattle.bufr_base.specs.AnswerLaws.{passed_ok}
 use Rattle.bufr_listing.specs.declared.fault.ListingFault.{ListingFault}
 use Rattle.bufr_listing.specs.declared.fault.ListingFault.TheVariants.{BadLine}
 use Rattle.bufr_listing_reader.specs.Lines.{Line, texts, first_word}
@@ -21,15 +20,13 @@ use Rattle.bufr_listing_reader.proofs.FaultFacts.{IsFaultOf, other_kind}
 use Rattle.bufr_listing_reader.proofs.FaultFields.{IsBehind, not_title, word_err}
 use Rattle.bufr_listing_reader.proofs.FaultHeadings.{IsNotTitled, next_is}
 
--- ---- answers and faults
+-- ---- results and faults
 
--- an answer or a fault
 pub answer_or_fault : {A F : Type 0} (r : Result A F)
     → ((a : A) × (r ≡ Ok a)) ⊎ ((e : F) × (r ≡ Err e))
 answer_or_fault (Ok a) = inl (a, refl)
 answer_or_fault (Err e) = inr (e, refl)
 
--- a line that could not stand has one fault alone
 pub one_fault : (Kind : Type 0) (n : ℕ) (f g : ListingFault)
     → IsFaultOf Kind n f → IsFaultOf Kind n g → f ≡ g
 one_fault Kind n f g (inl a) (inl b) = a.1 ∙ sym b.1
@@ -37,22 +34,19 @@ one_fault Kind n f g (inl a) (inr b) = absurd (b.0 a.0)
 one_fault Kind n f g (inr a) (inl b) = absurd (a.0 b.0)
 one_fault Kind n f g (inr a) (inr b) = a.1 ∙ sym b.1
 
--- a line of no kind has L1
 pub only_bad_line : (n : ℕ) (fault : ListingFault) → IsFaultOf ⊥ n fault → fault ≡ BadLine n
 only_bad_line n fault h = one_fault ⊥ n fault (BadLine n) h (inr (λ k. k, refl))
 
--- where no line is left, the fault is L1 behind the last
 pub unfit_at_end : (Could Kind : List ℕ → Type 0) (past : ℕ) (fault : ListingFault)
     → Unfit Could Kind past [] fault → fault ≡ BadLine past
 unfit_at_end Could Kind past fault (text_ends none is) = is
 unfit_at_end Could Kind past fault (bad_line l behind e none other is) = absurd cc
 unfit_at_end Could Kind past fault (bad_value l behind e none kind is) = absurd cc
 
--- a line that could not stand, and its fault
+-- a line that could not follow, and its fault
 abbrev pub IsRefused : (Could Kind : List ℕ → Type 0) → Line → ListingFault → Type 0
 IsRefused Could Kind l fault = (Could l.text → ⊥) × IsFaultOf (Kind l.text) l.number fault
 
--- where a line is left, it is the one that could not stand
 pub unfit_at_line : (Could Kind : List ℕ → Type 0) (past : ℕ) (l : Line) (behind : List Line)
     (fault : ListingFault) → Unfit Could Kind past (l ∷ behind) fault
     → IsRefused Could Kind l fault
@@ -64,16 +58,15 @@ unfit_at_line Could Kind past l behind fault (bad_value m others e none kind is)
     subst (λ (x : Line). IsRefused Could Kind x fault) (sym (next_is l m behind others e))
     (none, inl (kind, is))
 
--- ---- reading a line that could not stand
+-- ---- a line that could not follow
 
--- reading answers a line that could stand alone, and tells the fault of any other
+-- reading succeeds only on lines that could follow, and returns the fault of any other
 pub record Decides {A : Type 0} (Could Kind : List ℕ → Type 0)
     (read : ℕ → List ℕ → Result A ListingFault) (l : Line) : Type 0 where
   pub stands : (a : A) → read l.number l.text ≡ Ok a → Could l.text
   pub refused : (f : ListingFault) → read l.number l.text ≡ Err f → (Could l.text → ⊥)
       → IsFaultOf (Kind l.text) l.number f
 
--- so it refuses a line that could not stand, for its fault
 pub line_refused : {A : Type 0} (Could Kind : List ℕ → Type 0)
     (read : ℕ → List ℕ → Result A ListingFault) (l : Line) (fault : ListingFault)
     → Decides Could Kind read l → IsRefused Could Kind l fault
@@ -85,7 +78,6 @@ line_refused {A} Could Kind read l fault d h =
           e.1 ∙ ap Err (one_fault (Kind l.text) l.number e.0 fault (d.refused e.0 e.1 h.0) h.1)
     ]
 
--- no line is left, or the next one could not stand
 pub unfit_read : {A : Type 0} (Could Kind : List ℕ → Type 0)
     (read : ℕ → List ℕ → Result A ListingFault) (past : ℕ) (ls : List Line)
     (fault : ListingFault)
@@ -98,7 +90,6 @@ unfit_read {A} Could Kind read past (l ∷ behind) fault each h =
     (line_refused Could Kind read l fault (each l behind refl)
     (unfit_at_line Could Kind past l behind fault h))
 
--- a line that is one word
 pub word_decides : (word : List ℕ) (l : Line)
     → Decides (λ text. text ≡ word) (λ text. ⊥) (read_word word) l
 word_decides word l =
@@ -108,9 +99,8 @@ word_decides word l =
           other_kind ⊥ l.number f (λ k. k) (word_err word l.number l.text f h).1;
     }
 
--- ---- lines that may be absent
+-- ---- lines that a message may lack
 
--- the next line has this first word, or there is none that has
 pub titled_or_not : (title : List ℕ) (ls : List Line)
     → ((l : Line) × (behind : List Line) × (ls ≡ l ∷ behind) × (first_word l.text ≡ title))
     ⊎ IsNotTitled title ls
@@ -125,21 +115,18 @@ titled_or_not title (l ∷ ls) =
           not_title (first_word l.text) title other (same ∙ titled))
     ]
 
--- a line with another first word is left
 pub absent_read : {A : Type 0} (title : List ℕ) (read : ℕ → List ℕ → Result A ListingFault)
     (ls : List Line) → IsNotTitled title ls → read_if title read ls ≡ Ok (None, ls)
 absent_read title read [] other = refl
 absent_read title read (l ∷ ls) other =
     rw (other_bytes (first_word l.text) title (λ e. other l ls refl e)) refl
 
--- one with this first word is read
 pub titled_read : {A : Type 0} (title : List ℕ) (read : ℕ → List ℕ → Result A ListingFault)
     (l : Line) (ls : List Line) → first_word l.text ≡ title
     → read_if title read (l ∷ ls)
     ≡ (read l.number l.text >>= λ (a : A). with_rest ls (Some a))
 titled_read title read l ls titled = rw (same_bytes (first_word l.text) title titled) refl
 
--- and where it could not stand, it is refused
 pub titled_refused : {A : Type 0} (Could Kind : List ℕ → Type 0) (title : List ℕ)
     (read : ℕ → List ℕ → Result A ListingFault) (past : ℕ) (ls : List Line) (l : Line)
     (behind : List Line) (fault : ListingFault) → ls ≡ l ∷ behind → first_word l.text ≡ title
@@ -154,12 +141,11 @@ titled_refused {A} Could Kind title read past ls l behind fault e titled d h =
 
 -- ---- lines before others
 
--- no text, no line
 pub none_before : (own rest : List Line) → texts own ≡ [] → own ++ rest ≡ rest
 none_before [] rest e = refl
 none_before (l ∷ own) rest e = absurd cc
 
--- lines of the texts of two lists are cut between them
+-- a cut between the lines of two lists of texts
 pub record Cut (own : List Line) (a b : List (List ℕ)) : Type 0 where
   pub front : List Line
   pub behind : List Line
@@ -167,7 +153,6 @@ pub record Cut (own : List Line) (a b : List (List ℕ)) : Type 0 where
   pub first : texts front ≡ a
   pub second : texts behind ≡ b
 
--- lines of the texts of two lists can be cut between them
 pub cut_lines : (own : List Line) (a b : List (List ℕ)) → texts own ≡ a ++ b → Cut own a b
 cut_lines own [] b e =
     record { front = []; behind = own; in_order = refl; first = refl; second = e }
@@ -183,7 +168,6 @@ cut_lines (l ∷ own) (t ∷ a) b e =
       second = c.second;
     }
 
--- lines of the same texts behind some of the same lines are the same
 pub same_behind : (ls x y : List Line) → IsBehind ls x → IsBehind ls y → texts x ≡ texts y
     → x ≡ y
 same_behind ls x y a b e =
@@ -199,14 +183,13 @@ same_behind ls x y a b e =
     ∙ ap (λ (xs : List Line). drop (length b.own) xs) (sym a.in_order ∙ b.in_order)
     ∙ drop_at b.own y (length b.own) refl
 
--- the next line spells what is read, and these lines are left before the others
+-- the next line spells the result, and these lines follow
 pub record Passed {A : Type 0} (read : ℕ → List ℕ → Result A ListingFault) (past : ℕ)
     (ls rest : List Line) (a : A) (more : List (List ℕ)) : Type 0 where
   pub others : List Line
   pub reads : read_line read past ls ≡ Ok (a, others ++ rest)
   pub spelled : texts others ≡ more
 
--- lines of which the first spells what is read are read up to it
 pub line_passed : {A : Type 0} (read : ℕ → List ℕ → Result A ListingFault) (past : ℕ)
     (own rest : List Line) (text : List ℕ) (more : List (List ℕ)) (a : A)
     → ((n : ℕ) → read n text ≡ Ok a) → texts own ≡ text ∷ more

@@ -1,12 +1,11 @@
--- The first fault of a text is what reading it answers: the other way round than FaultMessages. For
--- the first faults of listings (`faults_of_listings_are_the_first`, clause `answered`).
+-- Reading returns the first fault of a text, the converse of FaultMessages.
 use Rattle.std.proofs.Common.{◌≡◌, ℕ, zero, suc, ◌+◌, ◌<◌, ◌≤◌, List, [], ◌∷◌, ◌++◌, length}
 use Rattle.std.proofs.Common.{length-append, Result, Ok, Err, refl, sym, ap, ◌∙◌}
 use Rattle.std.proofs.Common.{arith, append_assoc}
 use Rattle.std.specs.List.{flat_map, AllByRecursion}
 use Rattle.std.specs.Str.Lines.{lines}
 use Rattle.std.proofs.lemmas.List.{map-append}
-use Rattle.bufr_answers.specs.Answers.{◌>>=◌}
+use Rattle.bufr_base.specs.Answers.{◌>>=◌}
 use Rattle.bufr_tables.specs.Entries.{Entries}
 use Rattle.bufr_expand.specs.Courses.{course}
 use Rattle.bufr_expand.specs.Templates.{template}
@@ -32,7 +31,6 @@ use Rattle.bufr_listing_reader.proofs.RefusedHeadings.{flags_passed, place_refus
 
 -- ---- a message
 
--- what is read of a line of descriptors is their template, or why they have none
 line_described : DescriptorTexts → (tables : Entries) (l : Line) (ds : List ℕ)
     → AreOfLine l.text ds
     → read_descriptors tables l.number l.text ≡ described l.number ds (template tables ds)
@@ -40,7 +38,6 @@ line_described texts tables l ds line =
     ap (λ (t : List ℕ). read_descriptors tables l.number t) line.2
     ∙ descriptors_read texts tables l.number ds line.0 line.1
 
--- the first fault of a message is read
 message_refused : FaultLaws → (tables : Entries) (past : ℕ) (ls : List Line)
     (fault : ListingFault) → MessageFault tables past ls fault
     → message_read tables past ls ≡ Err fault
@@ -70,7 +67,6 @@ message_refused laws tables past ls fault (in_subsets own l rest ds tree e befor
 
 -- ---- messages
 
--- the lines of a message are read, and those behind them are left
 message_passed : LowerLaws → (tables : Entries) (past : ℕ) (own rest : List Line) (m : Message)
     → CanBeListed tables m → texts own ≡ lines_of m
     → message_read tables past (own ++ rest) ≡ Ok (m, rest)
@@ -84,7 +80,6 @@ message_passed laws tables past own rest m can e =
     b.same in
     b.reads ∙ ap (λ (xs : List Line). with_rest xs m) same
 
--- where a line is left, a message is read first
 message_next : (left : ℕ) (tables : Entries) (past : ℕ) (ls : List Line) → 0 < length ls
     → messages_read (suc left) tables past ls
     ≡ (message_read tables past ls >>= λ first. messages_read left tables past first.1
@@ -93,7 +88,6 @@ unfolding messages_read
 message_next left tables past [] some = absurd (omega (arith, some))
 message_next left tables past (l ∷ ls) some = refl
 
--- messages that are listed are read, so that where reading fails behind them it fails
 behind_messages_fails : LowerLaws → (left : ℕ) (tables : Entries) (past : ℕ)
     (before : List Message) (own rest : List Line) (fault : ListingFault)
     → length (own ++ rest) ≤ left → AllByRecursion (λ m. CanBeListed tables m) before
@@ -122,7 +116,6 @@ behind_messages_fails laws (suc left) tables past (m ∷ before) own rest fault 
     (behind_messages_fails laws left tables past before c.behind rest fault fewer each.1 c.second
     some h))
 
--- the first fault of a text is what reading answers
 pub first_fault_read : FaultLaws → (tables : Entries) (text : List ℕ) (fault : ListingFault)
     → FirstFault tables text fault → messages_listed tables text ≡ Err fault
 first_fault_read laws tables text fault h =

@@ -1,4 +1,4 @@
--- The lines of messages are the lines of their joined listings: for `listings_are_read_back`.
+-- Splitting joined listings returns the lines of the messages: for `listings_are_read_back`.
 use Rattle.std.proofs.Common.{◌≡◌, ℕ, zero, suc, ◌+◌, ◌-◌, ◌/◌, ◌%◌, ◌<◌, ◌≤◌, Bool, true, false}
 use Rattle.std.proofs.Common.{List, [], ◌∷◌, ◌++◌, length, map, get_or, codes, refl, sym, ap, ◌∙◌}
 use Rattle.std.proofs.Common.{subst, arith, append_assoc}
@@ -26,12 +26,12 @@ use Rattle.bufr_fields.specs.Forms.{number_of, has_form_by, same_spec, matches_s
 use Rattle.bufr_fields.specs.Forms.{items_of_all}
 use Rattle.bufr_fields.specs.Values.{is_missing, decimal_within}
 use Rattle.bufr_listing_reader.proofs.LowerLaws.{LowerLaws}
-use Rattle.bufr_listing_reader.proofs.DecimalTextFacts.{digits_plain, decimal_digits, text_plain}
+use Rattle.bufr_fields.specs.DecimalTextLaws.{digits_plain, decimal_digits, text_plain}
 use Rattle.bufr_fields.specs.FormLaws.{same_spec_is}
 use Rattle.bufr_sections.specs.declared.message.Message.{Message}
 use Rattle.bufr_sections.specs.Sections.{AreOctets, HeadFits, IsOctet}
 use Rattle.bufr_sections.specs.declared.message.Head.{Head}
-use Rattle.bufr_answers.specs.AnswerLaws.{bind_ok}
+use Rattle.bufr_base.specs.AnswerLaws.{bind_ok}
 use Rattle.bufr_listing.specs.Listings.{field_line, subset_lines, end_line, lines_of}
 use Rattle.bufr_listing.specs.Listings.{flags_line, descriptors_line}
 use Rattle.bufr_listing.specs.Listings.{octets_line, local_lines, section2_line, section2_lines}
@@ -55,38 +55,31 @@ use Rattle.bufr_listing_reader.proofs.TextFacts.{listed_read}
 
 -- ---- lines of joined lines
 
--- a character that is no end of a line
+-- the character ends no line
 abbrev Printable : ℕ → Type 0
 Printable c = 32 ≤ c
 
--- such characters
 abbrev IsPlain : List ℕ → Type 0
 IsPlain text = AllByRecursion Printable text
 
--- what can be printed is no LF
 no_end : (c : ℕ) → 32 ≤ c → (c == 10) ≡ false
 no_end c h = grind arith
 
--- a plain text has no LF
 no_ends : (text : List ℕ) → IsPlain text → AllByRecursion (λ c. (c == 10) ≡ false) text
 no_ends [] h = tt
 no_ends (c ∷ cs) h = (no_end c h.0, no_ends cs h.1)
 
--- what can be printed is no CR
 no_return : (c : ℕ) → 32 ≤ c → (c == 13) ≡ false
 no_return c h = grind arith
 
--- a plain text has no CR
 no_return_at : (text : List ℕ) (i : ℕ) → IsPlain text → (slice_index text i == 13) ≡ false
 no_return_at [] i h = refl
 no_return_at (c ∷ cs) zero h = no_return c h.0
 no_return_at (c ∷ cs) (suc i) h = no_return_at cs i h.1
 
--- so none is cut from it
 not_stripped : (text : List ℕ) → IsPlain text → strip_carriage_return text ≡ text
 not_stripped text h = rw (no_return_at text (length text - 1) h) refl
 
--- joined lines are parted at their ends
 split_joined : (ls : List (List ℕ)) → AllByRecursion (λ l. IsPlain l) ls
     → slice_split (λ c. c == 10) (joined ls) ≡ ls ++ [] ∷ []
 split_joined [] h = refl
@@ -96,32 +89,28 @@ split_joined (l ∷ ls) h =
     (All-from_recursion (λ c. (c == 10) ≡ false) l (no_ends l h.0)) refl
     ∙ ap (λ parts. l ∷ parts) (split_joined ls h.1)
 
--- the parts are the lines
 parts_back : (ls : List (List ℕ)) → AllByRecursion (λ l. IsPlain l) ls
     → lines_of_parts (ls ++ [] ∷ []) ≡ ls
 parts_back [] h = refl
 parts_back (x ∷ []) h = ap (λ y. y ∷ []) (not_stripped x h.0)
 parts_back (x ∷ y ∷ ls) h = let e = not_stripped x h.0 in λ i. e i ∷ parts_back (y ∷ ls) h.1 i
 
--- the lines of joined lines are these
 lines_joined : (ls : List (List ℕ)) → AllByRecursion (λ l. IsPlain l) ls → lines (joined ls) ≡ ls
 lines_joined ls h = ap lines_of_parts (split_joined ls h) ∙ parts_back ls h
 
 -- ---- lines that count as they are
 
--- a line that is read as it is written: plain, not skipped, in lower case where it has octets
+-- a line reads as written: plain, not skipped, in lower case if it has octets
 record IsShown (text : List ℕ) : Type 0 where
   plain : IsPlain text
   kept : is_skipped text ≡ false
   own : as_printed text ≡ text
 
--- such lines are plain
 plain_lines : (ls : List (List ℕ)) → AllByRecursion (λ l. IsShown l) ls
     → AllByRecursion (λ l. IsPlain l) ls
 plain_lines [] h = tt
 plain_lines (l ∷ ls) h = (h.0.plain, plain_lines ls h.1)
 
--- and they are the lines that count
 counted_as_shown : (n : ℕ) (ls : List (List ℕ)) → AllByRecursion (λ l. IsShown l) ls
     → texts (counting_from n ls) ≡ ls
 unfolding counting_from
@@ -129,7 +118,6 @@ counted_as_shown n [] h = refl
 counted_as_shown n (l ∷ ls) h =
     rw h.0.kept (let e = h.0.own in λ i. e i ∷ counted_as_shown (n + 1) ls h.1 i)
 
--- what holds of each of some and of each of others holds of these behind those
 all_append : {A : Type 0} (P : A → Type 0) (xs ys : List A) → AllByRecursion P xs
     → AllByRecursion P ys → AllByRecursion P (xs ++ ys)
 all_append P [] ys a b = b
@@ -137,13 +125,11 @@ all_append P (x ∷ xs) ys a b = (a.0, all_append P xs ys a.1 b)
 
 -- ---- characters
 
--- a word that is written out
 literal_plain : (text : List ℕ) → list_all (λ c. nat_le 32 c) text ≡ true → IsPlain text
 literal_plain [] h = tt
 literal_plain (c ∷ cs) h = let p = and_parts (nat_le 32 c) (list_all (λ c. nat_le 32 c) cs) h in
     (leb-true 32 c p.0, literal_plain cs p.1)
 
--- words behind spaces are plain
 plain_words : (ws : List (List ℕ)) → AllByRecursion (λ w. IsPlain w) ws
     → IsPlain (flat_map (λ w. 32 ∷ w) ws)
 plain_words [] h = tt
@@ -152,15 +138,13 @@ plain_words (w ∷ ws) h =
 
 -- ---- hexadecimal digits
 
--- the digits that are printed
 abbrev is_lower : ℕ → Bool
 is_lower c = nat_le 32 c && (lower_digit c == c)
 
--- octets, each below 256
+-- each octet is below 256
 abbrev AreBytes : List ℕ → Type 0
 AreBytes os = AllByRecursion (λ x. x < 256) os
 
--- a digit as it is printed is plain and in lower case
 digit_shown : (k : ℕ) → k < 16 → (32 ≤ slice_index lower_digits k)
     × (lower_digit (slice_index lower_digits k) ≡ slice_index lower_digits k)
 digit_shown k few =
@@ -169,7 +153,6 @@ digit_shown k few =
     and_parts (nat_le 32 c) (lower_digit c == c) (passes_at is_lower lower_digits k refl few) in
     (leb-true 32 c p.0, eqb-true (lower_digit c) c p.1)
 
--- the digits of octets are
 hex_shown : (os : List ℕ) → AreBytes os → IsPlain (encode_lower os)
     × (map lower_digit (encode_lower os) ≡ encode_lower os)
 unfolding encode_with
@@ -181,14 +164,12 @@ hex_shown (x ∷ xs) h =
     let others = hex_shown xs h.1 in
     ((high.0, (low.0, others.0)), λ i. high.1 i ∷ low.1 i ∷ others.1 i)
 
--- a word of digits is
 hex_word : (os : List ℕ) → AreBytes os → IsPlain (encode_lower os ++ [])
     × (map lower_digit (encode_lower os ++ []) ≡ encode_lower os ++ [])
 hex_word os h =
     subst (λ e. IsPlain e × (map lower_digit e ≡ e)) (sym (append-nil (encode_lower os)))
     (hex_shown os h)
 
--- the line of octets for local use
 local_shown : (os : List ℕ) → AreBytes os → IsShown (octets_line (codes "local1") os)
 local_shown os h =
     let p = hex_word os h in
@@ -200,7 +181,6 @@ local_shown os h =
           ap (λ e. codes "local1" ++ 32 ∷ e) p.1;
     }
 
--- the line of section 2
 section2_shown : (os : List ℕ) → AreBytes os → IsShown (section2_line os)
 section2_shown [] h = record {
   plain = literal_plain (codes "section2") refl;
@@ -218,12 +198,10 @@ section2_shown (x ∷ xs) h =
           ap (λ e. codes "section2" ++ 32 ∷ e) p.1;
     }
 
--- the line of octets for local use, where there are any
 locals_shown : (os : List ℕ) → AreBytes os → AllByRecursion (λ l. IsShown l) (local_lines os)
 locals_shown [] h = tt
 locals_shown (x ∷ xs) h = (local_shown (x ∷ xs) h, tt)
 
--- the line of section 2, where there is one
 sections_shown : (two : Option (List ℕ)) → IfSome two AreOctets → AllByRecursion (λ l. IsShown l)
     (section2_lines two)
 sections_shown None h = tt
@@ -231,13 +209,11 @@ sections_shown (Some os) h = (section2_shown os (recursion_from_All IsOctet os h
 
 -- ---- numbers, flags, descriptors
 
--- numbers print plain words
 decimals_plain : (ns : List ℕ) → AreShort ns → AllByRecursion (λ w. IsPlain w) (map decimal ns)
 decimals_plain [] h = tt
 decimals_plain (n ∷ ns) h =
     (digits_plain (decimal n) (decimal_digits n h.0), decimals_plain ns h.1)
 
--- the line of flags
 flags_shown : (observed compressed : Bool) → IsShown (flags_line observed compressed)
 flags_shown false false =
     record { plain = literal_plain (flags_line false false) refl; kept = refl; own = refl }
@@ -248,17 +224,14 @@ flags_shown false true =
 flags_shown true true =
     record { plain = literal_plain (flags_line true true) refl; kept = refl; own = refl }
 
--- six digits are plain
 six_plain : (d : ℕ) → IsPlain (six_digits d)
 six_plain d =
     (omega arith, (omega arith, (omega arith, (omega arith, (omega arith, (omega arith, tt))))))
 
--- descriptors print plain words
 sixes_plain : (ds : List ℕ) → AllByRecursion (λ w. IsPlain w) (map six_digits ds)
 sixes_plain [] = tt
 sixes_plain (d ∷ ds) = (six_plain d, sixes_plain ds)
 
--- the line of descriptors
 descriptors_shown : (ds : List ℕ) → 0 < length ds → IsShown (descriptors_line ds)
 descriptors_shown [] some = absurd (omega arith)
 descriptors_shown (d ∷ ds) some =
@@ -273,7 +246,6 @@ descriptors_shown (d ∷ ds) some =
 
 -- ---- fields
 
--- what is quoted for an octet is plain
 octet_plain : (c : ℕ) → c < 256 → IsPlain (quoted_octet c)
 octet_plain c small = by_test (stands_for_itself c)
     (λ e. leb-true 32 c (and_parts _ _ (and_parts _ _ (and_parts _ _ e).0).0).0)
@@ -283,7 +255,6 @@ octet_plain c small = by_test (stands_for_itself c)
     by_test true low = (low refl, tt)
     by_test false low = (omega arith, (hex_shown (c ∷ []) (small, tt)).0)
 
--- what is quoted for octets is plain
 quoted_plain : (os : List ℕ) → AreBytes os → IsPlain (flat_map quoted_octet os ++ 34 ∷ [])
 quoted_plain [] h = (omega arith, tt)
 quoted_plain (c ∷ os) h =
@@ -292,7 +263,6 @@ quoted_plain (c ∷ os) h =
     (all_append Printable (quoted_octet c) (flat_map quoted_octet os ++ 34 ∷ [])
     (octet_plain c h.0) (quoted_plain os h.1))
 
--- the word of a number is plain
 number_plain : (missing : Bool) (spec : Spec) (n : ℕ) → IsPrintable spec → n < 18446744073709551616
     → IsPlain (if missing then codes "missing" else number_word
     (if missing then None else decimal_within (pos n +ℤ spec.reference) spec.scale))
@@ -301,19 +271,16 @@ number_plain false spec n fit small =
     rw fit.scale (text_plain (pos n +ℤ spec.reference) spec.scale
     (size_small n spec.reference small fit.reference))
 
--- the word of a text is plain
 text_word_plain : (missing : Bool) (os : List ℕ) → AreBytes os
     → IsPlain (if missing then codes "missing" else quoted os)
 text_word_plain true os small = literal_plain (codes "missing") refl
 text_word_plain false os small = (omega arith, quoted_plain os small)
 
--- octets that pass the test are octets
 bytes_of : (os : List ℕ) → list_all (λ x. nat_lt x 256) os ≡ true → AreBytes os
 bytes_of [] h = tt
 bytes_of (x ∷ xs) h = let p = and_parts (nat_lt x 256) (list_all (λ x. nat_lt x 256) xs) h in
     (ltb-true x 256 p.0, bytes_of xs p.1)
 
--- the word of a value is plain
 value_plain : (d : ℕ) (kind : Kind) (spec : Spec) (raw : Raw)
     → has_form_by kind spec.width raw ≡ true → IsPrintable spec
     → IsPlain (value_word (record { fxy = d; spec = record spec { kind = kind }; raw = raw }))
@@ -328,19 +295,15 @@ value_plain d kind spec (Number n) form fit =
     number_plain (is_missing (record { fxy = d; spec = own; raw = Number n })) spec n fit
     (number_small spec.width n form)
 
--- a line that begins with six digits is not skipped
 six_not_skipped : (d : ℕ) (rest : List ℕ) → is_skipped (six_digits d ++ rest) ≡ false
 six_not_skipped d rest = grind arith
 
--- six digits do not begin with the letter l
 not_l : (d : ℕ) (rest : List ℕ) → six_digits d ≡ 108 ∷ rest → ⊥
 not_l d rest e = let same = ap (λ xs. get_or xs 0 0) e in omega (arith, same)
 
--- nor with the letter s
 not_s : (d : ℕ) (rest : List ℕ) → six_digits d ≡ 115 ∷ rest → ⊥
 not_s d rest e = let same = ap (λ xs. get_or xs 0 0) e in omega (arith, same)
 
--- a field's line has no octets
 pub field_plain : (d : ℕ) (word : List ℕ) → has_octets (six_digits d ++ 32 ∷ word) ≡ false
 field_plain d word =
     let first : first_word (six_digits d ++ 32 ∷ word) ≡ six_digits d =
@@ -354,12 +317,10 @@ field_plain d word =
         → bytes_eq (first_word text) (codes "section2") ≡ false → has_octets text ≡ false
     by_first text a b = rw (a, b) refl
 
--- so it is printed as it is
 pub field_own : (d : ℕ) (word : List ℕ) → as_printed (six_digits d ++ 32 ∷ word)
     ≡ six_digits d ++ 32 ∷ word
 field_own d word = own_printed (six_digits d ++ 32 ∷ word) (field_plain d word)
 
--- the line of a field
 field_shown : (f : Field) → has_form_by f.spec.kind f.spec.width f.raw ≡ true → IsPrintable f.spec
     → IsShown (field_line f)
 field_shown f form fit = record {
@@ -369,7 +330,6 @@ field_shown f form fit = record {
   own = field_own f.fxy (value_word f);
 }
 
--- the line of a field that is asked for
 asked_shown : (d : ℕ) (spec : Spec) (f : Field) → IsPrintable spec → matches_spec d spec f ≡ true
     → IsShown (field_line f)
 asked_shown d spec f fit stands =
@@ -379,7 +339,6 @@ asked_shown d spec f fit stands =
     field_shown f (subst (λ (s : Spec). has_form_by s.kind s.width f.raw ≡ true) (sym own) p.1)
     (subst IsPrintable (sym own) fit)
 
--- the lines of the fields of a subset
 fields_shown : (j i : ℕ) (c : Course) (fields : List Field) (n : ℕ) → AsksPrintable c
     → items_of j i c fields ≡ Ok n → AllByRecursion (λ l. IsShown l) (map field_line fields)
 unfolding items_of AsksPrintable
@@ -396,7 +355,6 @@ fields_shown j i (asks met d spec more) (f ∷ fields) n fit h =
           (fit.1 (number_of f.raw)) p.1,
     )
 
--- the lines of subsets
 subsets_shown : (j used : ℕ) (course : ℕ → Course) (subsets : List Subset) (n : ℕ)
     → ((k : ℕ) → AsksPrintable (course k)) → items_of_all course j used subsets ≡ Ok n
     → AllByRecursion (λ l. IsShown l) (flat_map subset_lines subsets)
@@ -412,14 +370,12 @@ subsets_shown j used course (s ∷ subsets) n fit h =
 
 -- ---- messages
 
--- a line of numbers is plain
 short_plain : (title ns : List ℕ) → list_all (λ c. nat_le 32 c) title ≡ true → AreShort ns
     → IsPlain (numbers_line title ns)
 short_plain title ns literal small =
     all_append Printable title (flat_map (λ w. 32 ∷ w) (map decimal ns))
     (literal_plain title literal) (plain_words (map decimal ns) (decimals_plain ns small))
 
--- the lines of section 1
 head_shown : (h : Head) → HeadFits h
     → IsShown (numbers_line (codes "section1") (section1_numbers h)) × IsShown
     (numbers_line (codes "time") (time_numbers h))
@@ -439,7 +395,6 @@ head_shown h fits =
       },
     )
 
--- the lines before the first subset
 heading_shown : (m : Message) → HeadFits m.head → IfSome m.section2 AreOctets
     → 0 < length m.descriptors → AllByRecursion (λ l. IsShown l) (heading_lines m)
 unfolding heading_lines
@@ -459,7 +414,6 @@ heading_shown m fits octets some =
     (flags ∷ descriptors_line m.descriptors ∷ []) optional last in
     (first, (numbers.0, (numbers.1, others)))
 
--- the lines of a message
 message_shown : LowerLaws → (tables : Entries) (m : Message) → CanBeListed tables m
     → AllByRecursion (λ l. IsShown l) (lines_of m)
 unfolding lines_of
@@ -475,7 +429,6 @@ message_shown laws tables m can =
     (end_line ∷ []) (all_append IsShown (heading_lines m)
     (flat_map subset_lines m.subsets) heading subsets) (last, tt)
 
--- the lines of messages
 messages_shown : LowerLaws → (tables : Entries) (messages : List Message)
     → AllByRecursion (λ m. CanBeListed tables m) messages → AllByRecursion (λ l. IsShown l)
     (flat_map lines_of messages)
@@ -484,9 +437,8 @@ messages_shown laws tables (m ∷ messages) h =
     all_append IsShown (lines_of m) (flat_map lines_of messages) (message_shown laws tables m h.0)
     (messages_shown laws tables messages h.1)
 
--- ---- what is listed is read back
+-- ---- reading back
 
--- joined listings are read back
 pub listing_read_back : LowerLaws → (tables : Entries) (messages : List Message)
     → AllByRecursion (λ m. CanBeListed tables m) messages
     → messages_listed tables (flat_map listing messages) ≡ Ok messages

@@ -1,12 +1,11 @@
--- One step of a walk is one line read: for the reader of the fields of a subset, which `read`
--- calls.
+-- One step of a walk reads one line: for `read_field` and `read_fields`.
 use Rattle.std.proofs.Common.{◌≡◌, ℕ, List, [], ◌∷◌, ◌++◌, Result}
 use Rattle.std.proofs.Common.{Ok, Err, refl, sym, ap, subst, ◌∙◌}
 use Rattle.std.proofs.Common.{append_assoc}
 use Rattle.std.proofs.lemmas.Bool.{and_parts}
-use Rattle.bufr_answers.specs.Answers.{◌>>=◌, Fails}
-use Rattle.bufr_answers.specs.declared.failure.Failure.{Failure}
-use Rattle.bufr_answers.specs.declared.failure.Failure.TheVariants.{Fault, OutOfMemory}
+use Rattle.bufr_base.specs.Answers.{◌>>=◌, Fails}
+use Rattle.bufr_base.specs.declared.failure.Failure.{Failure}
+use Rattle.bufr_base.specs.declared.failure.Failure.TheVariants.{Fault, OutOfMemory}
 use Rattle.bufr_expand.specs.declared.operators.Spec.{Spec}
 use Rattle.bufr_expand.specs.declared.walk.Step.TheVariants as steps
 use Rattle.bufr_expand.specs.declared.walk.Walk.{Walk}
@@ -20,7 +19,7 @@ use Rattle.bufr_fields.specs.Steady.{IsReady}
 use Rattle.bufr_fields.specs.StepLaws.{asks_field, asks_count, ends_there, stops_there, steady_step}
 use Rattle.bufr_fields.specs.StepLaws.{count_fits as form_fits}
 use Rattle.bufr_expand.specs.Steady.{IsSteady}
-use Rattle.bufr_answers.specs.AnswerLaws.{ok_is}
+use Rattle.bufr_base.specs.AnswerLaws.{ok_is}
 use Rattle.bufr_listing.specs.declared.fault.Cause.TheVariants as causes
 use Rattle.bufr_listing.specs.declared.fault.ListingFault.{ListingFault}
 use Rattle.bufr_listing.specs.declared.fault.ListingFault.TheVariants.{BadLine, Refused}
@@ -34,14 +33,12 @@ use Rattle.bufr_listing_reader.proofs.SubsetFacts.{line_takes}
 
 -- ---- reading
 
--- a field before those that are read
 joined : (field : Field) (o : Result FieldsListed ListingFault)
     → (o >>= λ others. Ok (record others { fields = field ∷ others.fields })) ≡ behind_fields
     (field ∷ []) o
 joined field (Ok found) = refl
 joined field (Err e) = refl
 
--- the line of the field that is asked for is read, and then the others
 asked_field : (past met d : ℕ) (spec : Spec) (more : ℕ → Course) (ls rest : List Line) (f : Field)
     → read_line (read_field d spec) past ls ≡ Ok (f, rest)
     → fields_read past (asks met d spec more) ls ≡ behind_fields (f ∷ [])
@@ -52,7 +49,6 @@ asked_field past met d spec more ls rest f e =
     Ok (record others { fields = first.0 ∷ others.fields })) e
     ∙ joined f (fields_read past (more (number_of f.raw)) rest)
 
--- where it is not read, the fields fail
 asked_fails : (past met d : ℕ) (spec : Spec) (more : ℕ → Course) (c : Course) (ls : List Line)
     (e : Failure ListingFault) → c ≡ asks met d spec more
     → Fails e (read_line (read_field d spec) past ls) → Fails e (fields_read past c ls)
@@ -63,7 +59,6 @@ asked_fails past met d spec more c ls (Fault f) is h =
     ∙ ap (λ r. r >>= λ first. fields_read past (more (number_of first.0.raw)) first.1 >>= λ others.
     Ok (record others { fields = first.0 ∷ others.fields })) h
 
--- one field is read
 pub field_is_read : (old new : Walk) (past d : ℕ) (spec : Spec) (ls rest : List Line) (f : Field)
     → IsReady old → Goes (left old) (Ok (steps.Field d spec)) new
     → read_line (read_field d spec) past ls ≡ Ok (f, rest) → fields_read past (left old) ls
@@ -77,7 +72,6 @@ field_is_read old new past d spec ls rest f ready g e =
     ∙ asked_field past a.met d spec a.more ls rest f e
     ∙ ap (λ c. behind_fields (f ∷ []) (fields_read past c rest)) same
 
--- one count is read
 pub count_is_read : (old mid new : Walk) (past d : ℕ) (spec : Spec) (ls rest : List Line)
     (f : Field) → Goes (left old) (Ok (steps.Count d spec)) mid
     → Counted (left mid) (number_of f.raw) new
@@ -90,7 +84,6 @@ count_is_read old mid new past d spec ls rest f g counted e =
     ∙ asked_field past a.met d spec a.more ls rest f e
     ∙ ap (λ c. behind_fields (f ∷ []) (fields_read past c rest)) (sym told.0)
 
--- one field is not read
 pub field_is_refused : (old new : Walk) (past d : ℕ) (spec : Spec) (ls : List Line)
     (e : Failure ListingFault) → Goes (left old) (Ok (steps.Field d spec)) new
     → Fails e (read_line (read_field d spec) past ls) → Fails e (fields_read past (left old) ls)
@@ -98,7 +91,6 @@ field_is_refused old new past d spec ls e g h =
     let a = asks_field (left old) d spec new g in
     asked_fails past a.met d spec a.more (left old) ls e a.is h
 
--- one count is not read
 pub count_is_refused : (old mid : Walk) (past d : ℕ) (spec : Spec) (ls : List Line)
     (e : Failure ListingFault) → Goes (left old) (Ok (steps.Count d spec)) mid
     → Fails e (read_line (read_field d spec) past ls) → Fails e (fields_read past (left old) ls)
@@ -106,14 +98,12 @@ count_is_refused old mid past d spec ls e g h =
     let a = asks_count (left old) d spec mid g in
     asked_fails past a.met d spec a.more (left old) ls e a.is h
 
--- the subset ends
 pub end_is_read : (old new : Walk) (past : ℕ) (ls : List Line)
     → Goes (left old) (Ok steps.End) new → fields_read past (left old) ls
     ≡ Ok (record { fields = []; items = items_met new; rest = ls })
 unfolding fields_read
 end_is_read old new past ls g = ap (λ c. fields_read past c ls) (ends_there (left old) new g)
 
--- no further field can stand
 pub stop_is_refused : (old new : Walk) (past : ℕ) (ls : List Line) (fault : WalkFault)
     (e : Failure ListingFault) → Goes (left old) (Err fault) new
     → ((met : ℕ) → Fails e (fields_read past (stops met fault) ls))
@@ -122,9 +112,8 @@ stop_is_refused old new past ls fault e g h =
     let s = stops_there (left old) fault new g in
     subst (λ c. Fails e (fields_read past c ls)) (sym s.1) (h s.0)
 
--- ---- counts that were read
+-- ---- counts
 
--- a walk can be told a count that was read
 pub count_fits : (old mid : Walk) (past d : ℕ) (spec : Spec) (ls rest : List Line) (f : Field)
     → Goes (left old) (Ok (steps.Count d spec)) mid
     → read_line (read_field d spec) past ls ≡ Ok (f, rest) → IsBelowCount (left mid)
@@ -134,14 +123,12 @@ count_fits old mid past d spec ls rest f g e =
     let own = read_field_takes d spec one.line.number one.line.text f one.reads in
     form_fits old mid d spec f.raw g (and_parts _ (has_form_by spec.kind spec.width f.raw) own.1).1
 
--- ---- fields one after the other
+-- ---- fields in turn
 
--- behind no field stands what is read
 pub behind_none : (o : Result FieldsListed ListingFault) → o ≡ behind_fields [] o
 behind_none (Ok found) = refl
 behind_none (Err e) = refl
 
--- one field more, and then what is read
 pub behind_more : (fields : List Field) (field : Field) (o : Result FieldsListed ListingFault)
     → behind_fields fields (behind_fields (field ∷ []) o) ≡ behind_fields (fields ++ field ∷ []) o
 behind_more fields field (Ok found) =
@@ -149,7 +136,6 @@ behind_more fields field (Ok found) =
     (sym (append_assoc fields (field ∷ []) found.fields))
 behind_more fields field (Err e) = refl
 
--- one field more was read
 pub one_more : (fields grown : List Field) (field : Field)
     (whole : Result FieldsListed ListingFault) (past : ℕ) (c d : Course) (ls rest : List Line)
     → grown ≡ fields ++ field ∷ []
@@ -162,14 +148,12 @@ one_more fields grown field whole past c d ls rest e so_far step =
     ∙ behind_more fields field (fields_read past d rest)
     ∙ ap (λ fs. behind_fields fs (fields_read past d rest)) (sym e)
 
--- ---- subsets one after the other
+-- ---- subsets in turn
 
--- behind no subset stands what is read
 pub subsets_none : (o : Result SubsetsListed ListingFault) → o ≡ behind_subsets [] o
 subsets_none (Ok found) = refl
 subsets_none (Err e) = refl
 
--- one subset more, and then what is read
 pub subsets_more : (subsets : List Subset) (subset : Subset)
     (o : Result SubsetsListed ListingFault) → behind_subsets subsets
     (behind_subsets (subset ∷ []) o) ≡ behind_subsets (subsets ++ subset ∷ []) o
@@ -180,7 +164,6 @@ subsets_more subsets subset (Err e) = refl
 
 -- ---- a walk that stops
 
--- where there is no line, L1
 pub stop_none : (past met : ℕ) (fault : WalkFault) (ls : List Line) (e : Failure ListingFault)
     → Fails e (next_of past ls) → Fails e (fields_read past (stops met fault) ls)
 unfolding fields_read
@@ -188,7 +171,6 @@ stop_none past met fault ls OutOfMemory h = tt
 stop_none past met fault [] (Fault f) h = let same : BadLine past ≡ f = cc in ap Err same
 stop_none past met fault (l ∷ ls) (Fault f) h = absurd cc
 
--- else L3 at the next line
 pub stop_some : (past met : ℕ) (fault : WalkFault) (ls : List Line) (l : Line) (rest : List Line)
     → next_of past ls ≡ Ok (l, rest) → fields_read past (stops met fault) ls ≡ Err
     (Refused l.number (causes.Walk fault))

@@ -1,5 +1,4 @@
--- What is read of lines is what they spell: fields and subsets. For the laws of listings,
--- `listings_list_messages` and `listings_are_read_back`.
+-- Reading lines returns the fields and subsets that they spell: for the laws of listings.
 use Rattle.std.proofs.Common.{◌≡◌, ℕ, zero, suc, ◌+◌, ◌<◌, false, List, [], ◌∷◌, ◌++◌}
 use Rattle.std.proofs.Common.{length, map, get_or, drop, codes, refl, sym, ap, ◌∙◌, subst, arith}
 use Rattle.std.proofs.Common.{append_assoc, inl, inr}
@@ -7,12 +6,12 @@ use Rattle.std.specs.Prelude.{Result, Ok}
 use Rattle.std.specs.List.{flat_map}
 use Rattle.std.specs.Str.{bytes_eq}
 use Rattle.std.proofs.lemmas.Bool.{cases_Bool}
-use Rattle.bufr_answers.specs.Answers.{◌>>=◌}
+use Rattle.bufr_base.specs.Answers.{◌>>=◌}
 use Rattle.bufr_expand.specs.Courses.{Course, ends, stops, asks}
 use Rattle.bufr_fields.specs.declared.field.Field.{Field}
 use Rattle.bufr_fields.specs.declared.field.Subset.{Subset}
 use Rattle.bufr_fields.specs.Forms.{number_of, matches_spec, items_of, items_of_all}
-use Rattle.bufr_answers.specs.AnswerLaws.{bind_ok, ok_is, passed_ok}
+use Rattle.bufr_base.specs.AnswerLaws.{bind_ok, ok_is, passed_ok}
 use Rattle.bufr_listing.specs.declared.fault.ListingFault.{ListingFault}
 use Rattle.bufr_listing.specs.Listings.{field_line, subset_lines}
 use Rattle.bufr_listing_reader.specs.Lines.{Line, texts}
@@ -25,14 +24,13 @@ use Rattle.bufr_listing_reader.proofs.CourseFacts.{AsksPrintable}
 
 -- ---- one line
 
--- the line that was read
+-- the line as read
 pub record LineTaken {A : Type 0} (read : ℕ → List ℕ → Result A ListingFault) (ls : List Line)
     (a : A) (rest : List Line) : Type 0 where
   pub line : Line
   pub front : ls ≡ line ∷ rest
   pub reads : read line.number line.text ≡ Ok a
 
--- a line that is read is the next
 pub line_takes : {A : Type 0} (read : ℕ → List ℕ → Result A ListingFault) (past : ℕ)
     (ls : List Line) (x : A × List Line) → read_line read past ls ≡ Ok x → LineTaken read ls x.0 x.1
 line_takes read past [] x h = absurd cc
@@ -46,14 +44,13 @@ line_takes {A} read past (l ∷ ls) x h =
           ∙ ap (λ (y : A × List Line). Ok y.0) e;
     }
 
--- the lines after a line that spells what is read
+-- the lines after a line that spells the result
 pub record LineBack {A : Type 0} (read : ℕ → List ℕ → Result A ListingFault) (past : ℕ)
     (ls : List Line) (a : A) (others : List (List ℕ)) : Type 0 where
   pub rest : List Line
   pub reads : read_line read past ls ≡ with_rest rest a
   pub same : texts rest ≡ others
 
--- a line that spells a value is read as it
 pub line_back : {A : Type 0} (read : ℕ → List ℕ → Result A ListingFault) (past : ℕ)
     (ls : List Line) (text : List ℕ) (others : List (List ℕ)) (a : A)
     → ((n : ℕ) → read n text ≡ Ok a) → texts ls ≡ text ∷ others → LineBack read past ls a others
@@ -66,12 +63,11 @@ line_back read past (l ∷ ls) text others a each e =
 
 -- ---- fields
 
--- the lines of fields that were read, which fit
+-- the lines of fields as read, which fit
 pub record FieldsTaken (j i : ℕ) (c : Course) (ls : List Line) (r : FieldsListed) : Type 0 where
   pub front : texts ls ≡ map field_line r.fields ++ texts r.rest
   pub fit : items_of j i c r.fields ≡ Ok r.items
 
--- fields that are read are those of the lines
 pub fields_take : (past j i : ℕ) (c : Course) (ls : List Line) (r : FieldsListed)
     → fields_read past c ls ≡ Ok r → FieldsTaken j i c ls r
 unfolding fields_read items_of
@@ -90,14 +86,12 @@ fields_take past j i (asks met d spec more) ls r h =
       fit = rw own.1 others.fit;
     })
 
--- the lines after fields
 pub record FieldsBack (past : ℕ) (c : Course) (ls : List Line) (fields : List Field) (items : ℕ)
     (others : List (List ℕ)) : Type 0 where
   pub rest : List Line
   pub reads : fields_read past c ls ≡ Ok (record { fields = fields; items = items; rest = rest })
   pub same : texts rest ≡ others
 
--- fields that fit are read of their lines
 pub fields_back : (past j i : ℕ) (c : Course) (ls : List Line) (fields : List Field) (items : ℕ)
     (others : List (List ℕ))
     → AsksPrintable c → items_of j i c fields ≡ Ok items
@@ -131,13 +125,12 @@ fields_back past j i (asks met d spec more) ls (f ∷ fields) items others fit h
 
 -- ---- subsets
 
--- the lines of subsets that were read, which fit
+-- the lines of subsets as read, which fit
 pub record SubsetsTaken (j : ℕ) (course : ℕ → Course) (used : ℕ) (ls : List Line)
     (r : SubsetsListed) : Type 0 where
   pub front : texts ls ≡ flat_map subset_lines r.subsets ++ codes "end" ∷ texts r.rest
   pub fit : items_of_all course j used r.subsets ≡ Ok r.items
 
--- subsets that are read are those of the lines
 pub subsets_take : (left past j : ℕ) (course : ℕ → Course) (used : ℕ) (ls : List Line)
     (r : SubsetsListed) → subsets_read left past course used ls ≡ Ok r
     → SubsetsTaken j course used ls r
@@ -172,7 +165,6 @@ subsets_take (suc left) past j course used (l ∷ ls) r h =
           })
     ]
 
--- the lines after subsets
 pub record SubsetsBack (left past : ℕ) (course : ℕ → Course) (used : ℕ) (ls : List Line)
     (subsets : List Subset) (items : ℕ) (others : List (List ℕ)) : Type 0 where
   pub rest : List Line
@@ -180,7 +172,6 @@ pub record SubsetsBack (left past : ℕ) (course : ℕ → Course) (used : ℕ) 
       ≡ Ok (record { subsets = subsets; items = items; rest = rest })
   pub same : texts rest ≡ others
 
--- subsets that fit are read of their lines
 pub subsets_back : (left past j : ℕ) (course : ℕ → Course) (used : ℕ) (ls : List Line)
     (subsets : List Subset) (items : ℕ) (others : List (List ℕ))
     → ((n : ℕ) → AsksPrintable (course n)) → length subsets < left

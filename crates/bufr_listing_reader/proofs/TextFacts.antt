@@ -1,4 +1,4 @@
--- Messages are read of their lines, and texts list the messages that are read of them: for
+-- Reading returns the messages of lines, and texts list the messages that reading returns: for
 -- `listings_list_messages`.
 use Rattle.std.proofs.Common.{◌≡◌, ℕ, zero, suc, ◌+◌, ◌<◌, ◌≤◌, List, [], ◌∷◌, ◌++◌, length, map}
 use Rattle.std.proofs.Common.{codes, refl, sym, ap, ◌∙◌, arith, append_assoc, length-append}
@@ -25,16 +25,14 @@ use Rattle.bufr_listing_reader.proofs.LoopFacts.{goes_on, texts_length}
 use Rattle.bufr_listing_reader.proofs.RefusedLines.{cut_lines}
 use Rattle.bufr_listing_reader.proofs.RefusedHeadings.{flags_passed}
 
--- ---- a message that is spelt
+-- ---- one message
 
--- the lines after a message
 pub record MessageBack (tables : Entries) (past : ℕ) (ls : List Line) (m : Message)
     (others : List (List ℕ)) : Type 0 where
   pub rest : List Line
   pub reads : message_read tables past ls ≡ with_rest rest m
   pub same : texts rest ≡ others
 
--- there are more lines than subsets
 more_lines : (subsets : List Subset) (others : List (List ℕ)) → length subsets < length
     (flat_map subset_lines subsets ++ codes "end" ∷ others)
 more_lines [] others = omega arith
@@ -48,7 +46,6 @@ more_lines (s ∷ subsets) others =
     (flat_map subset_lines subsets ++ codes "end" ∷ others) in
     omega (arith, ih, len, sum)
 
--- a message has fewer subsets than lines
 fewer_subsets : (ls : List Line) (subsets : List Subset) (others : List (List ℕ))
     → texts ls ≡ flat_map subset_lines subsets ++ codes "end" ∷ others → length subsets < length ls
 fewer_subsets ls subsets others e =
@@ -57,7 +54,6 @@ fewer_subsets ls subsets others e =
     let own = texts_length ls in
     omega (arith, more, same, own)
 
--- a message is read of its lines
 pub message_back : LowerLaws → (tables : Entries) (past : ℕ) (ls : List Line) (m : Message)
     (others : List (List ℕ)) → CanBeListed tables m → texts ls ≡ lines_of m ++ others
     → MessageBack tables past ls m others
@@ -93,7 +89,6 @@ message_back laws tables past ls m others can e =
 
 -- ---- messages
 
--- messages are read of their lines
 pub messages_back : LowerLaws → (left : ℕ) (tables : Entries) (past : ℕ) (ls : List Line)
     (messages : List Message) → length messages ≤ left
     → AllByRecursion (λ m. CanBeListed tables m) messages
@@ -115,7 +110,6 @@ messages_back laws (suc left) tables past (l ∷ ls) (m ∷ messages) few each e
 
 -- ---- texts
 
--- what is read of a text is listed by it
 pub read_listed : LowerLaws → (tables : Entries) (text : List ℕ) (messages : List Message)
     → messages_listed tables text ≡ Ok messages → Listed tables text messages
 read_listed laws tables text messages h =
@@ -123,7 +117,6 @@ read_listed laws tables text messages h =
     (counting_lines text) messages h in
     record { spelled = p.front; each = p.each }
 
--- there are no more messages than lines
 few_messages : (ls : List Line) (messages : List Message) → texts ls ≡ flat_map lines_of messages
     → length messages ≤ length ls
 few_messages ls messages e =
@@ -132,7 +125,6 @@ few_messages ls messages e =
     let few = length-messages messages in
     omega (arith, own, same, few)
 
--- what a text lists is read of it
 pub listed_read : LowerLaws → (tables : Entries) (text : List ℕ) (messages : List Message)
     → Listed tables text messages → messages_listed tables text ≡ Ok messages
 listed_read laws tables text messages h =

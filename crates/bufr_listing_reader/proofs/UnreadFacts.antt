@@ -1,13 +1,12 @@
--- What is left of messages that are read one at a time, and what is read of them all at once: for
--- `Messages`, and so for `read`.
+-- Messages read one at a time are those read at once: for `Messages`.
 use Rattle.std.proofs.Common.{◌≡◌, ℕ, zero, suc, ◌+◌, ◌<◌, ◌≤◌, List, [], ◌∷◌, length, Result, Ok, Err}
 use Rattle.std.proofs.Common.{true, false, refl, sym, ap, ap₂, ◌∙◌, arith}
 use Rattle.std.specs.Prelude.{Bool, not, Option, Some, None, if◌then◌else◌}
 use Rattle.std.specs.Str.Lines.{lines}
 use Rattle.std.specs.Option.{is_some}
-use Rattle.bufr_answers.specs.Answers.{◌>>=◌, Fails}
-use Rattle.bufr_answers.specs.declared.failure.Failure.{Failure}
-use Rattle.bufr_answers.specs.declared.failure.Failure.TheVariants.{Fault, OutOfMemory}
+use Rattle.bufr_base.specs.Answers.{◌>>=◌, Fails}
+use Rattle.bufr_base.specs.declared.failure.Failure.{Failure}
+use Rattle.bufr_base.specs.declared.failure.Failure.TheVariants.{Fault, OutOfMemory}
 use Rattle.bufr_tables.specs.Entries.{Entries}
 use Rattle.bufr_sections.specs.declared.message.Message.{Message}
 use Rattle.bufr_listing.specs.declared.fault.ListingFault.{ListingFault}
@@ -20,15 +19,13 @@ use Rattle.bufr_listing_reader.specs.Unread.{unread, unread_in, or_fault, all_of
 use Rattle.bufr_listing_reader.proofs.CursorFacts.{Behind, behind_first, no_first}
 use Rattle.bufr_listing_reader.proofs.MessageSteps.{message_shorter}
 
--- ---- all at once
+-- ---- at once
 
--- a message before others, or their fault
 fault_behind : (m : Message) (messages : List Message) (fault : Option ListingFault)
     → or_fault (m ∷ messages) fault ≡ (or_fault messages fault >>= λ others. Ok (m ∷ others))
 fault_behind m messages None = refl
 fault_behind m messages (Some f) = refl
 
--- the next message and the others
 all_from : (n : ℕ) (tables : Entries) (past : ℕ) (r : Result MessageRead ListingFault)
     → ((rest : List Line)
     → all_of (unread_by n tables past rest) ≡ messages_read n tables past rest)
@@ -41,7 +38,7 @@ all_from n tables past (Ok first) same =
     (same first.1)
 all_from n tables past (Err f) same = refl
 
--- what is left of lines is what is read of them
+-- the messages left in lines are those of reading the lines
 all_by : (n : ℕ) (tables : Entries) (past : ℕ) (ls : List Line)
     → all_of (unread_by n tables past ls) ≡ messages_read n tables past ls
 unfolding unread_by messages_read
@@ -51,7 +48,6 @@ all_by zero tables past (l ∷ ls) = refl
 all_by (suc n) tables past (l ∷ ls) =
     all_from n tables past (message_read tables past (l ∷ ls)) (λ rest. all_by n tables past rest)
 
--- what is left of a text is what is read of it
 pub all_listed : (tables : Entries) (text : List ℕ)
     → all_of (unread_in tables text) ≡ messages_listed tables text
 all_listed tables text =
@@ -59,7 +55,6 @@ all_listed tables text =
 
 -- ---- one at a time
 
--- the next message and the others, however many lines may be left
 same_from : (n k : ℕ) (tables : Entries) (past : ℕ) (l : Line) (ls : List Line)
     (r : Result MessageRead ListingFault) → message_read tables past (l ∷ ls) ≡ r
     → length (l ∷ ls) ≤ suc n → length (l ∷ ls) ≤ suc k
@@ -73,7 +68,7 @@ same_from n k tables past l ls (Ok first) e few fewer same =
     (same first.1 (omega (arith, few, shorter)) (omega (arith, fewer, shorter)))
 same_from n k tables past l ls (Err f) e few fewer same = refl
 
--- how many lines may be left makes no difference where there are enough
+-- a larger bound on the lines left changes nothing
 same_by : (n k : ℕ) (tables : Entries) (past : ℕ) (ls : List Line) → length ls ≤ n → length ls ≤ k
     → unread_by n tables past ls ≡ unread_by k tables past ls
 unfolding unread_by
@@ -87,7 +82,6 @@ same_by (suc n) (suc k) tables past (l ∷ ls) few fewer =
     same_from n k tables past l ls (message_read tables past (l ∷ ls)) refl few fewer
     (λ rest h j. same_by n k tables past rest h j)
 
--- where a message is read, those behind it are left
 pub one_read : (tables : Entries) (past : ℕ) (ls : List Line) (m : Message) (rest : List Line)
     → (ls ≡ [] → ⊥) → message_read tables past ls ≡ Ok (m, rest)
     → unread tables past ls ≡ behind (m ∷ []) (unread tables past rest)
@@ -100,7 +94,6 @@ one_read tables past (l ∷ ls) m rest some e =
     ∙ ap (behind (m ∷ []))
     (same_by (length ls) (length rest) tables past rest (omega (arith, shorter)) (omega arith))
 
--- where the next message has a fault, this is all that is left
 pub none_read : (tables : Entries) (past : ℕ) (ls : List Line) (f : ListingFault)
     → (ls ≡ [] → ⊥) → message_read tables past ls ≡ Err f → unread tables past ls ≡ stopped f
 unfolding unread_by
@@ -109,16 +102,14 @@ none_read tables past (l ∷ ls) f some e =
     ap (λ (r : Result MessageRead ListingFault). unread_from r (λ (more : List Line).
     unread_by (length ls) tables past more)) e
 
--- where no line is left, nothing is
 pub none_left : (tables : Entries) (past : ℕ) (ls : List Line) → ls ≡ []
     → unread tables past ls ≡ nothing
 unfolding unread_by
 none_left tables past [] e = refl
 none_left tables past (l ∷ ls) e = absurd cc
 
--- ---- how many there are
+-- ---- their number
 
--- no more messages than lines
 few_from : (n : ℕ) (tables : Entries) (past : ℕ) (l : Line) (ls : List Line)
     (r : Result MessageRead ListingFault) → message_read tables past (l ∷ ls) ≡ r
     → ((rest : List Line) → length (unread_by n tables past rest).messages ≤ length rest)
@@ -128,7 +119,6 @@ few_from n tables past l ls (Ok first) e few =
     omega (arith, shorter, few first.1)
 few_from n tables past l ls (Err f) e few = omega arith
 
--- no more messages than lines, by how many lines may be left
 few_by : (n : ℕ) (tables : Entries) (past : ℕ) (ls : List Line)
     → length (unread_by n tables past ls).messages ≤ length ls
 unfolding unread_by
@@ -139,13 +129,11 @@ few_by (suc n) tables past (l ∷ ls) =
     few_from n tables past l ls (message_read tables past (l ∷ ls)) refl
     (λ rest. few_by n tables past rest)
 
--- one line at most for the first
 few_more : (skipped : Bool) (l : Line) (more : List Line) (n : ℕ) → length more ≤ n
     → length (if skipped then more else l ∷ more) ≤ n + 1
 few_more true l more n few = omega (arith, few)
 few_more false l more n few = omega (arith, few)
 
--- no more lines count than there are
 few_counted : (n : ℕ) (ls : List (List ℕ)) → length (counting_from n ls) ≤ length ls
 unfolding counting_from
 few_counted n [] = omega arith
@@ -154,7 +142,6 @@ few_counted n (l ∷ ls) =
     (counting_from (n + 1) ls) (length ls) (few_counted (n + 1) ls) in
     omega (arith, more)
 
--- no more lines than octets, by the first line
 few_first : (n : ℕ) (text : List ℕ) (o : Option (List ℕ × List ℕ)) → first_line_of text ≡ o
     → length text ≤ n
     → ((rest : List ℕ) → length rest < length text → length (lines rest) ≤ length rest)
@@ -164,7 +151,6 @@ few_first n text (Some (line, rest)) e short few =
     let b : Behind text line rest = behind_first text line rest e in
     omega (arith, ap length b.lines, b.shorter, few rest b.shorter)
 
--- no more lines than octets, by how many octets there may be
 few_lines_by : (n : ℕ) (text : List ℕ) → length text ≤ n → length (lines text) ≤ length text
 few_lines_by zero text short =
     few_first zero text (first_line_of text) refl short
@@ -173,7 +159,7 @@ few_lines_by (suc n) text short =
     few_first (suc n) text (first_line_of text) refl short
     (λ rest less. few_lines_by n rest (omega (arith, less, short)))
 
--- no more messages than octets
+-- a text has no more messages than octets
 pub few_messages : (tables : Entries) (text : List ℕ)
     → length (unread_in tables text).messages ≤ length text
 few_messages tables text =
@@ -186,27 +172,23 @@ few_messages tables text =
 
 -- ---- the reader
 
--- what is left in the lines of a text, by tables that are the same
 pub unread_at : (tables tables' : Entries) (text : List ℕ) (past : ℕ) (ls : List Line)
     → tables' ≡ tables → past ≡ length (lines text) + 1 → ls ≡ counting_lines text
     → unread tables' past ls ≡ unread_in tables text
 unread_at tables tables' text past ls same e is =
     ap (λ (t : Entries). unread t past ls) same ∙ ap₂ (unread tables) e is
 
--- no line comes next
 pub no_line : (ls : List Line) (o : Option TextLine) (b : Bool) → IsNextLine ls o
     → is_some o ≡ not b → b ≡ true → ls ≡ []
 no_line ls None b next e h = next
 no_line ls (Some l) b next e h = absurd (let no : true ≡ not true = e ∙ ap not h in cc no)
 
--- a line comes next
 pub a_line : (ls : List Line) (o : Option TextLine) (b : Bool) → IsNextLine ls o
     → is_some o ≡ not b → b ≡ false → ls ≡ [] → ⊥
 a_line ls None b next e h none = let no : false ≡ not false = e ∙ ap not h in cc no
 a_line ls (Some l) b next e h none =
     let no : printed l ∷ next.0 ≡ [] = sym next.1 ∙ none in cc no
 
--- no message could be read, and all stays
 pub none_handed : (tables tables' : Entries) (past : ℕ) (ls : List Line) (u : Unread)
     (e : Failure ListingFault) → unread tables past ls ≡ u → tables' ≡ tables → (ls ≡ [] → ⊥)
     → Fails e (message_read tables past ls) → HandsOutMessage u (Err e) (unread tables' past ls)
@@ -216,7 +198,6 @@ none_handed tables tables' past ls u (Fault f) is same some fails =
     let stopped_at = none_read tables past ls f some fails in
     (sym is ∙ stopped_at, ap (λ (t : Entries). unread t past ls) same ∙ stopped_at)
 
--- a message was read
 pub one_handed : (tables tables' : Entries) (past past' : ℕ) (ls rest : List Line) (u : Unread)
     (m : Message) → unread tables past ls ≡ u → tables' ≡ tables → past' ≡ past → (ls ≡ [] → ⊥)
     → message_read tables past ls ≡ Ok (m, rest)

@@ -1,5 +1,4 @@
--- The line of a field, read from the left, gives the field that prints it: for the reader of the
--- line of a field, which `read` calls.
+-- A field's line, read from the left, returns the field that prints it: for `read_value`.
 use Rattle.std.proofs.Common.{◌≡◌, ℕ, zero, suc, ◌/◌, ◌≤◌, Bool, true, false, List, [], ◌∷◌, ◌++◌}
 use Rattle.std.proofs.Common.{length, take, drop, replicate, codes, Ok, Err, refl, sym, ap, ◌∙◌}
 use Rattle.std.proofs.Common.{subst, arith, inl, inr}
@@ -41,44 +40,38 @@ use Rattle.bufr_listing_reader.proofs.ShownFacts.{field_plain}
 
 -- ---- texts
 
--- whether octets are as many as so many bits have
 abbrev has_octets_for : ℕ → List ℕ → Bool
 has_octets_for width os = length os == width / 8 && list_all (λ x. nat_lt x 256) os
 
--- whether they are those of a missing value
 abbrev is_missing_text : ℕ → List ℕ → Bool
 is_missing_text width os = has_octets_for width os && list_all (λ x. x == 255) os && not
     (width == 1) && not (same_kind kinds.Text kinds.Count)
 
--- the word that they print
 abbrev print_text : Bool → List ℕ → List ℕ
 print_text missing os = if missing then codes "missing" else quoted os
 
--- octets of the form, which print the word
+-- octets of the form that print the word
 record TextIs (width : ℕ) (word os : List ℕ) : Type 0 where
   bits : has_octets_for width os ≡ true
   printed : print_text (is_missing_text width os) os ≡ word
 
--- octets that are all 255
+-- all octets are 255
 record AllOnes (k : ℕ) (os : List ℕ) : Type 0 where
   count : length os ≡ k
   small : list_all (λ x. nat_lt x 256) os ≡ true
   ones : list_all (λ x. x == 255) os ≡ true
 
--- octets of 255 have all bits
 all_ones : (k : ℕ) → AllOnes k (replicate k 255)
 all_ones zero = record { count = refl; small = refl; ones = refl }
 all_ones (suc k) = let h = all_ones k in
     record { count = ap suc h.count; small = h.small; ones = h.ones }
 
--- a test of four parts fails where two of them do
 four : (p q a b : Bool) → (a && q) ≡ false → (p && q && a && b) ≡ false
 four false q a b h = refl
 four true false a b h = refl
 four true true false b h = refl
 four true true true b h = absurd cc
 
--- one of four parts fails where the whole does and two pass
 left_out : (p q a b : Bool) → p ≡ true → b ≡ true → (p && q && a && b) ≡ false → (a && q) ≡ false
 left_out false q a b hp hb h = absurd cc
 left_out true q a false hp hb h = absurd cc
@@ -87,7 +80,6 @@ left_out true false true true hp hb h = refl
 left_out true true false true hp hb h = refl
 left_out true true true true hp hb h = h
 
--- the octets of a missing text
 missing_text : (width : ℕ) (os : List ℕ)
     → (if not (width == 1) then Some (replicate (width / 8) 255) else None) ≡ Some os
     → TextIs width (codes "missing") os
@@ -111,12 +103,11 @@ missing_text width os h =
       | inr one ↦ absurd (let own = rw one at h in cc own)
     ]
 
--- octets that are not those of a missing value
+-- octets of no missing value
 record NotOnes (may : Bool) (o : Option (List ℕ)) (os : List ℕ) : Type 0 where
   is : o ≡ Some os
   other : (may && are_ones os) ≡ false
 
--- octets that are not those of a missing value
 not_ones : (may : Bool) (o : Option (List ℕ)) (os : List ℕ) → unless_ones may o ≡ Some os
     → NotOnes may o os
 not_ones may None os h = absurd cc
@@ -129,7 +120,6 @@ not_ones may (Some xs) os h =
           (record { is = refl; other = e })
     ]
 
--- octets that are read between quotes print the word
 quoted_word : (count : ℕ) (word os : List ℕ) → octets_of count word ≡ Some os
     → (length os ≡ count) × (list_all (λ x. nat_lt x 256) os ≡ true) × (quoted os ≡ word)
 quoted_word count [] os h = absurd cc
@@ -142,7 +132,6 @@ quoted_word count (c ∷ rest) os h =
       | inr e ↦ absurd (let own : octets_of count (c ∷ rest) ≡ None = rw e refl in cc (sym own ∙ h))
     ]
 
--- octets that are read print the word
 text_is : (width : ℕ) (word os : List ℕ) → words.text_of width word ≡ Some os → TextIs width word os
 text_is width word os h =
     elim (cases_Bool (is_missing_word word)) [
@@ -166,7 +155,6 @@ text_is width word os h =
           }
     ]
 
--- octets are read of what they print, by whether they are missing
 text_by : (missing : Bool) (width : ℕ) (word os : List ℕ) → has_octets_for width os ≡ true
     → is_missing_text width os ≡ missing → print_text missing os ≡ word → words.text_of width word
     ≡ Some os
@@ -195,19 +183,17 @@ text_by false width word os bits is e =
     let own : unless_ones (not (width == 1)) (Some os) ≡ Some os = rw other refl in
     ap (λ w. words.text_of width w) (sym e) ∙ ap (unless_ones (not (width == 1))) back ∙ own
 
--- octets are read of the word that they print
 text_back : (width : ℕ) (word os : List ℕ) → TextIs width word os → words.text_of width word
     ≡ Some os
 text_back width word os h = text_by (is_missing_text width os) width word os h.bits refl h.printed
 
 -- ---- raw values
 
--- a raw value of its spec's form whose field prints this word
+-- a raw value of its spec's form whose field prints the word
 record RawIs (d : ℕ) (spec : Spec) (word : List ℕ) (raw : Raw) : Type 0 where
   form : has_form_by spec.kind spec.width raw ≡ true
   printed : value_word (record { fxy = d; spec = spec; raw = raw }) ≡ word
 
--- a raw value that is read prints the word, by its kind
 raw_by_kind : (d : ℕ) (kind : Kind) (spec : Spec) (word : List ℕ) (raw : Raw)
     → raw_of_kind kind (record spec { kind = kind }) word ≡ Some raw
     → RawIs d (record spec { kind = kind }) word raw
@@ -222,7 +208,6 @@ raw_by_kind d kind spec word raw h =
     let t = number_is own word p.0 p.1 in
     subst (λ r. RawIs d own word r) p.2 (record { form = t.bits; printed = t.printed })
 
--- a raw value is read of the word that it prints, by its kind
 back_by_kind : (d : ℕ) (kind : Kind) (spec : Spec) (word : List ℕ) (raw : Raw) → IsPrintable spec
     → has_form_by kind spec.width raw ≡ true
     → value_word (record { fxy = d; spec = record spec { kind = kind }; raw = raw }) ≡ word
@@ -238,20 +223,17 @@ back_by_kind d kind spec word (Number n) fit form e =
     (record { scale = fit.scale; reference = fit.reference })
     (record { bits = form; printed = e }))
 
--- a test that passed, and what was answered then
 if_some : {A : Type 0} (b : Bool) (o : Option A) (x : A) → (if b then o else None) ≡ Some x
     → (b ≡ true) × (o ≡ Some x)
 if_some true o x h = (refl, h)
 if_some false o x h = absurd cc
 
--- a raw value that is read prints the word
 raw_is : (d : ℕ) (spec : Spec) (word : List ℕ) (raw : Raw) → raw_of spec word ≡ Some raw
     → (is_within 600 spec.scale ≡ true) × RawIs d spec word raw
 raw_is d spec word raw h =
     let p = if_some (is_within 600 spec.scale) (raw_of_kind spec.kind spec word) raw h in
     (p.0, raw_by_kind d spec.kind spec word raw p.1)
 
--- a raw value is read of the word that it prints
 raw_back : (d : ℕ) (spec : Spec) (word : List ℕ) (raw : Raw) → IsPrintable spec
     → has_form_by spec.kind spec.width raw ≡ true
     → value_word (record { fxy = d; spec = spec; raw = raw }) ≡ word → raw_of spec word ≡ Some raw
@@ -260,25 +242,21 @@ raw_back d spec word raw fit form e =
 
 -- ---- lines
 
--- an integer of 64 bits has a size that fits
 abs_fits : (z : ℤ) → FitsSigned w64 z → unsigned_abs z ≤ 9223372036854775808
 abs_fits (pos n) fits = omega (arith, fits)
 abs_fits (negsuc n) fits = omega (arith, fits)
 
--- a line that begins with the descriptor and a space
 line_is : (d : ℕ) (text : List ℕ) → bytes_eq (take 7 text) (six_digits d ++ 32 ∷ []) ≡ true
     → text ≡ six_digits d ++ 32 ∷ drop 7 text
 line_is d text h =
     sym (take-append-drop 7 text) ∙ ap (λ t. t ++ drop 7 text)
     (bytes_same (take 7 text) (six_digits d ++ 32 ∷ []) h)
 
--- such a line has no octets, and is printed as it is
 own_text : (d : ℕ) (text : List ℕ) → bytes_eq (take 7 text) (six_digits d ++ 32 ∷ []) ≡ true
     → as_printed text ≡ text
 own_text d text h =
     own_printed text (ap has_octets (line_is d text h) ∙ field_plain d (drop 7 text))
 
--- a line of octets does not begin so
 not_plain : (d : ℕ) (text : List ℕ) → has_octets text ≡ true → bytes_eq (take 7 text)
     (six_digits d ++ 32 ∷ []) ≡ false
 not_plain d text octets =
@@ -288,7 +266,6 @@ not_plain d text octets =
       | inr h ↦ h
     ]
 
--- a line that does not begin so does not as it is printed
 front_printed : (d : ℕ) (text : List ℕ) → bytes_eq (take 7 text) (six_digits d ++ 32 ∷ []) ≡ false
     → bytes_eq (take 7 (as_printed text)) (six_digits d ++ 32 ∷ []) ≡ false
 front_printed d text h =
@@ -298,7 +275,6 @@ front_printed d text h =
           ap (λ t. bytes_eq (take 7 t) (six_digits d ++ 32 ∷ [])) (own_printed text plain) ∙ h
     ]
 
--- where a raw value is read, the field is
 pub value_some : (d : ℕ) (spec : Spec) (n : ℕ) (text : List ℕ) (raw : Raw)
     → FitsSigned w64 spec.reference → bytes_eq (take 7 text) (six_digits d ++ 32 ∷ []) ≡ true
     → raw_of spec (drop 7 text) ≡ Some raw
@@ -314,21 +290,19 @@ value_some d spec n text raw fits begins h =
     ∙ read_field_back d spec n (record { fxy = d; spec = spec; raw = raw })
     (record { scale = p.0; reference = abs_fits spec.reference fits }) stands
 
--- a field that is read has a raw value that is read
+-- the field read from a line, with its raw value
 record Accepted (d : ℕ) (spec : Spec) (text : List ℕ) : Type 0 where
   raw : Raw
   line : text ≡ field_line (record { fxy = d; spec = spec; raw = raw })
   within : is_within 600 spec.scale ≡ true
   form : has_form_by spec.kind spec.width raw ≡ true
 
--- whether the candidate of a line is accepted
 abbrev accepts : ℕ → Spec → List ℕ → Bool
 accepts d spec text =
     is_within 600 spec.scale
     && has_form_by spec.kind spec.width (raw_in spec (drop 7 text))
     && bytes_eq (field_line (field_in d spec text)) text
 
--- a candidate that is accepted prints the line
 accepted : (d : ℕ) (spec : Spec) (text : List ℕ) → accepts d spec text ≡ true → Accepted d spec text
 accepted d spec text h =
     let q = and_parts (is_within 600 spec.scale && has_form_by spec.kind spec.width
@@ -343,7 +317,6 @@ accepted d spec text h =
       form = r.1;
     }
 
--- where no raw value is read, that is L2
 pub value_none : (d : ℕ) (spec : Spec) (n : ℕ) (text : List ℕ) → FitsSigned w64 spec.reference
     → bytes_eq (take 7 text) (six_digits d ++ 32 ∷ []) ≡ true → raw_of spec (drop 7 text) ≡ None
     → read_field d spec n (as_printed text) ≡ Err (BadValue n)
@@ -360,7 +333,6 @@ value_none d spec n text fits begins h =
           (Err (field_fault d n text)) not ∙ rw begins refl
     ]
 
--- where the line begins otherwise, that is L1
 pub value_elsewhere : (d : ℕ) (spec : Spec) (n : ℕ) (text : List ℕ) → bytes_eq (take 7 text)
     (six_digits d ++ 32 ∷ []) ≡ false → read_field d spec n (as_printed text) ≡ Err (BadLine n)
 value_elsewhere d spec n text other =

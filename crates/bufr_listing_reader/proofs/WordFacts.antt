@@ -1,5 +1,4 @@
--- The words of a line, one after the other: for the reader of words, which the readers of lines and
--- so `read` call.
+-- The words of a line in turn: for the cursor over words.
 use Rattle.std.proofs.Common.{◌≡◌, ℕ, ◌+◌, ◌≤◌, Bool, true, false, cond, Bor, List}
 use Rattle.std.proofs.Common.{[], ◌∷◌, ◌++◌, append_assoc, length, take, drop, refl, sym}
 use Rattle.std.proofs.Common.{ap, ◌∙◌, subst, arith}
@@ -17,15 +16,13 @@ use Rattle.bufr_tables.specs.Descriptors.{of_text}
 use Rattle.bufr_listing_reader.specs.Lines.{words_of}
 use Rattle.bufr_listing_reader.specs.Words.{number_below, onto, numbers_of, descriptors_of}
 
--- where the first space stands
+-- the index of the first space
 abbrev pub space_in : List ℕ → Option ℕ
 space_in text = position (λ c. c == 32) text
 
--- where the first word ends
 abbrev end_of : List ℕ → ℕ
 end_of text = position_or_len (λ c. c == 32) text
 
--- a text without a space is one word
 none_by : (b : Bool) (text : List ℕ) → nat_lt (end_of text) (length text) ≡ b
     → cond b (Some (end_of text)) None ≡ None → words_of text ≡ text ∷ []
 none_by true text e h = absurd cc
@@ -33,11 +30,9 @@ none_by false text e h =
     slice_split_none (λ c. c == 32) text (All-from_get_or (λ c. (c == 32) ≡ false) text 0
     (λ i lt. fails_before_first (λ c. c == 32) text i 0 (grind (arith, nat_tests))))
 
--- a text without a space is one word
 pub no_space : (text : List ℕ) → space_in text ≡ None → words_of text ≡ text ∷ []
 no_space text h = none_by (nat_lt (end_of text) (length text)) text refl h
 
--- the word before a space, and the words behind it
 some_by : (b : Bool) (text : List ℕ) (k : ℕ) → nat_lt (end_of text) (length text) ≡ b
     → cond b (Some (end_of text)) None ≡ Some k → words_of text ≡ take k text ∷ words_of
     (drop (k + 1) text)
@@ -47,91 +42,76 @@ some_by true text k e h =
     (slice_split_first (λ c. c == 32) text 0 (ltb-true (end_of text) (length text) e))
 some_by false text k e h = absurd cc
 
--- the first word ends at the first space
 pub at_space : (text : List ℕ) (k : ℕ) → space_in text ≡ Some k
     → words_of text ≡ take k text ∷ words_of (drop (k + 1) text)
 at_space text k h = some_by (nat_lt (end_of text) (length text)) text k refl h
 
--- ---- answers one after the other
+-- ---- results in turn
 
--- these, and then those that are found
+-- these, and then those of the words left
 abbrev pub behind : List ℕ → Option (List ℕ) → Option (List ℕ)
 behind xs o = option_map (λ ys. xs ++ ys) o
 
--- behind no number stands what is read
 pub behind_none : (o : Option (List ℕ)) → o ≡ behind [] o
 behind_none None = refl
 behind_none (Some ys) = refl
 
--- one number more, and then what is read
 pub behind_more : (xs grown : List ℕ) (n : ℕ) (o : Option (List ℕ)) → grown ≡ xs ++ n ∷ []
     → behind xs (onto (Some n) o) ≡ behind grown o
 behind_more xs grown n None e = refl
 behind_more xs grown n (Some ys) e =
     ap Some (sym (append_assoc xs (n ∷ []) ys) ∙ ap (λ zs. zs ++ ys) (sym e))
 
--- one number more, and none
 pub one_number : (limits : List ℕ) (limit n : ℕ) (w : List ℕ) (ws : List (List ℕ))
     → number_below limit w ≡ Some n → numbers_of (limit ∷ limits) (w ∷ ws) ≡ onto (Some n)
     (numbers_of limits ws)
 unfolding numbers_of
 one_number limits limit n w ws h = ap (λ o. onto o (numbers_of limits ws)) h
 
--- a word that is no number below its limit
 pub bad_number : (limits : List ℕ) (limit : ℕ) (w : List ℕ) (ws : List (List ℕ))
     → number_below limit w ≡ None → numbers_of (limit ∷ limits) (w ∷ ws) ≡ None
 unfolding numbers_of
 bad_number limits limit w ws h = ap (λ o. onto o (numbers_of limits ws)) h
 
--- fewer words than limits
 pub too_few : (limits : List ℕ) (limit : ℕ) → numbers_of (limit ∷ limits) [] ≡ None
 unfolding numbers_of
 too_few limits limit = refl
 
--- more words than limits
 pub too_many : (w : List ℕ) (ws : List (List ℕ)) → numbers_of [] (w ∷ ws) ≡ None
 unfolding numbers_of
 too_many w ws = refl
 
--- as many
 pub just_enough : numbers_of [] [] ≡ Some []
 unfolding numbers_of
 just_enough = refl
 
--- a word that is a descriptor, and then the others
 pub one_descriptor : (d : ℕ) (w : List ℕ) (ws : List (List ℕ)) → of_text w ≡ Some d
     → descriptors_of (w ∷ ws) ≡ onto (Some d) (descriptors_of ws)
 unfolding descriptors_of
 one_descriptor d w ws h = ap (λ o. onto o (descriptors_of ws)) h
 
--- a word that is none
 pub bad_descriptor : (w : List ℕ) (ws : List (List ℕ)) → of_text w ≡ None
     → descriptors_of (w ∷ ws) ≡ None
 unfolding descriptors_of
 bad_descriptor w ws h = ap (λ o. onto o (descriptors_of ws)) h
 
--- no words, no descriptors
 pub no_descriptors : descriptors_of [] ≡ Some []
 unfolding descriptors_of
 no_descriptors = refl
 
--- behind the last there is no more
 pub behind_end : (xs : List ℕ) → behind xs (Some []) ≡ Some xs
 behind_end xs = ap Some (append-nil xs)
 
--- a line has one word at least
 pub some_word : {P : Type 0} (text : List ℕ) → words_of text ≡ [] → P
 some_word text h = let count = length-slice_split (λ c. c == 32) text in let none = ap length h in
     absurd (omega (arith, count, none))
 
--- no word was left, or one
 pub word_ended : (o : Option (Bor (List ℕ))) (b : Bool) (ws : List (List ℕ)) → is_some o ≡ not b
     → b ≡ true → IfNone o (ws ≡ []) → ws ≡ []
 word_ended None b ws e is h = h
 word_ended (Some w) true ws e is h = absurd cc
 word_ended (Some w) false ws e is h = absurd cc
 
--- where words are left there is a next
 pub word_more : (o : Option (Bor (List ℕ))) (b : Bool) (ws after : List (List ℕ))
     → is_some o ≡ not b → b ≡ false → IfSome o (λ w. ws ≡ w.now ∷ after)
     → (w : List ℕ) × (ws ≡ w ∷ after)
@@ -139,14 +119,12 @@ word_more None true ws after e is h = absurd cc
 word_more None false ws after e is h = absurd cc
 word_more (Some w) b ws after e is h = (w.now, h)
 
--- the words end with the limits, or there are more
 pub numbers_end : (limits xs : List ℕ) (i : ℕ) (ws : List (List ℕ)) → length limits ≤ i → ws ≡ []
     → behind xs (numbers_of (drop i limits) ws) ≡ Some xs
 numbers_end limits xs i ws all none =
     let last = drop_all i limits all in
     ap (behind xs) ((λ j. numbers_of (last j) (none j)) ∙ just_enough) ∙ behind_end xs
 
--- more words than limits, at a place
 pub numbers_over : (limits xs : List ℕ) (i : ℕ) (ws rest : List (List ℕ)) (w : List ℕ)
     → length limits ≤ i → ws ≡ w ∷ rest → behind xs (numbers_of (drop i limits) ws) ≡ None
 numbers_over limits xs i ws rest w all more =

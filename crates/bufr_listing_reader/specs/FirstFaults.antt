@@ -1,5 +1,5 @@
--- Why a text is no listing: its first fault in the order of its lines, told by the lines before it
--- and by what could stand there.
+-- Why a text is no listing: its first fault by lines. The lines before it and what could follow
+-- them decide it.
 use Rattle.std.specs.Prelude.{◌≡◌, ◌⊎◌, ℕ, ◌+◌, ◌<◌, ◌≤◌, ◌^◌, Bool, List, [], ◌∷◌, ◌++◌, length}
 use Rattle.std.specs.Prelude.{map, take, codes, Option, All, IfSome}
 use Rattle.std.specs.List.{flat_map, AllByRecursion}
@@ -31,8 +31,8 @@ use Rattle.bufr_listing_reader.specs.Lines.{Line, texts, words_of, first_word, c
 
 -- ---- the next line
 
--- no line is left, or the next one could not stand here: L1 with the number after that of the
--- text's last line, which is `past`; L2 where the line is of a kind that could stand here; else L1
+-- the next line could not follow, or there is none: L1 with `past` if the text ends, L2 if the line
+-- has a kind that could follow, else L1. `past` is the number after the last line's
 pub data Unfit (Could IsOfKind : List ℕ → Type 0) (past : ℕ) (rest : List Line)
     (fault : ListingFault) : Type 0 where
   text_ends : rest ≡ [] → fault ≡ BadLine past → Unfit Could IsOfKind past rest fault
@@ -41,7 +41,7 @@ pub data Unfit (Could IsOfKind : List ℕ → Type 0) (past : ℕ) (rest : List 
   bad_value : (l : Line) (behind : List Line) → rest ≡ l ∷ behind → (Could l.text → ⊥)
       → IsOfKind l.text → fault ≡ BadValue l.number → Unfit Could IsOfKind past rest fault
 
--- nothing can stand here, whatever the next line says: L3 at this line, or L1 where there is none
+-- nothing can follow, whatever the next line: L3 at this line, or L1 if the text ends
 pub data Halted (why : WalkFault) (past : ℕ) (rest : List Line) (fault : ListingFault)
     : Type 0 where
   text_ends : rest ≡ [] → fault ≡ BadLine past → Halted why past rest fault
@@ -50,7 +50,7 @@ pub data Halted (why : WalkFault) (past : ℕ) (rest : List Line) (fault : Listi
 
 -- ---- the lines before the first subset
 
--- where a line stands in a heading
+-- a place in a heading
 pub data Place : Type 0 where
   at_message : Place
   at_section1 : Place
@@ -68,8 +68,7 @@ up_to_time h = codes "message" ∷ section1_line h ∷ time_line h ∷ []
 abbrev pub up_to_local : Head → List (List ℕ)
 up_to_local h = up_to_time h ++ local_lines h.local
 
--- the lines that stand before a place are those of some head whose numbers are in the ranges of
--- their fields
+-- the lines before a place are those of some head with its numbers in range
 abbrev pub AreBefore : Place → List (List ℕ) → Type 0
 AreBefore at_message ls = ls ≡ []
 AreBefore at_section1 ls = ls ≡ codes "message" ∷ []
@@ -90,7 +89,7 @@ abbrev pub IsLocal : List ℕ → Type 0
 IsLocal text = (octets : List ℕ) × AreOctets octets × (0 < length octets)
     × (text ≡ octets_line (codes "local1") octets)
 
--- a line of section 2, of no octet or more
+-- a line of section 2, with octets or without
 abbrev pub IsSection2 : List ℕ → Type 0
 IsSection2 text = (octets : List ℕ) × AreOctets octets × (text ≡ section2_line octets)
 
@@ -98,11 +97,11 @@ IsSection2 text = (octets : List ℕ) × AreOctets octets × (text ≡ section2_
 abbrev pub IsFlags : List ℕ → Type 0
 IsFlags text = (observed : Bool) × (compressed : Bool) × (text ≡ flags_line observed compressed)
 
--- some descriptors are those of a line
+-- a line lists these descriptors
 abbrev pub AreOfLine : List ℕ → List ℕ → Type 0
 AreOfLine text ds = (0 < length ds) × All (λ d. d < 2 ^ 16) ds × (text ≡ descriptors_line ds)
 
--- a line could stand at a place
+-- a line could be at a place
 abbrev pub CouldBeAt : Place → List ℕ → Type 0
 CouldBeAt at_message text = text ≡ codes "message"
 CouldBeAt at_section1 text = (h : Head) × HeadFits h × (text ≡ section1_line h)
@@ -112,16 +111,16 @@ CouldBeAt behind_local text = IsSection2 text ⊎ IsFlags text
 CouldBeAt behind_section2 text = IsFlags text
 CouldBeAt at_descriptors text = (ds : List ℕ) × AreOfLine text ds
 
--- a line has this first word and so many words
+-- a line has this first word and `count` words
 abbrev pub HasWords : List ℕ → ℕ → List ℕ → Type 0
 HasWords title count text = (first_word text ≡ title) × (length (words_of text) ≡ count)
 
--- the first word of a line of flags, and two words behind it at most
+-- a line has the first word `flags` and at most two words after it
 abbrev pub HasWordsOfFlags : List ℕ → Type 0
 HasWordsOfFlags text = (first_word text ≡ codes "flags") × (length (words_of text) ≤ 3)
 
--- a line is of a kind that could stand at a place: it has the first word and the number of words of
--- one. A word that is no descriptor is counted as a line of another kind
+-- a line has the first word and the number of words of one that could be at a place; at the first
+-- line and at the descriptors none counts, so a word that is no descriptor is L1
 abbrev pub IsOfKindAt : Place → List ℕ → Type 0
 IsOfKindAt at_message text = ⊥
 IsOfKindAt at_section1 text = HasWords (codes "section1") 9 text
@@ -134,7 +133,7 @@ IsOfKindAt at_descriptors text = ⊥
 
 -- ---- the lines of subsets
 
--- a line of a field that is asked for
+-- a line of a field with this descriptor and spec
 abbrev pub IsLineOf : ℕ → Spec → List ℕ → Type 0
 IsLineOf d spec text = (f : Field) × IsAsked d spec f × (text ≡ field_line f)
 
@@ -142,9 +141,8 @@ IsLineOf d spec text = (f : Field) × IsAsked d spec f × (text ≡ field_line f
 abbrev pub BeginsWith : ℕ → List ℕ → Type 0
 BeginsWith d text = take 7 text ≡ six_digits d ++ 32 ∷ []
 
--- why no field follows these ones of a subset, nor its end: the line of the field that comes next
--- is not there; or an item up to and with the next field, or up to the end, would be more than a
--- message may have; or the next field has no spec
+-- why neither a field nor the end follows these fields of a subset: another line comes; or the
+-- items, with the next field or at the end, pass the message's limit; or the next field has no spec
 pub data NoFieldFollows (tree : Tree) (used : ℕ) (before : List Field) (past : ℕ)
     (rest : List Line) (fault : ListingFault) : Type 0 where
   unfit : (d met : ℕ) (spec : Spec)
@@ -157,8 +155,7 @@ pub data NoFieldFollows (tree : Tree) (used : ℕ) (before : List Field) (past :
       → Halted (EffectiveRange d) past rest fault
       → NoFieldFollows tree used before past rest fault
 
--- the first fault of a subset's fields: the lines before it are those of fields with which a subset
--- can begin
+-- the first fault of a subset's fields, after lines of fields with which a subset can begin
 pub record FieldsFault (tree : Tree) (used past : ℕ) (ls : List Line) (fault : ListingFault)
     : Type 0 where
   pub before : List Field
@@ -173,14 +170,14 @@ pub record FieldsFault (tree : Tree) (used past : ℕ) (ls : List Line) (fault :
 abbrev pub BeginsOrEnds : List ℕ → Type 0
 BeginsOrEnds text = (text ≡ codes "subset") ⊎ (text ≡ codes "end")
 
--- neither is so, or the subset that begins has a fault
+-- a line does neither, or the subset that begins has a fault
 pub data SubsetFault (tree : Tree) (used past : ℕ) (rest : List Line) (fault : ListingFault)
     : Type 0 where
   unfit : Unfit BeginsOrEnds (λ text. ⊥) past rest fault → SubsetFault tree used past rest fault
   inside : (l : Line) (behind : List Line) → rest ≡ l ∷ behind → l.text ≡ codes "subset"
       → FieldsFault tree used past behind fault → SubsetFault tree used past rest fault
 
--- the first fault of subsets: the lines before it are those of subsets that fit
+-- the first fault of subsets, after lines of subsets that fit
 pub record SubsetsFault (tree : Tree) (past : ℕ) (ls : List Line) (fault : ListingFault)
     : Type 0 where
   pub before : List Subset
@@ -194,8 +191,8 @@ pub record SubsetsFault (tree : Tree) (past : ℕ) (ls : List Line) (fault : Lis
 
 -- ---- messages
 
--- the first fault of a message: at a place of its heading; or its descriptors have no tree, for
--- their first fault; or they have one, and the fault is one of its subsets
+-- the first fault of a message: at a place of its heading, in its descriptors without a tree, or in
+-- its subsets
 pub data MessageFault (tables : Entries) (past : ℕ) (ls : List Line) (fault : ListingFault)
     : Type 0 where
   in_heading : (place : Place) (own rest : List Line) → ls ≡ own ++ rest
@@ -211,8 +208,7 @@ pub data MessageFault (tables : Entries) (past : ℕ) (ls : List Line) (fault : 
       → IsTreeOf tables ds tree → SubsetsFault tree past rest fault
       → MessageFault tables past ls fault
 
--- the first fault of a text: the messages before it are listed, and that of the next message is
--- this one
+-- the first fault of a text: in the message after those that it lists
 pub record FirstFault (tables : Entries) (text : List ℕ) (fault : ListingFault) : Type 0 where
   pub before : List Message
   pub own : List Line

@@ -1,4 +1,3 @@
-pub mod DecimalTexts
 pub mod Limits
 pub mod Lines
 pub mod FieldLines

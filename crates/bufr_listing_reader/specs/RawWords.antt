@@ -1,4 +1,4 @@
--- The raw values that words print, as they are read of them from the left.
+-- The raw values that print words, read from the left.
 use Rattle.std.specs.Prelude.{ℕ, zero, suc, ◌+◌, ◌-◌, ◌*◌, ◌/◌, ◌^◌, ◌==◌, ◌&&◌, ◌||◌, not, Bool}
 use Rattle.std.specs.Prelude.{List, [], ◌∷◌, replicate, Option, Some, None, option_map}
 use Rattle.std.specs.Prelude.{option_and_then, ℤ, pos, negsuc, ◌-ℤ◌, nat_le, nat_lt, if◌then◌else◌}
@@ -12,14 +12,14 @@ use Rattle.bufr_expand.specs.OperatorsInForce.{is_within}
 use Rattle.bufr_fields.specs.declared.field.Raw.{Raw}
 use Rattle.bufr_fields.specs.declared.field.Raw.TheVariants.{Number, Text}
 use Rattle.bufr_fields.specs.declared.field.Decimal.{Decimal}
-use Rattle.bufr_listing_reader.specs.DecimalTexts.{decimal_of}
+use Rattle.bufr_fields.specs.DecimalTexts.{decimal_of}
 use Rattle.bufr_fields.specs.Limits.{most_raw_bits, most_decimal_scale}
 use Rattle.bufr_listing.specs.Listings.{stands_for_itself}
 use Rattle.bufr_listing_reader.specs.FieldLines.{is_missing_word}
 
 -- ---- texts
 
--- the value of a hexadecimal digit as it is printed
+-- the value of a lower hexadecimal digit
 abbrev pub lower_value : ℕ → Option ℕ
 lower_value c =
     if nat_le 48 c && nat_le c 57 then Some (c - 48)
@@ -31,49 +31,49 @@ abbrev pub pair_of : Option ℕ → Option ℕ → Option ℕ
 pair_of (Some high) (Some low) = Some (16 * high + low)
 pair_of _ _ = None
 
--- an octet that is written by its digits, and what is behind it; none that is printed as itself
+-- an octet from its digits, and the text after it; none that appears as itself
 abbrev pub escaped : Option ℕ → List ℕ → Option (ℕ × List ℕ)
 escaped None behind = None
 escaped (Some c) behind = if stands_for_itself c then None else Some (c, behind)
 
--- the octet behind a backslash
+-- the octet after a backslash
 abbrev pub escaped_octet : List ℕ → Option (ℕ × List ℕ)
 escaped_octet (high ∷ low ∷ behind) = escaped (pair_of (lower_value high) (lower_value low)) behind
 escaped_octet _ = None
 
--- the octet at the front of a text between quotes, and what stands behind it
+-- the first octet of a text between quotes, and the text after it
 abbrev pub first_octet : List ℕ → Option (ℕ × List ℕ)
 first_octet [] = None
 first_octet (c ∷ behind) =
     if c == 92 then escaped_octet behind
     else if stands_for_itself c then Some (c, behind) else None
 
--- an octet before others, where there are others
+-- an octet before others, if there are others
 abbrev pub then_octets : ℕ → Option (List ℕ) → Option (List ℕ)
 then_octets c octets = option_map (λ cs. c ∷ cs) octets
 
--- so many octets, and then the quote that ends them
+-- `n` octets, and the quote that ends them
 unfoldable pub octets_before : ℕ → List ℕ → Option (List ℕ)
 octets_before zero text = if bytes_eq text (34 ∷ []) then Some [] else None
 octets_before (suc n) text =
     option_and_then (λ (x : ℕ × List ℕ). then_octets x.0 (octets_before n x.1)) (first_octet text)
 
--- the octets, so many, that stand between quotes as a word
+-- the `count` octets of a word in quotes
 abbrev pub octets_of : ℕ → List ℕ → Option (List ℕ)
 octets_of count [] = None
 octets_of count (c ∷ rest) = if c == 34 then octets_before count rest else None
 
--- whether all octets are 255, as those of a missing text are
+-- whether all octets are 255, a missing text
 abbrev pub are_ones : List ℕ → Bool
 are_ones octets = list_all (λ x. x == 255) octets
 
--- octets that are not those of a missing value
+-- octets other than those of a missing value
 abbrev pub unless_ones : Bool → Option (List ℕ) → Option (List ℕ)
 unless_ones may_be_missing None = None
 unless_ones may_be_missing (Some octets) =
     if may_be_missing && are_ones octets then None else Some octets
 
--- the octets of a text field of so many bits that print a word
+-- the octets of a text field of `width` bits that print a word
 abbrev pub text_of : ℕ → List ℕ → Option (List ℕ)
 text_of width word =
     let may_be_missing = not (width == 1) in
@@ -83,28 +83,27 @@ text_of width word =
 
 -- ---- numbers
 
--- whether all ones are a missing value: not of a field of one bit, nor of a delayed replication
--- factor
+-- whether all ones mean a missing value: not in one bit, nor in a delayed replication factor
 abbrev pub may_be_missing : Spec → Bool
 may_be_missing spec = not (spec.width == 1) && not (same_kind spec.kind kinds.Count)
 
--- the number that is missing, where one may be
+-- the number of a missing value, if there is one
 abbrev pub missing_number : Spec → Option ℕ
 missing_number spec = if may_be_missing spec then Some (2 ^ spec.width - 1) else None
 
--- a number that is in so many bits and not that of a missing value
+-- a number that fits the spec's bits and is no missing value
 abbrev pub unless_missing : Spec → ℕ → Option ℕ
 unless_missing spec n =
     if nat_lt (2 ^ spec.width - 1) n || (n == 2 ^ spec.width - 1 && may_be_missing spec)
     then None
     else Some n
 
--- the raw number of a value so far above the reference value; none below it
+-- the raw number of a value above the reference value; none below it
 abbrev pub number_above : Spec → ℤ → Option ℕ
 number_above spec (pos n) = unless_missing spec n
 number_above spec (negsuc n) = None
 
--- the number in so many bits that prints a word
+-- the number of a spec that prints a word
 abbrev pub number_of : Spec → List ℕ → Option ℕ
 number_of spec word =
     if nat_lt most_raw_bits spec.width then None
@@ -115,12 +114,12 @@ number_of spec word =
 
 -- ---- raw values
 
--- the raw value that prints this word, a text or a number by the kind
+-- the raw value of a kind that prints a word
 abbrev pub raw_of_kind : Kind → Spec → List ℕ → Option Raw
 raw_of_kind kinds.Text spec word = option_map (λ octets. Text octets) (text_of spec.width word)
 raw_of_kind kind spec word = option_map (λ n. Number n) (number_of spec word)
 
--- the raw value of a field of this spec that prints a word
+-- the raw value of a spec that prints a word
 abbrev pub raw_of : Spec → List ℕ → Option Raw
 raw_of spec word =
     if is_within most_decimal_scale spec.scale then raw_of_kind spec.kind spec word else None

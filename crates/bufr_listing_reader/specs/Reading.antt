@@ -1,5 +1,4 @@
--- Reading a listing, line by line, with the first fault: the messages that it lists, or L1
--- BadLine, L2 BadValue or L3 Refused and the line.
+-- Reading a listing line by line: the messages that it lists, or the first fault and its line.
 use Rattle.std.specs.Prelude.{ℕ, zero, suc, ◌+◌, ◌==◌, ◌&&◌, not, Bool, true, false, List, [], ◌∷◌}
 use Rattle.std.specs.Prelude.{length, map, get_or, drop, codes, unwrap_or, Option, Some, None}
 use Rattle.std.specs.Prelude.{Result, Ok, Err, nat_le, nat_lt, if◌then◌else◌}
@@ -8,7 +7,7 @@ use Rattle.std.specs.Str.Lines.{lines}
 use Rattle.std.specs.Str.Parse.{digits_value}
 use Rattle.hex.specs.declared.error.FromHexError.{FromHexError}
 use Rattle.hex.specs.Hex.{decode_of}
-use Rattle.bufr_answers.specs.Answers.{◌>>=◌, result_map}
+use Rattle.bufr_base.specs.Answers.{◌>>=◌, result_map}
 use Rattle.bufr_tables.specs.Descriptors.{of_text}
 use Rattle.bufr_tables.specs.Entries.{Entries}
 use Rattle.bufr_expand.specs.declared.node.TemplateFault.{TemplateFault}
@@ -30,27 +29,26 @@ use Rattle.bufr_listing_reader.specs.FieldLines.{read_field}
 
 -- ---- one line
 
--- what was read, and the lines after it
+-- a result, and the lines after it
 abbrev pub with_rest : {A : Type 0} → List Line → A → Result (A × List Line) ListingFault
 with_rest ls a = Ok (a, ls)
 
--- what the next line says; where there is none, L1 with the number after that of the text's last
--- line, which is `past`
+-- the next line as `read` takes it; without a line L1 with `past`, the number after the last line's
 abbrev pub read_line : {A : Type 0} → (ℕ → List ℕ → Result A ListingFault) → ℕ → List Line
     → Result (A × List Line) ListingFault
 read_line read past [] = Err (BadLine past)
 read_line read past (l ∷ ls) = read l.number l.text >>= with_rest ls
 
--- L2 where the line has this first word and, with it, so many words, else L1
+-- L2 if the line has this first word and the right number of words, else L1
 abbrev pub fault_behind : List ℕ → Bool → ℕ → List ℕ → ListingFault
 fault_behind title has_count n text =
     if bytes_eq (first_word text) title && has_count then BadValue n else BadLine n
 
--- a line that is one word
+-- a line of one word
 abbrev pub read_word : List ℕ → ℕ → List ℕ → Result (Unit {0}) ListingFault
 read_word word n text = if bytes_eq text word then Ok tt else Err (BadLine n)
 
--- as many numbers as there are limits, each below its own
+-- one number below each limit
 unfoldable pub are_below : List ℕ → List ℕ → Bool
 are_below [] [] = true
 are_below (limit ∷ limits) (n ∷ ns) = nat_lt n limit && are_below limits ns
@@ -67,16 +65,16 @@ read_numbers title limits n text =
     then Ok (numbers_in text)
     else Err (fault_behind title (length (words_of text) == length limits + 1) n text)
 
--- the octets that hexadecimal digits could be
+-- the octets of a decoding, none after a fault
 abbrev pub octets_by : Result (List ℕ) FromHexError → List ℕ
 octets_by (Ok octets) = octets
 octets_by (Err fault) = []
 
--- the octets that these digits are, and none where they are no hexadecimal digits
+-- the octets of hexadecimal digits, none for other characters
 abbrev pub octets_in : List ℕ → List ℕ
 octets_in digits = octets_by (decode_of digits)
 
--- a line of octets, one at least
+-- a line of octets, at least one
 abbrev pub read_octets : List ℕ → Bool → ℕ → List ℕ → Result (List ℕ) ListingFault
 read_octets title has_count n text =
     let octets = octets_in (drop (length title + 1) text) in
@@ -88,19 +86,19 @@ read_octets title has_count n text =
 abbrev pub read_local : ℕ → List ℕ → Result (List ℕ) ListingFault
 read_local n text = read_octets (codes "local1") (length (words_of text) == 2) n text
 
--- the line of a section 2, which may be empty
+-- the line of a section 2, perhaps without octets
 abbrev pub read_section2 : ℕ → List ℕ → Result (List ℕ) ListingFault
 read_section2 n text =
     if bytes_eq text (codes "section2")
     then Ok []
     else read_octets (codes "section2") (length (words_of text) == 2) n text
 
--- whether the data are observed, and whether compressed
+-- the flags of a message
 pub record Flags : Type 0 where
   pub observed : Bool
   pub compressed : Bool
 
--- the flags of a line: one of the four lines that can be printed
+-- the flags of a line, one of the four that writers print
 abbrev pub read_flags : ℕ → List ℕ → Result Flags ListingFault
 read_flags n text =
     if bytes_eq text (flags_line false false)
@@ -122,12 +120,12 @@ pub record Described : Type 0 where
   pub descriptors : List ℕ
   pub tree : Tree
 
--- descriptors with their tree, or why they have none
+-- descriptors with their tree, or L3
 abbrev pub described : ℕ → List ℕ → Result Tree TemplateFault → Result Described ListingFault
 described n ds (Ok tree) = Ok (record { descriptors = ds; tree = tree })
 described n ds (Err fault) = Err (Refused n (causes.Template fault))
 
--- a line of descriptors, one at least, that have a template: L3 where they have none
+-- a line of descriptors, at least one, that have a template; L3 without one
 abbrev pub read_descriptors : Entries → ℕ → List ℕ → Result Described ListingFault
 read_descriptors tables n text =
     if not (length (descriptors_in text) == 0)
@@ -135,9 +133,9 @@ read_descriptors tables n text =
     then described n (descriptors_in text) (template tables (descriptors_in text))
     else Err (BadLine n)
 
--- ---- lines that may be absent
+-- ---- lines that a message may lack
 
--- the next line, where its first word is this one, else nothing
+-- the next line if it has this first word, else nothing
 abbrev pub read_if : {A : Type 0} → List ℕ → (ℕ → List ℕ → Result A ListingFault) → List Line
     → Result (Option A × List Line) ListingFault
 read_if title read [] = with_rest [] None
@@ -148,21 +146,20 @@ read_if title read (l ∷ ls) =
 
 -- ---- subsets
 
--- what was read of a subset, and of several: the items that the message has met by then, and the
--- lines after them
+-- the fields of a subset, the items of the message by then, and the lines after them
 pub record FieldsListed : Type 0 where
   pub fields : List Field
   pub items : ℕ
   pub rest : List Line
 
--- the subsets of some lines, how many items they have, and the lines after them
+-- subsets, the items of the message by then, and the lines after them
 pub record SubsetsListed : Type 0 where
   pub subsets : List Subset
   pub items : ℕ
   pub rest : List Line
 
--- the fields that a course asks for, a line each: L3 at the next line where no further field can
--- stand
+-- the fields that a course asks for, a line each; L3 at the next line if no further field can
+-- follow
 unfoldable pub fields_read : ℕ → Course → List Line → Result FieldsListed ListingFault
 fields_read past (ends n) ls = Ok (record { fields = []; items = n; rest = ls })
 fields_read past (stops met fault) [] = Err (BadLine past)
@@ -172,7 +169,7 @@ fields_read past (asks met d spec more) ls = do
   others ← fields_read past (more (number_of first.0.raw)) first.1
   Ok (record others { fields = first.0 ∷ others.fields })
 
--- subsets up to the line `end`; no more than so many lines are left
+-- subsets up to the line `end`; at most `left` lines are left
 unfoldable pub subsets_read : ℕ → ℕ → (ℕ → Course) → ℕ → List Line
     → Result SubsetsListed ListingFault
 subsets_read left past course used [] = Err (BadLine past)
@@ -188,24 +185,24 @@ subsets_read (suc left) past course used (l ∷ ls) =
           })
     ]
 
--- the subsets up to the line `end` and the lines after it
+-- the subsets up to the line `end`, and the lines after it
 abbrev pub subsets_of : ℕ → (ℕ → Course) → List Line → Result (List Subset × List Line) ListingFault
 subsets_of past course ls =
     result_map (λ r. (r.subsets, r.rest)) (subsets_read (length ls) past course 0 ls)
 
 -- ---- messages
 
--- what the numbers of section 1 are below, but those of its time, in the order of their line
+-- the limits of the numbers in the line `section1`
 abbrev pub section1_limits : List ℕ
 section1_limits =
     two_octets ∷ two_octets ∷ one_octet ∷ one_octet ∷ one_octet ∷ one_octet ∷ one_octet ∷ one_octet
     ∷ []
 
--- what the numbers of the time are below, from the year to the second
+-- the limits of the numbers in the line `time`
 abbrev pub time_limits : List ℕ
 time_limits = two_octets ∷ one_octet ∷ one_octet ∷ one_octet ∷ one_octet ∷ one_octet ∷ []
 
--- section 1 of its numbers, those of its time, and its local octets
+-- section 1 from its numbers, its time and its octets for local use
 abbrev pub head_with : List ℕ → List ℕ → Option (List ℕ) → Head
 head_with ns ts local =
     record {
@@ -226,7 +223,7 @@ head_with ns ts local =
       local = unwrap_or local [];
     }
 
--- section 1 and the lines after those that it has
+-- section 1, and the lines after its own
 abbrev pub head_read : ℕ → List Line → Result (Head × List Line) ListingFault
 head_read past ls = do
   begin ← read_line (read_word (codes "message")) past ls
@@ -259,7 +256,7 @@ message_read tables past ls = do
     subsets = found.subsets;
   })
 
--- the lines of messages up to the end; no more than so many are left
+-- the messages of all lines; at most `left` are left
 unfoldable pub messages_read : ℕ → Entries → ℕ → List Line → Result (List Message) ListingFault
 messages_read left tables past [] = Ok []
 messages_read zero tables past (l ∷ ls) = Err (BadLine past)

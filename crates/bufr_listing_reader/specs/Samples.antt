@@ -1,10 +1,10 @@
--- What the examples speak of.
+-- Texts and messages for the worked examples.
 use Rattle.std.specs.Prelude.{ℕ, ◌++◌, codes, List, [], ◌∷◌, map, true, Some, ℤ, pos}
 use Rattle.std.specs.Prelude.{Result, Ok, Err}
 use Rattle.std.specs.List.{flat_map}
 use Rattle.bufr_tables.specs.declared.element.Kind.{Kind}
 use Rattle.bufr_tables.specs.declared.element.Kind.TheVariants as kinds
-use Rattle.bufr_answers.specs.Answers.{result_map}
+use Rattle.bufr_base.specs.Answers.{result_map}
 use Rattle.bufr_tables.specs.Descriptors.{descriptor}
 use Rattle.bufr_expand.specs.declared.operators.Spec.{Spec}
 use Rattle.bufr_expand.specs.Samples.{sample}
@@ -20,13 +20,13 @@ use Rattle.bufr_listing_reader.specs.Reading.{messages_listed}
 
 -- ---- texts
 
--- the lines of a message up to its last field, and those fields
+-- the lines of a message before its subset
 abbrev pub listing_head : List ℕ
 listing_head =
     codes "message\nsection1 98 0 0 0 2 0 37 0\ntime 2024 1 15 12 0 0\nflags observed\n"
     ++ codes "descriptors 001001 001002 004001 004002 004003 004004 004005 012101\n"
 
--- the lines of the subset up to its last field
+-- the lines of the subset before its last field
 abbrev pub listing_fields : List ℕ
 listing_fields =
     codes "subset\n001001 10\n001002 384\n004001 2024\n004002 1\n004003 15\n004004 12\n004005 0\n"
@@ -39,7 +39,7 @@ listed_again text = listings_or_none (messages_listed sample text)
     listings_or_none (Ok messages) = flat_map listing messages
     listings_or_none (Err fault) = []
 
--- what is read of texts that begin so
+-- what reading returns for each text that begins with `front`
 abbrev pub read_each : List ℕ → List (List ℕ) → List (Result (List Message) ListingFault)
 read_each front others = map (λ other. messages_listed sample (front ++ other)) others
 
@@ -72,8 +72,8 @@ temperature_field n =
       raw = Number n;
     }
 
--- a message with another number in each place of section 1, octets for local use in both sections,
--- both flags and two subsets
+-- a message with a different number at each place of section 1, octets for local use in both
+-- sections, both flags and two subsets
 abbrev pub each_part : Message
 each_part =
     record {
@@ -87,11 +87,11 @@ each_part =
           ∷ record { fields = block_field 127 ∷ temperature_field 65535 ∷ [] } ∷ [];
     }
 
--- its lines around those of the octets for local use
+-- its lines before those of the octets for local use
 abbrev pub each_part_before : List ℕ
 each_part_before = codes "message\nsection1 258 772 5 6 7 8 9 10\ntime 2828 13 14 15 16 17\n"
 
--- and behind them
+-- its lines after them
 abbrev pub each_part_behind : List ℕ
 each_part_behind =
     codes "flags observed compressed\ndescriptors 001001 012101\n"
@@ -99,12 +99,12 @@ each_part_behind =
 
 -- ---- values
 
--- what is read of a word as the value of a field of this spec at line 7
+-- what reading returns for a word as the value of a field of this spec, at line 7
 abbrev pub word_read : Spec → List ℕ → Result Raw ListingFault
 word_read spec word =
     result_map (λ f. f.raw) (read_field (descriptor 0 1 1) spec 7 (codes "001001 " ++ word))
 
--- how a raw value of this spec is listed, and what is read of that word again
+-- the word of a raw value of this spec, and what reading returns for it
 abbrev pub listed_and_read : Kind → ℤ → ℤ → ℕ → Raw → List ℕ × Result Raw ListingFault
 listed_and_read kind scale reference width raw = (word, word_read spec word)
   where
@@ -114,7 +114,7 @@ listed_and_read kind scale reference width raw = (word, word_read spec word)
     word : List ℕ
     word = value_word (record { fxy = descriptor 0 1 1; spec = spec; raw = raw })
 
--- what is read of words as the value of a field of this spec
+-- what reading returns for words as the value of a field of this spec
 abbrev pub words_read : Kind → ℤ → ℤ → ℕ → List (List ℕ) → List (Result Raw ListingFault)
 words_read kind scale reference width words =
     map (word_read (record { kind = kind; scale = scale; reference = reference; width = width }))

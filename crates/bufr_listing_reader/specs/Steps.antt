@@ -1,4 +1,4 @@
--- Reading the lines of a subset field by field: what one step says of all that follows.
+-- Steps of reading a subset, each before all that follow.
 use Rattle.std.specs.Prelude.{◌≡◌, ℕ, List, [], ◌∷◌, ◌++◌, Option, Some, None}
 use Rattle.std.specs.Prelude.{Result, Ok, Err}
 use Rattle.bufr_expand.specs.Courses.{Course}
@@ -8,19 +8,19 @@ use Rattle.bufr_listing.specs.declared.fault.ListingFault.{ListingFault}
 use Rattle.bufr_listing_reader.specs.Lines.{Line}
 use Rattle.bufr_listing_reader.specs.Reading.{FieldsListed, SubsetsListed, fields_read}
 
--- these fields, and then those that are read
+-- these fields before those that follow
 abbrev pub behind_fields : List Field → Result FieldsListed ListingFault
     → Result FieldsListed ListingFault
 behind_fields fields (Ok found) = Ok (record found { fields = fields ++ found.fields })
 behind_fields fields (Err e) = Err e
 
--- these subsets, and then those that are read
+-- these subsets before those that follow
 abbrev pub behind_subsets : List Subset → Result SubsetsListed ListingFault
     → Result SubsetsListed ListingFault
 behind_subsets subsets (Ok found) = Ok (record found { subsets = subsets ++ found.subsets })
 behind_subsets subsets (Err e) = Err e
 
--- a field was read, or there is none and the message has met so many items
+-- a step reads a field and leaves the rest, or ends the subset at `items` items
 abbrev pub Reads : ℕ → Course → List Line → Option Field → Course → ℕ → List Line → Type 0
 Reads past course ls (Some field) after items rest =
     fields_read past course ls ≡ behind_fields (field ∷ []) (fields_read past after rest)

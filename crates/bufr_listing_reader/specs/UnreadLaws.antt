@@ -1,9 +1,9 @@
--- Laws of what a reader of messages has left: for loops that read one message after the other.
+-- Laws for loops that read one message after another.
 use Rattle.std.proofs.Common.{◌≡◌, List, [], ◌∷◌, ◌++◌, append_assoc, sym, ap}
 use Rattle.bufr_sections.specs.declared.message.Message.{Message}
 use Rattle.bufr_listing_reader.specs.Unread.{Unread, behind}
 
--- one message more behind others, and what is left behind it
+-- one message more after others, and what is left after it
 pub behind_one : (messages : List Message) (m : Message) (u : Unread)
     → behind messages (behind (m ∷ []) u) ≡ behind (messages ++ m ∷ []) u
 behind_one messages m u =

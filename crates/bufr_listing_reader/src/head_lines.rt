@@ -1,11 +1,11 @@
-//! Reading the lines of a message before its subsets.
+//! Reads the lines of a message before its subsets.
 
 ghost use Rattle.std.specs.Prelude.{◌≡◌, ◌∷◌, [], List, Option, ℕ, ◌≤◌, ◌==◌, length, codes};
 ghost use Rattle.std.specs.Prelude.{option_map, true, false, if◌then◌else◌, IfOk, IfErr};
 ghost use Rattle.std.specs.Str.{bytes_eq};
 ghost use Rattle.std.specs.List.{AllByRecursion};
 ghost use Rattle.hex.specs.declared.error.FromHexError.TheVariants.{OutOfMemory};
-ghost use Rattle.bufr_answers.specs.Answers.{Gives, Fails};
+ghost use Rattle.bufr_base.specs.Answers.{Gives, Fails};
 ghost use Rattle.bufr_tables.specs.Entries.{Entries};
 ghost use Rattle.bufr_expand.specs.Templates.{template};
 ghost use Rattle.bufr_listing_reader.specs.Limits.{two_octets};
@@ -18,15 +18,16 @@ ghost use Rattle.bufr_listing_reader.specs.Reading.{read_descriptors, Described,
 
 use crate::line_words::{Words, begins};
 use crate::lines::{Lines, TextLine};
-use bufr_answers::{Failure, Items};
-use bufr_expand::{KeptTemplates, Template};
+use bufr_base::{Failure, Items};
+use bufr_data::KeptTemplates;
+use bufr_expand::Template;
 use bufr_listing::{Cause, ListingFault};
 use bufr_tables::Fxy;
 use bufr_tables::laws::descriptor_texts;
 use std::alloc::Global;
 
-/// Reads a line that is this word alone.
-pub fn read_word(lines: &mut Lines, word: &[u8]) -> Result<(), Failure<ListingFault>>
+/// Reads a line of this word alone.
+pub(crate) fn read_word(lines: &mut Lines, word: &[u8]) -> Result<(), Failure<ListingFault>>
     requires { has_octets word.now ≡ false }
     ensures read { Gives {Y = Unit {0} × List Line} (λ u. (u, left lines.new)) result
         (read_line (read_word word.now) (past lines.old) (left lines.old)) }
@@ -40,8 +41,8 @@ pub fn read_word(lines: &mut Lines, word: &[u8]) -> Result<(), Failure<ListingFa
     }
 }
 
-/// Reads a line of numbers behind this word, one for each limit and below it.
-pub fn read_numbers(
+/// Reads a line of a first word and one number below each limit.
+pub(crate) fn read_numbers(
     alloc: Global,
     lines: &mut Lines,
     title: &[u8],
@@ -67,8 +68,8 @@ pub fn read_numbers(
     }
 }
 
-/// Reads the line of the octets for local use of section 1, where it is there.
-pub fn read_local(
+/// Reads the line `local1`, if it is next.
+pub(crate) fn read_local(
     alloc: Global,
     lines: &mut Lines,
 ) -> Result<Option<Vec<u8>>, Failure<ListingFault>>
@@ -86,8 +87,8 @@ pub fn read_local(
     }
 }
 
-/// Reads the line of section 2, where it is there.
-pub fn read_section2(
+/// Reads the line `section2`, if it is next.
+pub(crate) fn read_section2(
     alloc: Global,
     lines: &mut Lines,
 ) -> Result<Option<Items<u8>>, Failure<ListingFault>>
@@ -108,7 +109,7 @@ pub fn read_section2(
     }
 }
 
-/// The octets of a line, one at least, behind this first word.
+/// Reads the octets of a line, at least one, after its first word.
 fn octets_of(alloc: Global, line: TextLine, title: &[u8]) -> Result<Vec<u8>, Failure<ListingFault>>
     requires titled { first_word line.text.now ≡ title.now }
     requires octets { has_octets title.now ≡ true }
@@ -128,17 +129,16 @@ fn octets_of(alloc: Global, line: TextLine, title: &[u8]) -> Result<Vec<u8>, Fai
     }
 }
 
-/// What the line of the flags says.
+/// A line of flags.
 #[derive(Clone, Copy, Drop)]
-pub struct Flags {
+pub(crate) struct Flags {
     /// Whether the data are observed.
-    pub observed: bool,
+    pub(crate) observed: bool,
     /// Whether the data are compressed.
-    pub compressed: bool,
+    pub(crate) compressed: bool,
 }
 
-/// Reads the line of the flags.
-pub fn read_flags(lines: &mut Lines) -> Result<Flags, Failure<ListingFault>>
+pub(crate) fn read_flags(lines: &mut Lines) -> Result<Flags, Failure<ListingFault>>
     ensures read { Gives {Y = reading.Flags × List Line}
         (λ f. (record { observed = f.observed; compressed = f.compressed }, left lines.new)) result
         (read_line read_flags (past lines.old) (left lines.old)) }
@@ -175,8 +175,8 @@ pub fn read_flags(lines: &mut Lines) -> Result<Flags, Failure<ListingFault>>
     Err(bad_line(line))
 }
 
-/// Reads the line of the descriptors, one at least, which have a template.
-pub fn read_descriptors(
+/// Reads the line of the descriptors. Returns also their template.
+pub(crate) fn read_descriptors(
     alloc: Global,
     templates: &mut KeptTemplates<'_>,
     lines: &mut Lines,
@@ -193,7 +193,7 @@ pub fn read_descriptors(
     Ok((descriptors, template))
 }
 
-/// The descriptors of a line, one at least, or L1 where it is no line of them.
+/// Reads the descriptors of a line, at least one. L1 for any other line.
 fn descriptors_of(alloc: Global, line: TextLine) -> Result<Vec<Fxy>, Failure<ListingFault>>
     ensures ok { let n = line.entry.number in let text = as_printed line.entry.text.now in
         (tables : Entries) → IfOk result (λ ds. read_descriptors tables n text
@@ -211,7 +211,7 @@ fn descriptors_of(alloc: Global, line: TextLine) -> Result<Vec<Fxy>, Failure<Lis
     }
 }
 
-/// The template of the descriptors of a line, or L3 at this line where they have none.
+/// Builds the template of a line's descriptors. L3 at this line if they have none.
 fn template_of(
     alloc: Global,
     templates: &mut KeptTemplates<'_>,
@@ -230,15 +230,13 @@ fn template_of(
     }
 }
 
-/// L1 at a line.
-pub fn bad_line(line: TextLine) -> Failure<ListingFault>
+pub(crate) fn bad_line(line: TextLine) -> Failure<ListingFault>
     ensures { result ≡ Failure.Fault (ListingFault.BadLine line.entry.number) }
 {
     Failure::Fault(ListingFault::BadLine(u128::from(line.number)))
 }
 
-/// L2 at a line.
-pub fn bad_value(line: TextLine) -> Failure<ListingFault>
+pub(crate) fn bad_value(line: TextLine) -> Failure<ListingFault>
     ensures { result ≡ Failure.Fault (ListingFault.BadValue line.entry.number) }
 {
     Failure::Fault(ListingFault::BadValue(u128::from(line.number)))

@@ -1,6 +1,5 @@
-//! Laws of texts and the messages that they list, and of the texts of decimals.
+//! Laws on listings.
 
-ghost use Rattle.bufr_listing_reader.specs.DecimalTexts.{UnitsOfTexts};
 ghost use Rattle.bufr_listing_reader.specs.Laws.{MessagesReadAreListed};
 ghost use Rattle.bufr_listing_reader.specs.Laws.{MessagesListedAreRead, ListingsAreReadBack};
 ghost use Rattle.bufr_listing_reader.specs.Laws.{FaultsReadAreFirst, FirstFaultsAreRead};
@@ -11,7 +10,7 @@ use bufr_expand::laws::{
 use bufr_fields::laws::counted_subsets_fit;
 use bufr_tables::laws::descriptor_texts;
 
-/// Reading a text answers messages exactly where the text lists them, and these messages alone.
+/// Reading returns exactly the messages that a text lists.
 pub fn listings_list_messages()
     ensures read { MessagesReadAreListed }
     ensures listed { MessagesListedAreRead }
@@ -22,7 +21,7 @@ pub fn listings_list_messages()
     counted_subsets_fit();
 }
 
-/// The joined listings of messages are read back as these messages.
+/// Reading the joined listings of messages returns these messages.
 pub fn listings_are_read_back()
     ensures read { ListingsAreReadBack }
 {
@@ -32,12 +31,9 @@ pub fn listings_are_read_back()
     counted_subsets_fit();
 }
 
-/// Reading answers a fault exactly where it is the first of the text: the messages before it are
-/// listed, the lines of this one before it are those of some head, or of a head whose descriptors
-/// have a template, of subsets that fit and of fields with which a subset can begin; and the next
-/// line is none that could follow (L1, L2), or there is none (L1), or the descriptors have no tree
-/// or no field can follow (L3). So a text has one first fault at most, and has it exactly where it
-/// lists no messages.
+/// Reading returns a fault exactly if it is the first of the text: a listing can begin with the
+/// lines before it, and cannot go on with the next. So a text has at most one first fault, and has
+/// it exactly if it lists no messages.
 pub fn faults_of_listings_are_the_first()
     ensures given { FaultsReadAreFirst }
     ensures answered { FirstFaultsAreRead }
@@ -49,9 +45,3 @@ pub fn faults_of_listings_are_the_first()
     courses_are_unrollings();
     courses_begin_unrollings();
 }
-
-/// The units of a decimal are the only ones that its text can have at its scale: so a decimal is
-/// read of its text by one candidate.
-pub fn texts_have_one_decimal()
-    ensures { UnitsOfTexts }
-{}

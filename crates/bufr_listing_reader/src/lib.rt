@@ -1,8 +1,6 @@
-//! Texts of listings, read as the messages that they list.
+//! Reads listings: texts into the messages that they list.
 #![tactic(auto)]
 
-mod decimals;
-mod digits;
 mod head_lines;
 pub mod laws;
 mod line_ends;
@@ -15,6 +13,5 @@ mod unread;
 mod worked_values;
 
 pub use bufr_listing::{Cause, ListingFault};
-pub use decimals::parse_decimal;
 pub use messages::read;
 pub use unread::Messages;

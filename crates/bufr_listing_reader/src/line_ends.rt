@@ -1,4 +1,4 @@
-//! Where the lines of a text end.
+//! Splits a text into lines.
 
 ghost use Rattle.std.specs.Prelude.{◌≡◌, option_map};
 ghost use Rattle.bufr_listing_reader.specs.Lines.{is_skipped};
@@ -7,8 +7,8 @@ ghost use Rattle.bufr_listing_reader.specs.Cursors.{first_line_of};
 
 use memchr::memchr;
 
-/// The first line of a text without its end, and what stands behind it.
-pub fn first_line(text: &[u8]) -> Option<(&[u8], &[u8])>
+/// Splits off the first line, without its end.
+pub(crate) fn first_line(text: &[u8]) -> Option<(&[u8], &[u8])>
     ensures { option_map (λ x. (x.0.now, x.1.now)) result ≡ first_line_of text.now }
 {
     if text.is_empty() {
@@ -20,7 +20,6 @@ pub fn first_line(text: &[u8]) -> Option<(&[u8], &[u8])>
     }
 }
 
-/// A line without the one CR at its end, if it has one.
 fn without_return(line: &[u8]) -> &[u8]
     ensures { result.now ≡ cursors.without_return line.now }
 {
@@ -31,7 +30,7 @@ fn without_return(line: &[u8]) -> &[u8]
 }
 
 /// Whether a line is empty or begins with `#`.
-pub fn is_comment(line: &[u8]) -> bool
+pub(crate) fn is_comment(line: &[u8]) -> bool
     ensures { result ≡ is_skipped line.now }
 {
     match line.first() {

@@ -1,4 +1,4 @@
-//! The words of a line.
+//! Reads the words of a line, which one space separates.
 
 ghost use Rattle.std.specs.Prelude.{◌≡◌, ◌==◌, ◌^◌, ◌∷◌, [], length, drop, nat_le, IfOk, IfNone};
 ghost use Rattle.std.specs.Prelude.{IfSome, option_map};
@@ -8,29 +8,28 @@ ghost use Rattle.bufr_listing_reader.specs.Lines.{first_word, words_of};
 ghost use Rattle.bufr_listing_reader.specs.Words.{words_left, below, number_below, numbers_of};
 ghost use Rattle.bufr_listing_reader.specs.Words.{descriptors_of};
 
-use crate::decimals::parse_decimal;
-use bufr_answers::OutOfMemory;
+use bufr_base::OutOfMemory;
+use bufr_fields::Decimal;
 use bufr_tables::Fxy;
 use std::alloc::Global;
 
-/// The words that are left of a line: none, or those of a text, which are parted by one space.
+/// A cursor over the words of a line.
 #[derive(Clone, Copy)]
-pub struct Words<'a> {
+pub(crate) struct Words<'a> {
     rest: Option<&'a [u8]>,
 }
 
 impl<'a> Words<'a> {
-    /// The words of a text.
+    /// Starts at the first word of a text.
     #[tactic(auto, unfolding(crate::specs::Words::words_left))]
-    pub fn of(text: &'a [u8]) -> Words<'a>
+    pub(crate) fn of(text: &'a [u8]) -> Words<'a>
         ensures { words_left result ≡ words_of text.now }
     {
         Words { rest: Some(text) }
     }
 
-    /// The next word.
     #[tactic(auto, unfolding(crate::specs::Words::words_left))]
-    pub fn next(&mut self) -> Option<&'a [u8]>
+    pub(crate) fn next(&mut self) -> Option<&'a [u8]>
         ensures none { IfNone result (words_left self.old ≡ []) }
         ensures some { IfSome result (λ w. words_left self.old ≡ w.now ∷ words_left self.new) }
     {
@@ -47,8 +46,8 @@ impl<'a> Words<'a> {
         }
     }
 
-    /// The words of a line behind its first.
-    pub fn behind_first(line: &'a [u8]) -> Words<'a>
+    /// Starts after the first word of a line.
+    pub(crate) fn behind_first(line: &'a [u8]) -> Words<'a>
         ensures { words_left result ≡ drop 1 (words_of line.now) }
     {
         let mut words = Words::of(line);
@@ -58,8 +57,8 @@ impl<'a> Words<'a> {
         }
     }
 
-    /// The word that is left, where it is the only one.
-    pub fn only(mut self) -> Option<&'a [u8]>
+    /// Returns the word left, if it is the only one.
+    pub(crate) fn only(mut self) -> Option<&'a [u8]>
         ensures none { IfNone result (length (words_left self.entry) ≡ 1 → ⊥) }
         ensures some { IfSome result (λ w. words_left self.entry ≡ w.now ∷ []) }
     {
@@ -70,8 +69,8 @@ impl<'a> Words<'a> {
         }
     }
 
-    /// Whether so many words are left.
-    pub fn has_count(mut self, count: usize) -> bool
+    /// Whether `count` words are left.
+    pub(crate) fn has_count(mut self, count: usize) -> bool
         ensures { result ≡ (length (words_left self.entry) == count) }
     {
         for _i in 0..count {
@@ -82,8 +81,8 @@ impl<'a> Words<'a> {
         self.next().is_none()
     }
 
-    /// Whether so many words are left at most.
-    pub fn has_at_most(mut self, count: usize) -> bool
+    /// Whether at most `count` words are left.
+    pub(crate) fn has_at_most(mut self, count: usize) -> bool
         ensures { result ≡ nat_le (length (words_left self.entry)) count }
     {
         for _i in 0..count {
@@ -94,8 +93,12 @@ impl<'a> Words<'a> {
         self.next().is_none()
     }
 
-    /// The numbers that the words are, one for each limit and below it, or `None`.
-    pub fn numbers(mut self, alloc: Global, limits: &[u64]) -> Result<Option<Vec<u64>>, OutOfMemory>
+    /// Reads the words left as numbers, one below each limit.
+    pub(crate) fn numbers(
+        mut self,
+        alloc: Global,
+        limits: &[u64],
+    ) -> Result<Option<Vec<u64>>, OutOfMemory>
         ensures { IfOk result (λ o. option_map (λ ns. ns.items) o
             ≡ numbers_of limits.now (words_left self.entry)) }
     {
@@ -116,8 +119,8 @@ impl<'a> Words<'a> {
         })
     }
 
-    /// The descriptors that the words are, or `None`.
-    pub fn descriptors(mut self, alloc: Global) -> Result<Option<Vec<Fxy>>, OutOfMemory>
+    /// Reads the words left as descriptors.
+    pub(crate) fn descriptors(mut self, alloc: Global) -> Result<Option<Vec<Fxy>>, OutOfMemory>
         ensures { IfOk result (λ o. option_map (λ ds. ds.items) o
             ≡ descriptors_of (words_left self.entry)) }
     {
@@ -132,8 +135,8 @@ impl<'a> Words<'a> {
     }
 }
 
-/// Whether the first word of a line is this one.
-pub fn begins(line: &[u8], word: &[u8]) -> bool
+/// Whether a line begins with this word.
+pub(crate) fn begins(line: &[u8], word: &[u8]) -> bool
     ensures { result ≡ bytes_eq (first_word line.now) word.now }
 {
     match Words::of(line).next() {
@@ -142,23 +145,22 @@ pub fn begins(line: &[u8], word: &[u8]) -> bool
     }
 }
 
-/// The number below this limit that a word is the digits of, without leading zeros.
+/// Reads the digits of a number below a limit, without leading zeros.
 fn number_below(limit: u64, word: &[u8]) -> Option<u64>
     ensures { result ≡ number_below limit word.now }
 {
-    let value = parse_decimal(word, 0)?;
+    let value = Decimal::parse(word, 0)?;
     let number = natural(value.units)?;
     if number < limit { Some(number) } else { None }
 }
 
-/// A number without a sign that fits 64 bits.
-pub fn natural(units: i128) -> Option<u64>
+/// Converts units to 64 bits without a sign, if they fit.
+pub(crate) fn natural(units: i128) -> Option<u64>
     ensures { result ≡ below (2 ^ 64) units }
 {
     u64::try_from(units).ok()
 }
 
-/// Where the first space of a text stands.
 fn space_in(text: &[u8]) -> Option<usize>
     ensures { result ≡ position (λ c. c == 32) text.now }
 {

@@ -1,24 +1,24 @@
-//! The lines of a listing, one after the other.
+//! Reads the lines of a listing in turn.
 
 ghost use Rattle.std.specs.Prelude.{◌<◌, ◌+◌, ◌^◌, length};
 
 use crate::line_ends::{first_line, is_comment};
-use bufr_answers::Failure;
+use bufr_base::Failure;
 use bufr_listing::ListingFault;
 
-/// A line that counts: its number in the text, from 1, and its octets without its end.
+/// A line that is neither empty nor a comment.
 #[derive(Clone, Copy, Debug)]
-pub struct TextLine<'a> {
-    /// Its number in the listing, from 1.
-    pub number: u64,
-    /// Its octets without the line end.
-    pub text: &'a [u8],
+pub(crate) struct TextLine<'a> {
+    /// The number of the line in the text, from 1.
+    pub(crate) number: u64,
+    /// The octets without the line end.
+    pub(crate) text: &'a [u8],
 }
 
-/// The lines that are left: the next one that counts, and the text behind it. How many lines were
-/// found so far, those that are skipped too. Each line is found once.
+/// A cursor over the lines: the next one, the text after it, and the number of lines found,
+/// comments among them. Finds each line once.
 #[derive(Clone, Copy, Debug)]
-pub struct Lines<'a> {
+pub(crate) struct Lines<'a> {
     next: Option<TextLine<'a>>,
     rest: &'a [u8],
     found: u64,
@@ -28,14 +28,14 @@ pub struct Lines<'a> {
 impl<'a> Lines<'a> {
     ghost use Rattle.std.specs.Prelude.{◌≡◌};
     ghost use Rattle.std.specs.Str.Lines.{lines};
-    ghost use Rattle.bufr_answers.specs.Answers.{Gives};
+    ghost use Rattle.bufr_base.specs.Answers.{Gives};
     ghost use Rattle.bufr_listing_reader.specs.Lines.{counting_from, counting_lines};
     ghost use Rattle.bufr_listing_reader.specs.Cursors as cursors;
     ghost use Rattle.bufr_listing_reader.specs.Cursors.{printed, next_of};
 
-    /// All lines of a text.
+    /// Starts at the first line of a text.
     #[tactic(auto, unfolding(crate::specs::Cursors::left, crate::specs::Cursors::past))]
-    pub fn of(text: &'a [u8]) -> Lines<'a>
+    pub(crate) fn of(text: &'a [u8]) -> Lines<'a>
         ensures lines { cursors.left result ≡ counting_lines text.now }
         ensures past { cursors.past result ≡ length (lines text.now) + 1 }
     {
@@ -48,17 +48,17 @@ impl<'a> Lines<'a> {
         all
     }
 
-    /// The next line, which stays.
+    /// Returns the next line, and stays there.
     #[tactic(auto, using(crate::specs::Cursors::next_is), unfolding(crate::specs::Cursors::left, crate::specs::Cursors::past))]
-    pub fn peek(&self) -> Option<TextLine<'a>>
+    pub(crate) fn peek(&self) -> Option<TextLine<'a>>
         ensures { cursors.IsNextLine (cursors.left self.now) result }
     {
         self.next
     }
 
-    /// The next line, or L1 with the number after that of the text's last line.
+    /// Returns the next line. After the last, L1 with the next number.
     #[tactic(auto, unfolding(crate::specs::Cursors::left, crate::specs::Cursors::past))]
-    pub fn take(&mut self) -> Result<TextLine<'a>, Failure<ListingFault>>
+    pub(crate) fn take(&mut self) -> Result<TextLine<'a>, Failure<ListingFault>>
         ensures taken { Gives (λ x. (printed x, cursors.left self.new)) result
             (next_of (cursors.past self.old) (cursors.left self.old)) }
         ensures past { cursors.past self.new ≡ cursors.past self.old }
@@ -72,9 +72,8 @@ impl<'a> Lines<'a> {
         }
     }
 
-    /// Passes the next line, where there is one.
     #[tactic(auto, unfolding(crate::specs::Cursors::left, crate::specs::Cursors::past))]
-    pub fn pass(&mut self)
+    pub(crate) fn pass(&mut self)
         ensures lines { cursors.left self.new ≡ cursors.behind (cursors.left self.old) }
         ensures past { cursors.past self.new ≡ cursors.past self.old }
     {
@@ -83,7 +82,7 @@ impl<'a> Lines<'a> {
         }
     }
 
-    /// Finds the next line that counts.
+    /// Finds the next line that is neither empty nor a comment.
     #[tactic(auto, unfolding(crate::specs::Cursors::left, crate::specs::Cursors::past))]
     fn find(&mut self)
         ensures lines { cursors.left self.new

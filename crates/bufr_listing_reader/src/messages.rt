@@ -1,7 +1,7 @@
-//! Reading listings.
+//! Reads listings.
 
 ghost use Rattle.std.specs.Prelude.{◌≡◌, List, true, Ok, Err, IfOk, option_map};
-ghost use Rattle.bufr_answers.specs.Answers.{Gives};
+ghost use Rattle.bufr_base.specs.Answers.{Gives};
 ghost use Rattle.bufr_listing_reader.specs.Cursors.{left, past};
 ghost use Rattle.bufr_listing_reader.specs.Lines.{Line, Listed};
 ghost use Rattle.bufr_listing_reader.specs.FirstFaults.{FirstFault};
@@ -17,54 +17,46 @@ use crate::laws::{faults_of_listings_are_the_first, listings_list_messages};
 use crate::lines::Lines;
 use crate::subsets::read_subsets;
 use crate::unread::Messages;
-use bufr_answers::{Failure, Items};
-use bufr_expand::KeptTemplates;
+use bufr_base::{Failure, Items};
+use bufr_data::KeptTemplates;
 use bufr_listing::ListingFault;
 use bufr_sections::{Head, Message};
 use bufr_tables::Tables;
 use std::alloc::Global;
 
-/// A number that stands in one octet is below this.
-pub const ONE_OCTET: u64 = 256;
+/// A number of one octet is below this.
+pub(crate) const ONE_OCTET: u64 = 256;
 
-/// A number that stands in two octets is below this.
-pub const TWO_OCTETS: u64 = 65_536;
+/// A number of two octets is below this.
+pub(crate) const TWO_OCTETS: u64 = 65_536;
 
-/// What the numbers of section 1 are below, but those of its time, in the order of their line.
+/// The limits of the numbers in the line `section1`.
 const SECTION1_LIMITS: [u64; 8] = [
     TWO_OCTETS, TWO_OCTETS, ONE_OCTET, ONE_OCTET, ONE_OCTET, ONE_OCTET, ONE_OCTET, ONE_OCTET,
 ];
 
-/// What the numbers of the time are below, from the year to the second.
+/// The limits of the numbers in the line `time`.
 const TIME_LIMITS: [u64; 6] = [
     TWO_OCTETS, ONE_OCTET, ONE_OCTET, ONE_OCTET, ONE_OCTET, ONE_OCTET,
 ];
 
-/// The messages that a listing lists, of zero or more blocks. Lines end with LF, which the last may
-/// lack, and a CR before it is cut; empty lines and lines that begin with `#` are skipped, and
-/// count as lines. Else the first fault in the order of lines, on one line L3, L1, L2: L1 `BadLine`
-/// where a line is not the one that is expected, or the text ends within a block; L2 `BadValue`
-/// where another word of it is none that its place can have; L3 `Refused` with X1 to X9 at the line
-/// of the descriptors, and with V1 `EffectiveRange` or V6 `TooLarge` at the line where a field or a
-/// subset's end is expected. Items count over the message. `OutOfMemory` where a growth was
-/// refused.
+/// Returns the messages that a text lists, perhaps none. Lines end with LF or CR LF; the last may
+/// have no end. Skips lines that are empty or begin with `#`, but counts them. Else returns the
+/// first fault by lines; on one line L3 comes first, then L1, then L2. X1 to X9 come at the line of
+/// the descriptors, V1 and V6 at the line of the next field or subset end. Items count over the
+/// message.
 pub fn read(
     alloc: Global,
     tables: &Tables,
     text: &[u8],
 ) -> Result<Vec<Message>, Failure<ListingFault>>
-    // What is read is listed so.
     ensures found { IfOk result (λ v. Listed tables.now text.now v.items) }
-    // What is listed so is read, and these messages alone, unless memory runs out.
     ensures only { (messages : List Message) → Listed tables.now text.now messages
         → Gives (λ v. v.items) result (Ok messages) }
-    // A fault is the first of the text.
     ensures first { (fault : ListingFault) → result ≡ Err (Failure.Fault fault)
         → FirstFault tables.now text.now fault }
-    // The first fault of the text is told, unless memory runs out.
     ensures told { (fault : ListingFault) → FirstFault tables.now text.now fault
         → Gives {Y = List Message} (λ v. v.items) result (Err fault) }
-    // Which messages, or which fault, these are.
     ensures exact { Gives (λ v. v.items) result (messages_listed tables.now text.now) }
 {
     listings_list_messages();
@@ -72,7 +64,7 @@ pub fn read(
     messages_listed(alloc, tables, text)
 }
 
-/// The messages that a text lists: the one clause from which `read` has its others.
+/// Reads all messages for `read`.
 fn messages_listed(
     alloc: Global,
     tables: &Tables,
@@ -88,7 +80,6 @@ fn messages_listed(
     Ok(messages)
 }
 
-/// Reads the lines of one message.
 pub(crate) fn read_message(
     alloc: Global,
     templates: &mut KeptTemplates<'_>,
@@ -114,7 +105,6 @@ pub(crate) fn read_message(
     })
 }
 
-/// Reads the lines of section 1.
 fn read_head(alloc: Global, lines: &mut Lines) -> Result<Head, Failure<ListingFault>>
     ensures read { Gives {Y = Head × List Line} (λ h. (h, left lines.new)) result
         (head_read (past lines.old) (left lines.old)) }
@@ -127,7 +117,7 @@ fn read_head(alloc: Global, lines: &mut Lines) -> Result<Head, Failure<ListingFa
     Ok(head_of(alloc, &numbers, &time, local))
 }
 
-/// Section 1 of its numbers, those of its time, and its octets for local use, if there are any.
+/// Makes section 1 from its numbers and its octets for local use.
 #[tactic(auto, using(crate::proofs::AnswerFacts::local_items))]
 fn head_of(alloc: Global, numbers: &[u64], time: &[u64], local: Option<Vec<u8>>) -> Head
     requires numbers { are_below section1_limits numbers.now ≡ true }

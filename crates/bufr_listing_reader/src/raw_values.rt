@@ -1,4 +1,4 @@
-//! The raw values that words print.
+//! Reads words as raw values.
 
 ghost use Rattle.bufr_listing_reader.specs.Words.{below};
 ghost use Rattle.std.specs.Prelude.{◌≡◌, ◌≤◌, ◌^◌, ◌-◌, ◌-ℤ◌, IfOk, option_map};
@@ -7,20 +7,19 @@ ghost use Rattle.bufr_listing_reader.specs.RawWords.{raw_of, number_of, text_of,
 ghost use Rattle.bufr_listing_reader.specs.RawWords.{lower_value};
 ghost use Rattle.bufr_fields.specs.Limits.{most_raw_bits};
 
-use crate::decimals::parse_decimal;
 use crate::line_words::natural;
-use bufr_answers::{Items, OutOfMemory};
+use bufr_base::{Items, OutOfMemory};
 use bufr_expand::Spec;
-use bufr_fields::{MOST_DECIMAL_SCALE, MOST_RAW_BITS, Raw};
+use bufr_fields::{Decimal, MOST_DECIMAL_SCALE, MOST_RAW_BITS, Raw, are_ones};
 use bufr_listing::stands_for_itself;
 use bufr_tables::Kind;
 use std::alloc::Global;
 
-/// What stands for a missing value.
+/// The word for a missing value.
 const MISSING: &[u8] = b"missing";
 
-/// The raw value of a field of this spec that prints this word, or `None` where there is none.
-pub fn raw_of(alloc: Global, spec: Spec, word: &[u8]) -> Result<Option<Raw>, OutOfMemory>
+/// Returns the raw value of this spec that prints this word, if there is one.
+pub(crate) fn raw_of(alloc: Global, spec: Spec, word: &[u8]) -> Result<Option<Raw>, OutOfMemory>
     ensures { IfOk result (λ o. o ≡ raw_of spec word.now) }
 {
     if spec.scale < -MOST_DECIMAL_SCALE || spec.scale > MOST_DECIMAL_SCALE {
@@ -38,7 +37,7 @@ pub fn raw_of(alloc: Global, spec: Spec, word: &[u8]) -> Result<Option<Raw>, Out
     }
 }
 
-/// The number of a field of this spec, of another kind than text, that prints this word.
+/// Returns the number of this spec that prints this word, for any kind but texts.
 fn number_of(spec: Spec, word: &[u8]) -> Option<u64>
     ensures { result ≡ number_of spec word.now }
 {
@@ -52,19 +51,19 @@ fn number_of(spec: Spec, word: &[u8]) -> Option<u64>
             None
         };
     }
-    let value = parse_decimal(word, spec.scale)?;
+    let value = Decimal::parse(word, spec.scale)?;
     let number = above(value.units, spec.reference)?;
     unless_missing(spec, number)
 }
 
-/// Whether a number of this spec may be missing.
+/// Whether all ones mean a missing value: not in one bit, nor in a count.
 fn may_be_missing(spec: Spec) -> bool
     ensures { result ≡ words.may_be_missing spec }
 {
     spec.width != 1 && !matches!(spec.kind, Kind::Count)
 }
 
-/// A number, where it fits this spec and is not that of a missing value.
+/// Returns the number if it fits the spec and is not the missing value.
 fn unless_missing(spec: Spec, number: u64) -> Option<u64>
     requires { spec.width ≤ most_raw_bits }
     ensures { result ≡ words.unless_missing spec number }
@@ -77,14 +76,13 @@ fn unless_missing(spec: Spec, number: u64) -> Option<u64>
     }
 }
 
-/// How far units are above a reference value, which fits 64 bits.
+/// Returns how far units are above a reference value, if 64 bits hold it.
 fn above(units: i128, reference: i64) -> Option<u64>
     ensures { result ≡ below (2 ^ 64) (units -ℤ reference) }
 {
     natural(units.checked_sub(i128::from(reference))?)
 }
 
-/// The greatest number of so many bits.
 fn greatest(width: u32) -> u64
     requires { width ≤ most_raw_bits }
     ensures { result ≡ 2 ^ width - 1 }
@@ -96,7 +94,7 @@ fn greatest(width: u32) -> u64
     }
 }
 
-/// The octets of a text field of so many bits that print this word.
+/// Returns the octets of a text field of `width` bits that print this word.
 fn text_of(alloc: Global, width: u32, word: &[u8]) -> Result<Option<Vec<u8>>, OutOfMemory>
     ensures { IfOk result (λ o. option_map (λ v. v.items) o ≡ text_of width word.now) }
 {
@@ -121,14 +119,7 @@ fn text_of(alloc: Global, width: u32, word: &[u8]) -> Result<Option<Vec<u8>>, Ou
     }
 }
 
-/// Whether all octets are 255.
-fn are_ones(octets: &[u8]) -> bool
-    ensures { result ≡ words.are_ones octets.now }
-{
-    octets.iter().all(|octet| *octet == 255)
-}
-
-/// The octets, so many, that stand between quotes as this word.
+/// Reads `count` octets between quotes.
 fn octets_of(alloc: Global, count: usize, word: &[u8]) -> Result<Option<Vec<u8>>, OutOfMemory>
     ensures { IfOk result (λ o. option_map (λ v. v.items) o ≡ octets_of count word.now) }
 {
@@ -138,7 +129,7 @@ fn octets_of(alloc: Global, count: usize, word: &[u8]) -> Result<Option<Vec<u8>>
     }
 }
 
-/// The octets, so many, that stand before the quote at the end of a text.
+/// Reads `count` octets up to the quote that ends the text.
 fn octets_before(alloc: Global, count: usize, text: &[u8]) -> Result<Option<Vec<u8>>, OutOfMemory>
     ensures { IfOk result (λ o. option_map (λ v. v.items) o
         ≡ words.octets_before count text.now) }
@@ -161,7 +152,7 @@ fn octets_before(alloc: Global, count: usize, text: &[u8]) -> Result<Option<Vec<
     })
 }
 
-/// The octet that stands at the front of a text between quotes, and what stands behind it.
+/// Reads the first octet of a text between quotes. Returns also the text after it.
 fn first_octet(text: &[u8]) -> Option<(u8, &[u8])>
     ensures { option_map (λ x. (x.0, x.1.now)) result ≡ first_octet text.now }
 {
@@ -179,7 +170,7 @@ fn first_octet(text: &[u8]) -> Option<(u8, &[u8])>
     }
 }
 
-/// The value of a hexadecimal digit as it is printed.
+/// Returns the value of a lower hexadecimal digit.
 fn lower_value(digit: u8) -> Option<u8>
     ensures { result ≡ lower_value digit }
 {

@@ -1,9 +1,9 @@
-//! Reading the lines of subsets.
+//! Reads the lines of subsets.
 
 ghost use Rattle.std.specs.Prelude.{◌≡◌, ◌++◌, ◌∷◌, [], List, take, OnSome, IfOk, IfErr};
 ghost use Rattle.std.specs.Str.{bytes_eq};
 ghost use Rattle.bufr_tables.specs.Descriptors.{six_digits};
-ghost use Rattle.bufr_answers.specs.Answers.{Gives, Fails};
+ghost use Rattle.bufr_base.specs.Answers.{Gives, Fails};
 ghost use Rattle.bufr_expand.specs.Courses.{course};
 ghost use Rattle.bufr_expand.specs.Walks as walks;
 ghost use Rattle.bufr_fields.specs.Forms as forms;
@@ -17,7 +17,7 @@ ghost use Rattle.bufr_listing_reader.specs.Steps.{Reads};
 use crate::head_lines::{bad_line, bad_value, read_word};
 use crate::lines::Lines;
 use crate::raw_values::raw_of;
-use bufr_answers::{Failure, Items};
+use bufr_base::{Failure, Items};
 use bufr_expand::laws::courses_are_steady;
 use bufr_expand::{Spec, Step, Template, Walk};
 use bufr_fields::{Field, Raw, Subset};
@@ -25,8 +25,8 @@ use bufr_listing::{Cause, ListingFault, title};
 use bufr_tables::Fxy;
 use std::alloc::Global;
 
-/// Reads subsets up to the line `end`. The items count over all of them.
-pub fn read_subsets(
+/// Reads subsets up to the line `end`. Items count over all of them.
+pub(crate) fn read_subsets(
     alloc: Global,
     template: &Template,
     lines: &mut Lines,
@@ -47,7 +47,6 @@ pub fn read_subsets(
     Ok(subsets)
 }
 
-/// Whether the next line ends the message.
 fn ends(lines: &Lines) -> bool
     ensures { result ≡ is_end (left lines.now) }
 {
@@ -57,8 +56,8 @@ fn ends(lines: &Lines) -> bool
     }
 }
 
-/// Reads the lines of the fields of one subset, before which the message had met `used` items, and
-/// tells how many it has met then.
+/// Reads the fields of one subset. `used` counts the message's items before it. Returns also the
+/// count after it.
 fn read_fields(
     alloc: Global,
     template: &Template,
@@ -79,8 +78,8 @@ fn read_fields(
     Ok((Items::from_vec(fields), walk.items()))
 }
 
-/// Reads the line of the field that a walk asks for, or tells that there is none. Where the walk
-/// stops, it is L3 at the next line, or L1 where there is none.
+/// Reads the line of the field that a walk asks for, `None` at the subset's end. If the walk stops,
+/// L3 at the next line, or L1 without one.
 fn read_field(
     alloc: Global,
     walk: &mut Walk,
@@ -116,7 +115,7 @@ fn read_field(
     }
 }
 
-/// The number of a raw value, which is 0 for a text.
+/// Returns the number of a raw value, 0 for a text.
 fn number_of(raw: &Raw) -> u64
     ensures { result ≡ forms.number_of raw.now }
 {
@@ -126,7 +125,6 @@ fn number_of(raw: &Raw) -> u64
     }
 }
 
-/// Reads the line of a field of this descriptor and this spec.
 fn read_value(
     alloc: Global,
     lines: &mut Lines,
@@ -147,7 +145,6 @@ fn read_value(
     }
 }
 
-/// Whether a line begins with this descriptor and a space.
 fn begins_field(text: &[u8], fxy: Fxy) -> bool
     ensures { result ≡ bytes_eq (take 7 text.now) (six_digits fxy ++ 32 ∷ []) }
 {

@@ -1,12 +1,10 @@
-//! Worked examples of listings: what is written of messages, what is read of texts, and the decimals
-//! of texts.
+//! Worked examples of listings, written and read.
 
 ghost use Rattle.std.specs.Prelude.{◌≡◌, ◌+◌, ◌-◌, ◌^◌, ◌++◌, ◌∷◌, [], map, Ok, Err, Some, None};
 ghost use Rattle.std.specs.Prelude.{codes, replicate, pos, negsuc, true, false};
 ghost use Rattle.bufr_tables.specs.Descriptors.{descriptor};
 ghost use Rattle.bufr_expand.specs.Samples.{sample};
 ghost use Rattle.bufr_listing.specs.Listings.{listing};
-ghost use Rattle.bufr_listing_reader.specs.DecimalTexts.{decimal_of, units_by};
 ghost use Rattle.bufr_listing_reader.specs.Reading.{messages_listed};
 ghost use Rattle.bufr_listing_reader.specs.Samples.{listed_again, listing_head, listing_fields, read_each};
 ghost use Rattle.bufr_listing_reader.specs.Samples.{numbers_of_head, each_part, each_part_before};
@@ -17,8 +15,7 @@ use bufr_fields::Raw;
 use bufr_listing::{Cause, ListingFault};
 use bufr_tables::Kind;
 
-/// A listing that is read and listed again: a comment, an empty line, CR before LF, a last line
-/// without LF.
+/// Reads and lists again: a comment, an empty line, CR before LF, no LF at the end.
 #[tactic(auto, unfolding(crate::proofs::OnLiterals::listings_on_literals))]
 pub fn listings()
     ensures missing { listed_again
@@ -26,8 +23,7 @@ pub fn listings()
         ≡ listing_head ++ listing_fields ++ codes "012101 missing\nend\n" }
 {}
 
-/// A message with another number or word in each place, as it is listed and read; hexadecimal
-/// digits in upper case are read too.
+/// A message with different values at each place, and upper hexadecimal digits.
 #[tactic(auto, unfolding(crate::proofs::OnLiterals::listings_on_literals))]
 pub fn parts_of_listings()
     ensures listed { listing each_part
@@ -48,8 +44,7 @@ pub fn parts_of_listings()
         ++ numbers_of_head ++ codes "flags\ndescriptors 301011\nend\n" }
 {}
 
-/// Lines that are skipped are empty, or begin with `#`; one CR before an LF is cut. A line that is
-/// neither and no `message` is L1, by its number in the text.
+/// Lines that reading skips before a message, and others, which are L1.
 #[tactic(auto, unfolding(crate::proofs::OnLiterals::listings_on_literals))]
 pub fn first_lines()
     ensures others { read_each []
@@ -71,8 +66,7 @@ pub fn first_lines()
         ≡ Err (ListingFault.BadLine 4) }
 {}
 
-/// The line of section 1 has eight numbers, of which the first two stand in two octets and the
-/// others in one; that of the time has six, of which the first stands in two.
+/// Numbers of section 1 and of the time, at their limits.
 #[tactic(auto, unfolding(crate::proofs::OnLiterals::listings_on_literals))]
 pub fn numbers_of_heads()
     ensures greatest { read_each (codes "message\nsection1 ")
@@ -120,8 +114,7 @@ pub fn numbers_of_heads()
         ≡ replicate 2 (Err (ListingFault.BadLine 3)) }
 {}
 
-/// Lines behind the time, each at the fourth line or the fifth: octets for local use, section 2,
-/// flags and descriptors.
+/// Lines after the time.
 #[tactic(auto, unfolding(crate::proofs::OnLiterals::listings_on_literals))]
 pub fn later_lines()
     ensures values { read_each numbers_of_head
@@ -176,7 +169,7 @@ pub fn later_lines()
         (Cause.Template (TemplateFault.UnknownElement (descriptor 0 1 250)))) }
 {}
 
-/// Lines of subsets behind one descriptor, from the sixth line on, and the last line of a message.
+/// Lines of subsets, and the last line.
 #[tactic(auto, unfolding(crate::proofs::OnLiterals::listings_on_literals))]
 pub fn lines_of_subsets()
     ensures begins { read_each (numbers_of_head ++ codes "flags\ndescriptors 001001\n")
@@ -218,8 +211,7 @@ pub fn lines_of_subsets()
         ∷ Err (ListingFault.BadLine 9) ∷ [] }
 {}
 
-/// How values of each kind are listed, and that they are read again: the row of Table B, the raw
-/// value, the word.
+/// Values of each kind: the row of Table B, the raw value, the word.
 #[tactic(auto, unfolding(crate::proofs::OnLiterals::listings_on_literals))]
 pub fn kinds_of_values()
     ensures whole { listed_and_read Kind.Quantity (pos 0) (pos 0) 7 (Raw.Number 10)
@@ -292,8 +284,7 @@ pub fn kinds_of_values()
         ≡ (34 ∷ 65 ∷ 34 ∷ [], Ok (Raw.Text (65 ∷ []))) }
 {}
 
-/// Words that no field of a kind can have: another spelling than the one that is printed, a number
-/// that is not in the field's bits, the number of a missing value, `missing` where none may be.
+/// Words that no field of a kind can have.
 #[tactic(auto, unfolding(crate::proofs::OnLiterals::listings_on_literals))]
 pub fn refused_words()
     ensures hundredths { words_read Kind.Quantity (pos 2) (pos 0) 16
@@ -352,38 +343,4 @@ pub fn refused_words()
         ∷ (34 ∷ 92 ∷ codes "a" ++ 34 ∷ [])
         ∷ (34 ∷ 92 ∷ 34 ∷ []) ∷ [])
         ≡ replicate 5 (Err (ListingFault.BadValue 7)) }
-{}
-
-/// The decimals that texts are read as: each text of a decimal, and no other spelling.
-#[tactic(auto, unfolding(crate::proofs::OnLiterals::listings_on_literals))]
-pub fn decimals_of_texts()
-    ensures hundredths { map (λ t. decimal_of (pos 2) t) (codes "273.15" ∷ codes "-0.01"
-        ∷ codes "0.00" ∷ codes "-180.00" ∷ [])
-        ≡ Some (record { units = pos 27315; scale = pos 2 })
-        ∷ Some (record { units = negsuc 0; scale = pos 2 })
-        ∷ Some (record { units = pos 0; scale = pos 2 })
-        ∷ Some (record { units = negsuc 17999; scale = pos 2 }) ∷ [] }
-    ensures no_hundredths { map (λ t. decimal_of (pos 2) t) (codes "273.1" ∷ codes "273.150"
-        ∷ codes "0273.15" ∷ codes ".15" ∷ codes "273" ∷ codes "-0.00" ∷ codes "+1.00"
-        ∷ codes "1,00" ∷ codes " 1.00" ∷ codes "1.00 " ∷ codes "-" ∷ [] ∷ [])
-        ≡ replicate 12 None }
-    ensures whole { map (λ t. decimal_of (pos 0) t) (codes "5" ∷ codes "0" ∷ codes "-400" ∷ [])
-        ≡ Some (record { units = pos 5; scale = pos 0 })
-        ∷ Some (record { units = pos 0; scale = pos 0 })
-        ∷ Some (record { units = negsuc 399; scale = pos 0 }) ∷ [] }
-    ensures not_whole { map (λ t. decimal_of (pos 0) t) (codes "05" ∷ codes "-0" ∷ codes "+5"
-        ∷ codes "5." ∷ codes "--5" ∷ []) ≡ replicate 5 None }
-    ensures tens { map (λ t. decimal_of (negsuc 0) t)
-        (codes "101320" ∷ codes "0" ∷ codes "-10" ∷ [])
-        ≡ Some (record { units = pos 10132; scale = negsuc 0 })
-        ∷ Some (record { units = pos 0; scale = negsuc 0 })
-        ∷ Some (record { units = negsuc 0; scale = negsuc 0 }) ∷ [] }
-    ensures no_tens { map (λ t. decimal_of (negsuc 0) t) (codes "101325" ∷ codes "00" ∷ codes "5"
-        ∷ codes "-0" ∷ []) ≡ replicate 4 None }
-    ensures positive { map (λ n. units_by false n) (0 ∷ 5 ∷ (2 ^ 127 - 1) ∷ 2 ^ 127 ∷ [])
-        ≡ Some (pos 0) ∷ Some (pos 5) ∷ Some (pos (2 ^ 127 - 1)) ∷ None ∷ [] }
-    ensures negative { map (λ n. units_by true n) (0 ∷ 1 ∷ 2 ^ 127 ∷ (2 ^ 127 + 1) ∷ [])
-        ≡ None ∷ Some (negsuc 0) ∷ Some (negsuc (2 ^ 127 - 1)) ∷ None ∷ [] }
-    ensures scales_read { map (λ s. decimal_of s (codes "0")) (negsuc 599 ∷ negsuc 600 ∷ [])
-        ≡ Some (record { units = pos 0; scale = negsuc 599 }) ∷ None ∷ [] }
 {}

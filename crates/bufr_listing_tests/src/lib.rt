@@ -1,4 +1,4 @@
-//! Tests of the public calls of bufr_listing. It has tests only.
+//! Tests of the public calls of bufr_listing and bufr_listing_reader, and nothing else.
 #![tactic(auto)]
 
 #[cfg(test)]

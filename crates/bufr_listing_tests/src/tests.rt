@@ -1,5 +1,4 @@
-//! Listings of messages, whole and part by part, read and written to devices. Expected values are
-//! typed from the rules of the format; `tests/rows` has the rows of lines and of faults.
+//! Reads listings and writes them whole, in parts and to devices.
 
 mod parts;
 mod samples;
@@ -8,8 +7,7 @@ mod writing;
 use std::fmt::Debug;
 use std::process::Abort;
 
-/// Stops the test where the two differ. It is a function, since a comparison written out in a test
-/// makes the proof of that test more than twice as long.
+/// Stops the test if the two differ. Inline it would lengthen the proof.
 fn same<T: PartialEq + Debug + Drop>(rt: &impl Abort, found: T, wanted: T) {
     assert_eq!(rt; found, wanted);
 }

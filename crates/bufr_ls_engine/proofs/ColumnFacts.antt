@@ -20,7 +20,7 @@ use Rattle.bufr_ls_engine.specs.declared.columns.ColumnsFault.TheVariants as fau
 
 -- ---- all columns
 
--- a column stands among all
+-- a column is one of all
 pub among_all : (column : Column)
     → (k : ℕ) × (k < length all_columns) × (get_or all_columns k columns.Input ≡ column)
 unfolding all_columns
@@ -107,7 +107,7 @@ pub named_none : (text : List ℕ) → HasNamed text text []
 unfolding IsDistinct
 named_none text = record { parted = refl; distinct = tt }
 
--- one word more, where it is a column's that stands not there yet
+-- one more word, of a column that is not there yet
 words_more : (text here after : List ℕ) (cs cs' : List Column) (rest : List (List ℕ))
     (done : Unit {0}) → words_of text ≡ map word cs ++ here ∷ rest
     → (a : AddsColumn cs cs' here (Ok done)) → words_of text ≡ map word cs' ++ rest
@@ -207,7 +207,7 @@ cut_once text r here after cut is =
     (split_once_first 44 text r cut (lit< tt)) in
     words_cut text here.now after.now at.0 at.1 at.2
 
--- a text in which no comma was found
+-- a text without a comma, by the search
 pub not_cut : (text : List ℕ) (r : Option (Bor (List ℕ) × Bor (List ℕ)))
     → IsSplitOnceResult 44 text r → r ≡ None → words_of text ≡ text ∷ []
 not_cut text r cut is =

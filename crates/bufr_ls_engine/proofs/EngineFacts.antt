@@ -1,6 +1,6 @@
 -- What listing inputs comes to at each of its ends: the contracts of `list_inputs` and `run_ls`.
 use Rattle.std.proofs.Common.{◌≡◌, ℕ, ◌+◌, ◌*◌, ◌^◌, ◌≤◌, inl, inr, List, [], ◌∷◌, ◌++◌}
-use Rattle.std.proofs.Common.{length, Result, Ok, Err, IsErrAnd, refl, sym, ap, ◌∙◌, subst, arith}
+use Rattle.std.proofs.Common.{length, Ok, Err, refl, sym, ap, ◌∙◌, subst, arith}
 use Rattle.std.proofs.Common.{length-append}
 use Rattle.std.proofs.lemmas.List.{append-nil}
 use Rattle.std.proofs.lemmas.List.Sums.{sum_by-append}
@@ -20,22 +20,17 @@ use Rattle.bufr_io.specs.WritingLaws.{fails_more, writes_more}
 use Rattle.bufr_ls_engine.specs.Lists.{EndsListing, GivesFrames, Lists}
 use Rattle.bufr_ls_engine.specs.Listers.{HasListedInputs, ListsInput, ListsInputs}
 use Rattle.bufr_ls_engine.specs.Listers.{WritesHeader}
-use Rattle.bufr_ls_engine.specs.Readers.{AreFresh, AreReadAtMost, AreReadTo}
+use Rattle.bufr_io.specs.Readers.{AreFresh, AreReadAtMost}
+use Rattle.bufr_ls_engine.specs.Readers.{AreReadTo}
 use Rattle.bufr_ls_engine.specs.Rows.{counted, frames_of, frame_refused, header, listed_heads}
 use Rattle.bufr_ls_engine.specs.Rows.{listed_to, refused_of, rows}
 use Rattle.bufr_ls_engine.specs.declared.column.Column.{Column}
 use Rattle.bufr_ls_engine.specs.declared.lister.Lister.{Lister}
 use Rattle.bufr_ls_engine.proofs.ListingFacts.{refused_few}
-use Rattle.bufr_ls_engine.proofs.ReaderFacts.{Through, Reached, at_most_fresh, at_most_set, ends_here}
-use Rattle.bufr_ls_engine.proofs.ReaderFacts.{none_read, read_before, streams_read}
-use Rattle.bufr_ls_engine.proofs.ReaderFacts.{through_first, through_more}
+use Rattle.bufr_io.specs.ReaderLaws.{Through, Reached, at_most_fresh, at_most_set}
+use Rattle.bufr_io.specs.ReaderLaws.{through_first, through_more}
+use Rattle.bufr_ls_engine.proofs.ReaderFacts.{ends_here, none_read, read_before, streams_read}
 use Rattle.bufr_ls_engine.proofs.RowFacts.{listed_heads-more, listed_none, listed_to-none}
-
--- an error that is passed up as it is
-pub passed : {A F : Type 0} (P : Result A F → Type 0) (r : Result A F) (e : F)
-    → IsErrAnd r (λ y. y ≡ e) → P (Err e) → P r
-passed P (Ok x) e is p = absurd is
-passed P (Err y) e is p = subst (λ z. P (Err z)) (sym is) p
 
 -- ---- the header line
 
@@ -59,7 +54,7 @@ header_fails columns reads readers p p' begin now e is none w = absurd w
 
 -- ---- input by input
 
--- a lister that begins the input after so many
+-- a lister that begins the next input
 abbrev pub begun : Lister → ℕ → Lister
 begun p i = record p { input = i + 1; frames = 0; refused = 0 }
 
@@ -108,7 +103,7 @@ through_none columns reads readers p p' begin now done fresh is none keeps w =
       few = omega arith;
     }
 
--- no more frames are refused than are counted
+-- the refused frames are frames
 pub refused_at_most : (columns : List Column) (reads : ℕ) (olds news : List Reading)
     (begin now : Writing) (p : Lister) (tally : Tally) (i : ℕ)
     → ListedThrough columns reads olds news begin now p tally i → tally.refused ≤ tally.frames
@@ -209,7 +204,7 @@ through_next columns reads olds news news' begin mid now p q p' tally i r r' don
       few = omega (arith, t.few, all.frames, all.few);
     }
 
--- each reader was read at most so often, with the one at which it ended
+-- each reader gave at most n reads, the last one too
 pub bounded_next : (reads : ℕ) (news news' : List Reading) (i : ℕ) (r' : Reading)
     → AreReadAtMost reads news → news' ≡ set news i r' → r'.reads ≤ reads
     → AreReadAtMost reads news'

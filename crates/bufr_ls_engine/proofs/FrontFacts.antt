@@ -12,7 +12,8 @@ use Rattle.bufr_io.specs.declared.fault.ToolFault.TheVariants as faults
 use Rattle.bufr_io.specs.Engines.{FailsAfter}
 use Rattle.bufr_io.specs.WritingLaws.{fails_longer}
 use Rattle.bufr_ls_engine.specs.Lists.{GivesFrames, HasReached, Lists, WritesFront, frames_by}
-use Rattle.bufr_ls_engine.specs.Readers.{AreReadBefore, AreReadTo, AreTold, WereReadOut}
+use Rattle.bufr_io.specs.Readers.{WereReadOut}
+use Rattle.bufr_ls_engine.specs.Readers.{AreReadBefore, AreReadTo, AreTold}
 use Rattle.bufr_ls_engine.specs.Rows.{inputs_from, listed_heads, listed_to, rows, rows_from}
 use Rattle.bufr_ls_engine.specs.declared.column.Column.{Column}
 use Rattle.bufr_ls_engine.proofs.RowFacts.{listed_heads-append, rows_from-append}
@@ -53,7 +54,7 @@ told_all : (left : Option (List ℕ)) (octets s : List ℕ) → IfSome left (λ 
     → left ≡ Some s → s ≡ octets
 told_all left octets s all is = subst (λ o. IfSome o (λ x. x ≡ octets)) is all
 
--- readers that were read out had the streams that they tell
+-- readers that ended had the streams that they tell
 told_read : (old new : List Reading) (octets told : List (List ℕ)) → WereReadOut old new octets
     → AreTold old told → told ≡ octets
 told_read [] [] [] [] out are = refl
@@ -85,7 +86,7 @@ first_frames false left now read s given all is =
 
 -- ---- lines
 
--- lines behind others
+-- lines after others
 pub record HasFront (columns : List Column) (all : List (List ℕ)) (front : List ℕ) : Type 0 where
   pub rest : List ℕ
   pub parted : listed_heads columns all ≡ front ++ rest

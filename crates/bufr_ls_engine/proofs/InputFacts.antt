@@ -18,7 +18,7 @@ use Rattle.bufr_ls_engine.specs.declared.lister.Lister.{Lister}
 use Rattle.bufr_ls_engine.proofs.ListingFacts.{all_counted, all_written, listing_stopped}
 use Rattle.bufr_ls_engine.proofs.ListingFacts.{none_held, stops_further, unwritten}
 
--- no piece could be read behind these octets, and no row is held
+-- no piece came after these octets, and no row waits
 input_unread : (reads : ℕ) (old new : Reading) (pieces : Pieces) (read : List ℕ) (first p' : Lister)
     (begin : Writing) (now : Writing) (e : ToolFault)
     → HasListed first begin p' now (sure read) → p'.held.items ≡ []
@@ -77,7 +77,7 @@ input_early reads old new first p' begin now e (at_end stream out all given s) =
     (stops_further first.columns.now first.input first.written s.front s.rest (cut stream) begin now
     e s.parted s.stopped)
 
--- an input that was taken in to its end, of which what is held is written then
+-- an input came to its end, and the writer takes the rows that wait
 pub input_whole : (reads : ℕ) (old new : Reading) (first p p' : Lister) (begin mid now : Writing)
     (stream : List ℕ) (r : Result (Unit {0}) ToolFault) → WasReadOut new → AreAllOf old stream
     → HasGiven old new stream → HasListed first begin p mid (cut stream)

@@ -7,4 +7,5 @@ mod ReaderFacts
 mod EngineFacts
 mod FrontFacts
 mod ColumnFacts
+mod SectionFacts
 mod OnLiterals

@@ -1,7 +1,9 @@
 -- Texts that grow by a piece at a time: the contracts of what adds fields and descriptors need it, and so
 -- that of `run_ls`.
-use Rattle.std.proofs.Common.{◌≡◌, ℕ, ◌≤◌, List, ◌++◌, length, take}
+use Rattle.std.proofs.Common.{◌≡◌, ℕ, ◌+◌, ◌/◌, ◌%◌, ◌≤◌, ◌<◌, List, [], ◌∷◌, ◌++◌, length, take}
 use Rattle.std.proofs.Common.{sym, ap, ◌∙◌, arith, append_assoc, Result, Ok, Err, OnErr}
+use Rattle.std.specs.Prelude.{decimal}
+use Rattle.std.proofs.lemmas.Fmt.{decimal_step}
 use Rattle.std.proofs.lemmas.List.{take-take, length-take}
 use Rattle.std.proofs.Math.Seq.{take-append_seam}
 
@@ -35,3 +37,13 @@ pub kept_far : {A E : Type 0} (r : Result A E) (old mid grown text one : List �
 kept_far (Ok x) old mid grown text one front more kept = tt
 kept_far (Err e) old mid grown text one front more kept =
     kept_then old mid text front (kept_then mid grown text (kept_all mid one grown more) kept)
+
+-- ---- numbers
+
+-- the last digit of a number of two digits, after the first
+pub last_digit : (old mid text : List ℕ) (n : ℕ) → 10 ≤ n → n < 100 → mid ≡ old ++ decimal (n / 10)
+    → text ≡ mid ++ (48 + n % 10) ∷ [] → text ≡ old ++ decimal n
+last_digit old mid text n ten small is more =
+    more ∙ ap (λ (t : List ℕ). t ++ (48 + n % 10) ∷ []) is
+    ∙ append_assoc old (decimal (n / 10)) ((48 + n % 10) ∷ [])
+    ∙ ap (λ (t : List ℕ). old ++ t) (sym (decimal_step n ten (omega arith)))

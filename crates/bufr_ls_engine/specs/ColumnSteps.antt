@@ -1,4 +1,4 @@
--- A column more is added to those that a text names (private contracts).
+-- One more column of a text (private contracts).
 use Rattle.std.specs.Prelude.{◌≡◌, ℕ, true, false, List, [], ◌∷◌, ◌++◌, Result, Ok, Err}
 use Rattle.std.specs.List.{list_any}
 use Rattle.std.specs.Str.{bytes_eq}
@@ -7,8 +7,8 @@ use Rattle.bufr_ls_engine.specs.declared.column.Column.{Column}
 use Rattle.bufr_ls_engine.specs.declared.columns.ColumnsFault.{ColumnsFault}
 use Rattle.bufr_ls_engine.specs.declared.columns.ColumnsFault.TheVariants as faults
 
--- the column of a word, which none of those before it has, stands after them; or no column has the
--- word, or one of them has
+-- the column of a word comes after columns that do not have the word; or no column has it, or one of
+-- them has it
 abbrev pub AddsColumn : List Column → List Column → List ℕ → Result (Unit {0}) ColumnsFault → Type 0
 AddsColumn old new here (Ok done) = (column : Column) × (new ≡ old ++ column ∷ [])
     × (word column ≡ here) × (list_any (λ c. bytes_eq (word c) here) old ≡ false)

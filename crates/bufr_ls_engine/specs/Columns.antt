@@ -14,7 +14,7 @@ use Rattle.bufr_ls_engine.specs.declared.column.Column.TheVariants.{Year, Month,
 use Rattle.bufr_ls_engine.specs.declared.column.Column.TheVariants.{Second, Subsets, Observed}
 use Rattle.bufr_ls_engine.specs.declared.column.Column.TheVariants.{Compressed, Descriptors, Reason}
 
--- the word of a column, which stands in the header line
+-- the word of a column in the header line
 unfoldable pub word : Column → List ℕ
 word Input = codes "input"
 word Message = codes "message"
@@ -42,7 +42,7 @@ word Compressed = codes "compressed"
 word Descriptors = codes "descriptors"
 word Reason = codes "reason"
 
--- all columns, in the order in which they stand if no others are asked for
+-- all columns, in their order
 unfoldable pub all_columns : List Column
 all_columns =
     Input ∷ Message ∷ Place ∷ Length ∷ Edition ∷ Centre ∷ SubCentre ∷ Update ∷ Category
@@ -54,20 +54,20 @@ all_columns =
 abbrev pub IsNoColumn : List ℕ → Type 0
 IsNoColumn text = (column : Column) → word column ≢ text
 
--- ---- columns that a text names
+-- ---- the columns of a text
 
--- the words of a text, which is cut at each comma
+-- the words of a text, with commas between them
 abbrev pub words_of : List ℕ → List (List ℕ)
 words_of text = slice_split (λ c. c == 44) text
 
--- the words of a text that stand before this one are those of columns, none of them twice
+-- columns have the words of a text before this one, and no word is there twice
 pub record NamesUpTo (text here : List ℕ) : Type 0 where
   pub columns : List Column
   pub after : List (List ℕ)
   pub parted : words_of text ≡ map word columns ++ here ∷ after
   pub distinct : IsDistinct bytes_eq (map word columns)
 
--- why a text names no columns: the first word that no column has, or that stands there before
+-- why a text names no columns: the first word that no column has, or that is there before
 abbrev pub RefusesColumns : List ℕ → ColumnsFault → Type 0
 RefusesColumns text (faults.NoColumn here) = NamesUpTo text here.now × IsNoColumn here.now
 RefusesColumns text (faults.Twice here) = (names : NamesUpTo text here.now)

@@ -10,12 +10,12 @@ abbrev pub columns_option : Rule
 columns_option = record
     (new_rule (codes "columns")) { short = Some 99; action = Some Set; value_names = 1 }
 
--- the files: one has to be there
+-- the files, one at least
 abbrev pub files_argument : Rule
 files_argument = record
     (new_rule (codes "file")) { action = Some Append; value_names = 1; required = true }
 
--- the program: the words come without its name, and a version is told
+-- the program, which has a version, and gets words without its name
 abbrev pub program : App
 program = with_rule
     (with_rule
@@ -35,7 +35,7 @@ value_of id words = first_of id (matches_of program words)
 abbrev pub values_of : List ℕ → List (List ℕ) → List (List ℕ)
 values_of id words = values_in id (matches_of program words)
 
--- a line with columns, written out: the option stands anywhere
+-- a line with columns, whose option may be anywhere
 abbrev pub words_with_columns : List (List ℕ)
 words_with_columns = codes "06.bufr" ∷ codes "-c" ∷ codes "centre,category" ∷ codes "12.bufr" ∷ []
 

@@ -1,6 +1,7 @@
 pub mod Columns
 pub mod ColumnSteps
 pub mod Rows
+pub mod SectionsLent
 pub mod Readers
 pub mod Lists
 pub mod CommandLines

@@ -11,13 +11,13 @@ use Rattle.bufr_io.specs.Engines.{WasReadOut, HasFailed, IsEndless, HasGiven, Ar
 use Rattle.bufr_io.specs.Engines.{WritesAll, WritesAfter}
 use Rattle.bufr_io.specs.declared.fault.Tally.{Tally}
 use Rattle.bufr_ls_engine.specs.Lists.{GivesFrames, Lists}
-use Rattle.bufr_ls_engine.specs.Readers.{WereReadOut}
+use Rattle.bufr_io.specs.Readers.{WereReadOut}
 use Rattle.bufr_ls_engine.specs.Rows.{counted, header, listed_heads, row, rows, rows_from}
 use Rattle.bufr_ls_engine.specs.Rows.{frame_refused, refused_of}
 use Rattle.bufr_ls_engine.specs.declared.column.Column.{Column}
 use Rattle.bufr_ls_engine.specs.declared.lister.Lister.{Lister}
 
--- ---- what is held
+-- ---- rows that wait
 
 -- the columns, the number of the input and the counts of its frames stay
 pub record Keeps (p p' : Lister) : Type 0 where
@@ -26,14 +26,14 @@ pub record Keeps (p p' : Lister) : Type 0 where
   pub frames : p'.frames ≡ p.frames
   pub refused : p'.refused ≡ p.refused
 
--- so do the rows that are held and the count of octets
+-- so do the rows that wait and the count of octets
 pub record IsUnchanged (p p' : Lister) : Type 0 where
   pub keeps : Keeps p p'
   pub held : p'.held.items ≡ p.held.items
   pub written : p'.written ≡ p.written
 
--- what is held was written, and nothing is held; or the writer failed after a front of it; or there
--- are more octets than can be counted, and nothing was written
+-- The writer took the rows, and none waits. Or it failed after a front of them. Or a count of octets
+-- was too large, and it took nothing.
 abbrev pub WritesHeld : Lister → Lister → Writing → Writing → Result (Unit {0}) ToolFault → Type 0
 WritesHeld p p' writer writer' (Ok done) =
     WritesAll writer writer' p.held.items × (p'.held.items ≡ [])
@@ -42,8 +42,8 @@ WritesHeld p p' writer writer' (Err faults.OutOfMemory) = writer' ≡ writer
 WritesHeld p p' writer writer' (Err fault) =
     WritesAfter p.written p.held.items writer writer' (Err fault)
 
--- the header line was written, and nothing is held; or the writer failed after a front of it; or
--- memory ran out, and nothing was written
+-- The writer took the header line, and no row waits. Or it failed after a front of the line. Or memory
+-- ran out, and it took nothing.
 abbrev pub WritesHeader : Lister → Lister → Writing → Writing → Result (Unit {0}) ToolFault → Type 0
 WritesHeader p p' writer writer' (Ok done) =
     WritesAll writer writer' (header p.columns.now) × (p'.held.items ≡ [])
@@ -52,7 +52,7 @@ WritesHeader p p' writer writer' (Err faults.OutOfMemory) = writer' ≡ writer
 WritesHeader p p' writer writer' (Err fault) =
     WritesAfter p.written (header p.columns.now) writer writer' (Err fault)
 
--- the row of a frame is held after the others, and the frame is counted
+-- the row of a frame waits after the others, and the frame counts
 pub record HoldsRow (p p' : Lister) (frame : Found) : Type 0 where
   pub held : p'.held.items ≡ p.held.items ++ row p.columns.now p.input (p.frames + 1) frame
   pub frames : p'.frames ≡ p.frames + 1
@@ -61,7 +61,7 @@ pub record HoldsRow (p p' : Lister) (frame : Found) : Type 0 where
   pub input : p'.input ≡ p.input
   pub written : p'.written ≡ p.written
 
--- when memory ran out what was held was written, or nothing; or the writer failed then
+-- after want of memory the writer took the rows, or nothing; or it failed then
 abbrev pub Stops : Lister → Writing → Writing → ToolFault → Type 0
 Stops p writer writer' faults.OutOfMemory =
     WritesAll writer writer' p.held.items ⊎ (writer' ≡ writer)
@@ -69,8 +69,8 @@ Stops p writer writer' fault = WritesAfter p.written p.held.items writer writer'
 
 -- ---- the frames of an input
 
--- since the first of these two states of a lister and its writer these frames of an input were taken
--- in: the rows of the first of them were written, and those of the others are held
+-- Since the first of these two states of a lister and its writer these frames of an input came. The
+-- writer took the rows of the first of them, and the rows of the others wait.
 pub record HasListed (first : Lister) (begin : Writing) (p : Lister) (now : Writing)
     (frames : List Found) : Type 0 where
   pub started : first.frames ≡ 0
@@ -86,7 +86,7 @@ pub record HasListed (first : Lister) (begin : Writing) (p : Lister) (now : Writ
   pub held : p.held.items ≡ rows_from first.columns.now first.input (1 + length done) waiting
   pub counted : p.written ≡ first.written + length (rows first.columns.now first.input done)
 
--- the rows of the first of these frames were written, and nothing else
+-- the writer took the rows of the first of these frames, and nothing else
 pub record WritesRows (columns : List Column) (input : ℕ) (frames : List Found)
     (writer writer' : Writing) : Type 0 where
   pub done : List Found
@@ -94,8 +94,8 @@ pub record WritesRows (columns : List Column) (input : ℕ) (frames : List Found
   pub parted : frames ≡ done ++ rest
   pub written : WritesAll writer writer' (rows columns input done)
 
--- listing frames stopped: the writer failed after a front of their rows; or memory ran out when the
--- rows of the first of them were written
+-- Listing frames stopped: the writer failed after a front of their rows; or memory ran out after the rows
+-- of the first of them.
 abbrev pub StopsListing : List Column → ℕ → ℕ → List Found → Writing → Writing → ToolFault → Type 0
 StopsListing columns input before frames writer writer' faults.OutOfMemory =
     WritesRows columns input frames writer writer'
@@ -104,7 +104,7 @@ StopsListing columns input before frames writer writer' fault =
 
 -- ---- an input
 
--- the rows of all frames of a stream were written and these are counted; nothing is held
+-- the writer took the rows of all frames of a stream, which count, and no row waits
 pub record HasListedAll (p p' : Lister) (stream : List ℕ) (writer writer' : Writing) : Type 0 where
   pub written : WritesAll writer writer' (rows p.columns.now p.input (cut stream))
   pub counted : p'.written ≡ p.written + length (rows p.columns.now p.input (cut stream))
@@ -114,9 +114,9 @@ pub record HasListedAll (p p' : Lister) (stream : List ℕ) (writer writer' : Wr
   pub refused : p'.refused ≡ refused_of (cut stream)
   pub few : length (cut stream) ≤ 2 ^ 48
 
--- an input was read out, and its rows were written; or a read failed, or it is endless, and the rows
--- of the frames that were sure were written; or the writer failed after a front of the rows of the
--- frames that were found; or memory ran out, and the first of these rows were written
+-- The input ended, and the writer took its rows. Or a read failed, or the input is endless, and the
+-- writer took the rows of the sure frames. Or the writer failed after a front of the rows of the frames
+-- so far. Or memory ran out, and the writer took the first of these rows.
 abbrev pub ListsInput : ℕ → Lister → Lister → Reading → Reading → Writing → Writing
     → Result (Unit {0}) ToolFault → Type 0
 ListsInput reads p p' reader reader' writer writer' (Ok done) =
@@ -135,8 +135,8 @@ ListsInput reads p p' reader reader' writer writer' (Err fault) =
 
 -- ---- all inputs
 
--- the header line was written, and the rows of the first inputs, which had these streams; nothing is
--- held
+-- the writer took the header line and the rows of the first inputs, which had these streams, and no row
+-- waits
 pub record HasListedInputs (columns : List Column) (streams : List (List ℕ)) (p : Lister)
     (writer writer' : Writing) : Type 0 where
   pub columns_are : p.columns.now ≡ columns
@@ -144,7 +144,7 @@ pub record HasListedInputs (columns : List Column) (streams : List (List ℕ)) (
   pub counted : p.written ≡ length (listed_heads columns streams)
   pub held : p.held.items ≡ []
 
--- all inputs were read out, and their rows were written; or listing them ended early
+-- all inputs ended, and the writer took their rows; or listing them ended early
 abbrev pub ListsInputs : List Column → ℕ → List Reading → List Reading → Writing → Writing → Lister
     → Result Tally ToolFault → Type 0
 ListsInputs columns reads readers readers' writer writer' p (Ok tally) =

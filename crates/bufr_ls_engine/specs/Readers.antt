@@ -1,23 +1,7 @@
 -- What becomes of readers that are read one after the other.
-use Rattle.std.specs.Prelude.{◌≡◌, ℕ, ◌≤◌, Some, List, [], ◌∷◌, ◌++◌}
-use Rattle.std.specs.List.{AllByRecursion}
+use Rattle.std.specs.Prelude.{◌≡◌, ℕ, Some, List, [], ◌∷◌, ◌++◌}
 use Rattle.bufr_bits.specs.Devices.{Reading}
-use Rattle.bufr_io.specs.Engines.{IsFresh, WasReadOut, AreAllOf}
-
--- none of the readers was read, and all work
-abbrev pub AreFresh : List Reading → Type 0
-AreFresh readers = AllByRecursion IsFresh readers
-
--- each of the readers was read at most this often
-abbrev pub AreReadAtMost : ℕ → List Reading → Type 0
-AreReadAtMost reads readers = AllByRecursion (λ r. r.reads ≤ reads) readers
-
--- each of the readers was read out, and had these octets if it tells its octets
-abbrev pub WereReadOut : List Reading → List Reading → List (List ℕ) → Type 0
-WereReadOut [] [] [] = Unit {0}
-WereReadOut (old ∷ olds) (new ∷ news) (octets ∷ more) =
-    WasReadOut new × AreAllOf old octets × WereReadOut olds news more
-WereReadOut olds news octets = ⊥
+use Rattle.bufr_io.specs.Readers.{WereReadOut}
 
 -- each of the readers tells its octets, and these are left
 abbrev pub AreTold : List Reading → List (List ℕ) → Type 0

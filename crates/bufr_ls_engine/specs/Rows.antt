@@ -1,5 +1,5 @@
--- The rows of frames, as functions of the streams (this project's own). What they say of a message
--- is what the octets of its sections say (`envelope_of` of bufr_sections).
+-- The rows of frames, as functions of the streams (this project's own). `envelope_of` of bufr_sections
+-- gives the sections of a message.
 use Rattle.std.specs.Prelude.{ℕ, ◌+◌, List, [], ◌∷◌, ◌++◌, length, get_or, decimal, sum_by}
 use Rattle.std.specs.Prelude.{Result, Ok, Err}
 use Rattle.std.specs.List.{join_by, flat_map}
@@ -25,11 +25,11 @@ use Rattle.bufr_ls_engine.specs.declared.column.Column.TheVariants.{Compressed, 
 
 -- ---- a field
 
--- the edition of a frame, which its octet 8 has
+-- the edition of a frame, in its octet 8
 abbrev pub edition_of : List ℕ → ℕ
 edition_of octets = get_or octets 7 0
 
--- what the sections of a message say in a column; the master table of those that are read is 0
+-- the field of a column of the sections of a message, whose master table is 0
 unfoldable pub said_in : Column → Envelope → List ℕ
 said_in Centre e = decimal e.head.centre
 said_in SubCentre e = decimal e.head.sub_centre
@@ -52,23 +52,23 @@ said_in Compressed e = decimal (from_bool e.compressed)
 said_in Descriptors e = join_by six_digits (32 ∷ []) e.descriptors
 said_in _ e = []
 
--- the master table that a refusal names
+-- the master table of a refusal
 abbrev pub master_table_of : Refused → List ℕ
 master_table_of (faults.MasterTable number) = decimal number
 master_table_of why = []
 
--- what the refusal of a frame says in a column
+-- the field of a column of a refusal
 unfoldable pub refused_in : Column → Refused → List ℕ
 refused_in MasterTable why = master_table_of why
 refused_in Reason why = reason why
 refused_in _ why = []
 
--- what either says in a column
+-- the field of a column of either
 abbrev pub told_in : Column → Result Envelope Refused → List ℕ
 told_in column (Ok e) = said_in column e
 told_in column (Err why) = refused_in column why
 
--- the field of a column in the row of a frame that has these numbers, given what its octets say
+-- the field of a column in the row of a frame with these numbers, given its sections
 unfoldable pub field_as : Column → ℕ → ℕ → Found → Result Envelope Refused → List ℕ
 field_as Input input message frame said = decimal input
 field_as Message input message frame said = decimal message
@@ -79,27 +79,27 @@ field_as column input message frame said = told_in column said
 
 -- ---- a line
 
--- the fields of a frame's row, parted by commas, given what its octets say
+-- the fields of a frame, with commas between them, given its sections
 abbrev pub fields_as : List Column → ℕ → ℕ → Found → Result Envelope Refused → List ℕ
 fields_as columns input message frame said =
     join_by (λ column. field_as column input message frame said) (44 ∷ []) columns
 
--- the row of a frame, given what its octets say
+-- the row of a frame, given its sections
 abbrev pub row_as : List Column → ℕ → ℕ → Found → Result Envelope Refused → List ℕ
 row_as columns input message frame said = fields_as columns input message frame said ++ 10 ∷ []
 
--- the row of a frame, which has this number in the input of this number
+-- the row of a frame with this number in the input of this number
 abbrev pub row : List Column → ℕ → ℕ → Found → List ℕ
 row columns input message frame =
     row_as columns input message frame (envelope_of frame.bytes)
 
--- the header line: the words of the columns, parted by commas
+-- the header line: the words of the columns, with commas between them
 abbrev pub header : List Column → List ℕ
 header columns = join_by word (44 ∷ []) columns ++ 10 ∷ []
 
 -- ---- all lines
 
--- the rows of frames of an input, the first of which has this number
+-- the rows of frames of an input, from the frame of this number on
 abbrev pub rows_from : List Column → ℕ → ℕ → List Found → List ℕ
 rows_from columns input message [] = []
 rows_from columns input message (frame ∷ frames) =
@@ -109,34 +109,33 @@ rows_from columns input message (frame ∷ frames) =
 abbrev pub rows : List Column → ℕ → List Found → List ℕ
 rows columns input frames = rows_from columns input 1 frames
 
--- the rows of inputs that have these streams, the first of which has this number
+-- the rows of inputs with these streams, from the input of this number on
 abbrev pub inputs_from : List Column → ℕ → List (List ℕ) → List ℕ
 inputs_from columns input [] = []
 inputs_from columns input (stream ∷ streams) =
     rows columns input (cut stream) ++ inputs_from columns (input + 1) streams
 
--- what `bufr-ls` prints of inputs that have these streams: the header line, and a row for each frame
+-- what `bufr-ls` prints of inputs with these streams: the header line, and a row for each frame
 abbrev pub listed_heads : List Column → List (List ℕ) → List ℕ
 listed_heads columns streams = header columns ++ inputs_from columns 1 streams
 
--- what it has printed when it has read out inputs that have these streams, and has found these frames
--- in the next
+-- what it prints of inputs with these streams, and of the first frames of the next input
 abbrev pub listed_to : List Column → List (List ℕ) → List Found → List ℕ
 listed_to columns streams frames =
     listed_heads columns streams ++ rows columns (length streams + 1) frames
 
 -- ---- counts
 
--- how many messages of a frame are refused: one or none
+-- the number of refusals, one or none
 abbrev pub refused_as : Result Envelope Refused → ℕ
 refused_as (Ok said) = 0
 refused_as (Err why) = 1
 
--- how many messages of a frame have sections that are refused
+-- the number of refusals of a frame
 abbrev pub frame_refused : Found → ℕ
 frame_refused frame = refused_as (envelope_of frame.bytes)
 
--- how many of the frames are refused
+-- the number of refused frames
 abbrev pub refused_of : List Found → ℕ
 refused_of frames = sum_by frame_refused frames
 
@@ -144,7 +143,7 @@ refused_of frames = sum_by frame_refused frames
 abbrev pub frames_of : List (List ℕ) → List Found
 frames_of streams = flat_map cut streams
 
--- what is counted of streams
+-- the counts of streams
 abbrev pub counted : List (List ℕ) → Tally
 counted streams = record {
   frames = length (frames_of streams);

@@ -19,7 +19,7 @@ line_of text = text ++ 10 ∷ []
 abbrev pub shortest_of : List ℕ → List ℕ
 shortest_of edition = hex (codes "42554652 00000C" ++ edition ++ codes "37373737")
 
--- a frame of edition 4 whose section 1 is announced longer than the room, and one with each later fault
+-- a frame of edition 4 whose section 1 is longer than the room
 abbrev pub long_section1 : List ℕ
 long_section1 = framed (codes "000022 04") (usual1 (codes "000017 00") (codes "00"))
 
@@ -39,6 +39,6 @@ short_description = framed (codes "00002A 04") (plain1 ++ hex (codes "000008 00 
 abbrev pub short_section4 : List ℕ
 short_section4 = framed (codes "00002E 04") (plain1 ++ short_section3 ++ hex (codes "000003"))
 
--- columns in another order, of which a refused frame has some
+-- columns in another order; a refused frame has some of them
 abbrev pub some_columns : List Column
 some_columns = Reason ∷ MasterTable ∷ Edition ∷ Length ∷ Place ∷ Message ∷ Input ∷ []

@@ -4,16 +4,16 @@ ghost use Rattle.std.specs.Prelude.{◌≡◌, IfSome};
 ghost use Rattle.std.specs.Option.{IfNone};
 ghost use Rattle.bufr_ls_engine.specs.Columns.{IsNoColumn, all_columns, word};
 
-/// A column of a row: something that is said of a frame.
+/// A column of a row.
 #[derive(Clone, Copy, Debug, Drop, PartialEq, Eq)]
 pub enum Column {
     /// The number of the input, counted from 1.
     Input,
     /// The number of the frame in its input, counted from 1.
     Message,
-    /// The place in its input at which the frame begins.
+    /// The place of the frame in its input.
     Place,
-    /// How many octets the frame has.
+    /// The number of octets of the frame.
     Length,
     /// The edition.
     Edition,
@@ -47,20 +47,20 @@ pub enum Column {
     Minute,
     /// The second.
     Second,
-    /// How many subsets the message announces.
+    /// The number of subsets.
     Subsets,
-    /// Whether the data are observed: 1 or 0.
+    /// 1 for observed data, else 0.
     Observed,
-    /// Whether the data are compressed: 1 or 0.
+    /// 1 for compressed data, else 0.
     Compressed,
     /// The descriptors of section 3.
     Descriptors,
-    /// Why the frame is refused.
+    /// The refusal of the frame.
     Reason,
 }
 
-/// All columns, in the order in which they stand if no others are asked for.
-pub static ALL_COLUMNS: [Column; 25] = [
+/// All columns, in their order.
+pub(crate) static ALL_COLUMNS: [Column; 25] = [
     Column::Input,
     Column::Message,
     Column::Place,
@@ -89,7 +89,7 @@ pub static ALL_COLUMNS: [Column; 25] = [
 ];
 
 impl Column {
-    /// Returns the word of the column, which stands in the header line.
+    /// Returns the word of the column in the header line.
     #[tactic(auto, unfolding(crate::specs::Columns::word))]
     pub fn word(self) -> &'static str
         ensures { result.now ≡ word self }
@@ -123,7 +123,7 @@ impl Column {
         }
     }
 
-    /// Returns all columns, in the order in which they stand if no others are asked for.
+    /// Returns all columns, in their order.
     #[tactic(auto, unfolding(crate::specs::Columns::all_columns))]
     pub fn all() -> &'static [Column]
         ensures { result.now ≡ all_columns }
@@ -131,7 +131,7 @@ impl Column {
         &ALL_COLUMNS
     }
 
-    /// Returns the column of a word, or `None` if no column has it.
+    /// Returns the column of a word.
     pub fn from_word(text: &str) -> Option<Column>
         ensures named { IfSome result (λ column. word column ≡ text.now) }
         ensures none { IfNone result (IsNoColumn text.now) }

@@ -10,13 +10,13 @@ use crate::column::Column;
 use std::alloc::Global;
 use thiserror::Error;
 
-/// A reason why a text names no columns.
+/// A fault of a text of columns.
 #[derive(Clone, Copy, Debug, Drop, PartialEq, Eq, Error)]
 pub enum ColumnsFault<'a> {
     /// No column has this word.
     #[error("no column {0}")]
     NoColumn(&'a str),
-    /// This word stands there twice.
+    /// The text has this word twice.
     #[error("column {0} twice")]
     Twice(&'a str),
     /// Memory ran out.
@@ -24,7 +24,7 @@ pub enum ColumnsFault<'a> {
     OutOfMemory,
 }
 
-/// Returns the columns that a text names by their words, with commas between them.
+/// Returns the columns of the words of a text, with commas between them.
 pub fn columns_of(alloc: Global, text: &str) -> Result<Vec<Column>, ColumnsFault<'_>>
     ensures named { IfOk result (λ columns. map word columns.items ≡ words_of text.now) }
     ensures distinct { IfOk result (λ columns. IsDistinct bytes_eq (words_of text.now)) }
@@ -46,7 +46,7 @@ pub fn columns_of(alloc: Global, text: &str) -> Result<Vec<Column>, ColumnsFault
     }
 }
 
-/// Adds the column of a word to columns that do not have it.
+/// Adds the column of a word, unless the columns have it.
 fn add_column<'a>(columns: &mut Vec<Column>, here: &'a str) -> Result<(), ColumnsFault<'a>>
     ensures { AddsColumn columns.old.items columns.new.items here.now result }
 {
@@ -62,7 +62,7 @@ fn add_column<'a>(columns: &mut Vec<Column>, here: &'a str) -> Result<(), Column
     }
 }
 
-/// Returns whether one of the columns has this word.
+/// Returns whether a column has this word.
 fn has_word(columns: &[Column], here: &str) -> bool
     ensures { result ≡ list_any (λ column. bytes_eq (word column) here.now) columns.now }
 {

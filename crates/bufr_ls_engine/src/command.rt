@@ -1,26 +1,24 @@
 //! The program over a runtime with files and any two writers.
 
-ghost use Rattle.std.specs.Prelude.{◌≡◌, ◌≤◌, IfErr};
+ghost use Rattle.std.specs.Prelude.{◌≡◌, ◌≤◌};
 
 use crate::column::Column;
 use crate::columns::{ColumnsFault, columns_of};
-use crate::command_line::{CommandLine, NAME, line};
+use crate::command_line::{NAME, line};
 use crate::ls::run_ls;
 use bufr_bits::IntoWrite;
-use bufr_files::{REFUSED, Unopened, WELL, cannot_open, explain, inputs_of, say, unopened_path};
-use bufr_io::{MOST_READS, ToolFault};
+use bufr_io::{MOST_READS, ToolFault, Unopened, inputs_of};
+use bufr_program::{cannot_open, explain, say, status_of, words_or_help};
 use std::alloc::Global;
 use std::io::Write;
 use std::rt::Files;
 
-/// The exit status of a fault of the line.
+/// The exit status after a fault of the line.
 const FAULT: u8 = 2;
 
-/// Carries out the command that words are, without the program's name, and returns the exit status: 0
-/// if all is well or help or the version was asked for, 1 if a frame was refused, 2 on a fault of the
-/// line, a file or memory. The rows go to `out`; a fault is one line on `err`, but one of the line is
-/// told in the words of the option parser. A failed write to `err` is passed over. No words ask for
-/// help.
+/// Carries out the command of words, without the program's name, and returns the exit status: 0 if all
+/// is well, 1 if a frame has a refusal, 2 after a fault. The rows go to `out`, a fault to `err`.
+/// No words ask for help.
 pub fn run_command<R: Files, O: Write + Drop, E: Write + Drop>(
     rt: &R,
     alloc: Global,
@@ -30,9 +28,12 @@ pub fn run_command<R: Files, O: Write + Drop, E: Write + Drop>(
 ) -> u8
     ensures { result ≤ 2 }
 {
-    let line = match asked(alloc, words, out, err) {
+    let Ok(words) = words_or_help(alloc, words) else {
+        return say(alloc, NAME, &ToolFault::OutOfMemory, err);
+    };
+    let line = match line(alloc, &words) {
         Ok(line) => line,
-        Err(status) => return status,
+        Err(error) => return explain(alloc, NAME, &error, out, err),
     };
     match columns_asked(alloc, line.columns) {
         Ok(columns) => list_files(rt, alloc, &columns, &line.files, out, err),
@@ -40,36 +41,7 @@ pub fn run_command<R: Files, O: Write + Drop, E: Write + Drop>(
     }
 }
 
-/// Reads the command line that words are. If they ask for help or the version, writes it to `out`; if
-/// they are no command line, says so on `err`; and returns the exit status.
-fn asked<'a, O: Write + Drop, E: Write + Drop>(
-    alloc: Global,
-    words: &'a [String],
-    out: &mut O,
-    err: &mut E,
-) -> Result<CommandLine<'a>, u8>
-    ensures { IfErr result (λ status. status ≤ 2) }
-{
-    if words.is_empty() {
-        return Err(help(alloc, out, err));
-    }
-    match line(alloc, words) {
-        Ok(line) => Ok(line),
-        Err(error) => Err(explain(alloc, NAME, &error, out, err)),
-    }
-}
-
-/// Writes the help of the program.
-fn help<O: Write + Drop, E: Write + Drop>(alloc: Global, out: &mut O, err: &mut E) -> u8
-    ensures { result ≤ 2 }
-{
-    match line(alloc, ["--help"].as_slice()) {
-        Ok(_) => WELL,
-        Err(error) => explain(alloc, NAME, &error, out, err),
-    }
-}
-
-/// Returns the columns that are asked for: all if none are named.
+/// Returns the columns of a text, or all columns.
 fn columns_asked(alloc: Global, text: Option<&str>) -> Result<Vec<Column>, ColumnsFault<'_>> {
     match text {
         Some(text) => columns_of(alloc, text),
@@ -80,7 +52,7 @@ fn columns_asked(alloc: Global, text: Option<&str>) -> Result<Vec<Column>, Colum
     }
 }
 
-/// Says on `err` why a text names no columns, and returns the exit status.
+/// Writes the fault of a text of columns to `err`, and returns the exit status.
 fn refuse_columns<E: Write + Drop>(alloc: Global, fault: &ColumnsFault<'_>, err: &mut E) -> u8
     ensures { result ≡ 2 }
 {
@@ -111,12 +83,6 @@ fn list_files<R: Files, O: Write + Drop, E: Write + Drop>(
         Err(Unopened::OutOfMemory) => return say(alloc, NAME, &ToolFault::OutOfMemory, err),
     };
     let mut writer = IntoWrite::new(&mut *out);
-    match run_ls(alloc, MOST_READS, columns, &mut inputs, &mut writer) {
-        Ok(tally) if tally.refused == 0 => WELL,
-        Ok(_) => REFUSED,
-        Err(fault) => match unopened_path(&inputs, &fault) {
-            Some(path) => cannot_open(alloc, NAME, path, err),
-            None => say(alloc, NAME, &fault, err),
-        },
-    }
+    let ended = run_ls(alloc, MOST_READS, columns, &mut inputs, &mut writer);
+    status_of(alloc, NAME, &ended, &inputs, err)
 }

@@ -6,7 +6,7 @@ ghost use Rattle.clap.specs.declared.error.ErrorKind.TheVariants.{OutOfMemory as
 ghost use Rattle.bufr_ls_engine.specs.CommandLines.{columns_option, files_argument, program, value_of};
 ghost use Rattle.bufr_ls_engine.specs.CommandLines.{values_in, values_of};
 
-use bufr_answers::OutOfMemory;
+use bufr_base::OutOfMemory;
 use clap::{Arg, ArgAction, ArgMatches, Command, Error};
 use std::alloc::Global;
 use std::convert::AsStr;
@@ -14,30 +14,30 @@ use std::convert::AsStr;
 /// The name of the program.
 pub(crate) const NAME: &str = "bufr-ls";
 
-/// The version that the program tells.
+/// The version of the program.
 const VERSION: &str = "0.1.0";
 
 /// An example at the end of the help.
 const EXAMPLE: &str = "Example: bufr-ls -c centre,category day/*.bufr | sort | uniq -c";
 
-/// A command line that asks for work.
+/// A command line.
 #[derive(Debug, Drop)]
 pub struct CommandLine<'a> {
-    /// The words of the columns, if they are given.
+    /// The text of the columns.
     pub columns: Option<&'a str>,
     /// The paths of the files, in order.
     pub files: Vec<&'a str>,
 }
 
-/// Returns the command line that words are, without the program's name. Words that are none, or that
-/// ask for help or the version, are an error of `clap`, which has their text and exit status.
+/// Returns the command line of words, without the program's name. If they ask for help or the version,
+/// the error of `clap` has the text and the exit status.
 pub fn line<'a, S: AsStr>(alloc: Global, words: &'a [S]) -> Result<CommandLine<'a>, Error>
     // The columns and the files are the values that `clap` defines for the words.
     ensures columns { IfOk result (λ l. option_map (λ text. text.now) l.columns
         ≡ value_of (codes "columns") (map S.text words.now)) }
     ensures files { IfOk result (λ l. map (λ path. path.now) l.files.items
         ≡ values_of (codes "file") (map S.text words.now)) }
-    // Words that `clap` defines as taken are refused for memory alone.
+    // `line` refuses words that `clap` takes for memory alone.
     ensures taken { IfErr result
         (λ e. takes program (map S.text words.now) ≡ true → kind_of e ≡ NoMemory) }
 {

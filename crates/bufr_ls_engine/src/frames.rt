@@ -1,4 +1,4 @@
-//! The frames of an input, listed as they are found.
+//! The frames of an input.
 
 ghost use Rattle.std.specs.Prelude.{◌≡◌, ◌≤◌, ◌<◌, false, [], length};
 ghost use Rattle.bufr_io.specs.Engines.{IsFresh};
@@ -10,8 +10,7 @@ use bufr_bits::{Sink, Source};
 use bufr_io::{Input, TakesFrames, ToolFault, take_stream};
 use std::alloc::Global;
 
-/// A lister holds the row of each frame that it takes in, and writes the rows of a piece after it.
-/// If memory runs out, it writes them too, and the fault is the writer's if it fails then.
+/// Holds the row of each frame, and writes the rows of a piece after it, also if memory runs out.
 impl<'c, W: Sink> TakesFrames<W> for Lister<'c> {
     ghost count = { λ lister writer. lister.frames };
 
@@ -48,7 +47,7 @@ impl<'c, W: Sink> TakesFrames<W> for Lister<'c> {
     ghost counts_each = { λ first self begin out frames h. h.counts };
 }
 
-/// Lists the frames of an input, each as soon as it is sure, and writes all their rows.
+/// Lists the frames of an input, each as soon as it is sure.
 pub(crate) fn list_input<S: Source, W: Sink>(
     alloc: Global,
     reads: u64,

@@ -10,9 +10,10 @@ pub mod laws;
 mod lister;
 mod ls;
 mod row;
+mod sections;
 mod worked_values;
 
-pub use bufr_files::words_of;
+pub use bufr_program::words_of;
 pub use column::Column;
 pub use columns::{ColumnsFault, columns_of};
 pub use command::run_command;

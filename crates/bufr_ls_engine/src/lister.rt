@@ -1,4 +1,4 @@
-//! What lists the frames of an input: rows are held, and written after each piece.
+//! The writer of rows.
 
 ghost use Rattle.std.specs.Prelude.{◌≡◌, ◌<◌, ◌+◌, ◌^◌, false, [], OnErr, OnOk};
 ghost use Rattle.bufr_io.specs.Engines.{WritesAfter};
@@ -8,31 +8,31 @@ ghost use Rattle.bufr_ls_engine.specs.Listers.{IsUnchanged};
 
 use crate::column::Column;
 use crate::row::{Numbered, hold_row, push_header};
-use bufr_answers::OutOfMemory;
+use bufr_base::OutOfMemory;
 use bufr_bits::Sink;
 use bufr_io::{ToolFault, write_after, write_out};
 use std::alloc::Global;
 
-/// A writer of rows: it holds the rows of the frames of a piece, and writes them together.
+/// A writer of rows, which holds the rows of a piece and writes them together.
 #[derive(Debug, Drop)]
-pub struct Lister<'c> {
+pub(crate) struct Lister<'c> {
     /// The columns of the rows.
-    pub columns: &'c [Column],
+    pub(crate) columns: &'c [Column],
     /// The number of the input, counted from 1.
-    pub input: u128,
-    /// How many frames of the input were taken in.
-    pub frames: u128,
-    /// How many of them are refused.
-    pub refused: u128,
-    /// How many octets were written.
-    pub written: u128,
-    /// The rows that are not written yet.
-    pub held: Vec<u8>,
+    pub(crate) input: u128,
+    /// The count of frames of the input.
+    pub(crate) frames: u128,
+    /// The count of refused frames of the input.
+    pub(crate) refused: u128,
+    /// The number of octets that the writer took.
+    pub(crate) written: u128,
+    /// The rows that wait.
+    pub(crate) held: Vec<u8>,
 }
 
 impl<'c> Lister<'c> {
-    /// Makes a writer of rows before the first input. It takes no memory.
-    pub fn new(alloc: Global, columns: &'c [Column]) -> Lister<'c>
+    /// Makes a writer of rows before the first input.
+    pub(crate) fn new(alloc: Global, columns: &'c [Column]) -> Lister<'c>
         ensures columns { result.columns.now ≡ columns.now }
         ensures written { result.written ≡ 0 }
         ensures held { result.held.items ≡ [] }
@@ -48,7 +48,7 @@ impl<'c> Lister<'c> {
     }
 
     /// Begins an input.
-    pub fn begin(&mut self, input: u128)
+    pub(crate) fn begin(&mut self, input: u128)
         ensures { self.new ≡ record self.old { input = input; frames = 0; refused = 0 } }
     {
         self.input = input;
@@ -56,9 +56,8 @@ impl<'c> Lister<'c> {
         self.refused = 0;
     }
 
-    /// Writes what is held, and holds nothing then. It reports want of memory if the octets are more
-    /// than can be counted.
-    pub fn write_held<W: Sink>(&mut self, writer: &mut W) -> Result<(), ToolFault>
+    /// Writes the rows that wait. Returns `OutOfMemory` if it can't count the octets.
+    pub(crate) fn write_held<W: Sink>(&mut self, writer: &mut W) -> Result<(), ToolFault>
         requires works { (W.writing writer.old).failed ≡ false }
         ensures writes { WritesHeld self.old self.new (W.writing writer.old) (W.writing writer.new)
             result }
@@ -77,7 +76,7 @@ impl<'c> Lister<'c> {
     }
 
     /// Writes the header line.
-    pub fn write_header<W: Sink>(&mut self, writer: &mut W) -> Result<(), ToolFault>
+    pub(crate) fn write_header<W: Sink>(&mut self, writer: &mut W) -> Result<(), ToolFault>
         requires works { (W.writing writer.old).failed ≡ false }
         requires none { self.old.held.items ≡ [] }
         ensures writes { WritesHeader self.old self.new (W.writing writer.old)
@@ -88,17 +87,16 @@ impl<'c> Lister<'c> {
         self.write_held(writer)
     }
 
-    /// Hands on what was written.
-    pub fn hand_on<W: Sink>(&self, writer: &mut W) -> Result<(), ToolFault>
+    /// Flushes the writer.
+    pub(crate) fn hand_on<W: Sink>(&self, writer: &mut W) -> Result<(), ToolFault>
         requires works { (W.writing writer.old).failed ≡ false }
         ensures { WritesAfter self.now.written [] (W.writing writer.old) (W.writing writer.new) result }
     {
         write_out(writer, self.written, b"")
     }
 
-    /// Holds the row of the frame of these octets at this place, and counts the frame. If memory runs
-    /// out, nothing changes.
-    pub fn hold_frame(
+    /// Holds the row of the frame of octets at a place, and counts the frame.
+    pub(crate) fn hold_frame(
         &mut self,
         alloc: Global,
         place: u64,
@@ -121,9 +119,8 @@ impl<'c> Lister<'c> {
         Ok(())
     }
 
-    /// Writes the rows that are held when memory ran out, and returns the fault: that of the writer
-    /// if it fails now.
-    pub fn stop<W: Sink>(&mut self, writer: &mut W) -> ToolFault
+    /// Writes the rows that wait when memory ran out, and returns the fault, which may be the writer's.
+    pub(crate) fn stop<W: Sink>(&mut self, writer: &mut W) -> ToolFault
         requires works { (W.writing writer.old).failed ≡ false }
         ensures { Stops self.old (W.writing writer.old) (W.writing writer.new) result }
     {

@@ -4,7 +4,7 @@ ghost use Rattle.std.specs.Prelude.{◌≡◌, ◌≤◌, ◌<◌, false, [], le
 ghost use Rattle.bufr_io.specs.Limits.{longest_piece, most_reads};
 ghost use Rattle.bufr_ls_engine.specs.Lists.{Lists, WritesFront};
 ghost use Rattle.bufr_ls_engine.specs.Listers.{ListsInputs};
-ghost use Rattle.bufr_ls_engine.specs.Readers.{AreFresh, AreReadAtMost};
+ghost use Rattle.bufr_io.specs.Readers.{AreFresh, AreReadAtMost};
 
 use crate::column::Column;
 use crate::frames::list_input;
@@ -13,9 +13,8 @@ use bufr_bits::{Sink, Source};
 use bufr_io::{Tally, ToolFault, room};
 use std::alloc::Global;
 
-/// Writes a header line, and then a row for each frame of the inputs, which are read one after the
-/// other. The rows of the frames that a read makes sure are written before the next read. The tally
-/// counts the frames and those that are refused.
+/// Writes a header line, and then a row for each frame of the inputs, one input after the other. The row
+/// of a frame goes out before the next read. The tally counts the frames and the refused ones.
 pub fn run_ls<S: Source, W: Sink>(
     alloc: Global,
     reads: u64,
@@ -39,7 +38,7 @@ pub fn run_ls<S: Source, W: Sink>(
     Ok(tally)
 }
 
-/// Writes a header line and the rows of all inputs, and counts their frames.
+/// Writes a header line and the rows of all inputs.
 fn list_inputs<S: Source, W: Sink>(
     alloc: Global,
     reads: u64,

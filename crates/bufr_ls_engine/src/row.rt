@@ -1,40 +1,41 @@
-//! The row of a frame, field by field.
+//! The row of a frame.
 
-ghost use Rattle.std.specs.Prelude.{◌≡◌, ◌++◌, ◌∷◌, [], length, take, decimal, IfOk, OnOk, OnErr};
+ghost use Rattle.std.specs.Prelude.{◌≡◌, ◌++◌, ◌∷◌, ◌<◌, [], length, take, decimal, Ok, Err};
+ghost use Rattle.std.specs.Prelude.{IfOk, OnOk, OnErr};
 ghost use Rattle.std.specs.Int.{from_bool};
 ghost use Rattle.std.specs.List.{join_by};
-ghost use Rattle.bufr_answers.specs.Answers.{result_map};
+ghost use Rattle.bufr_base.specs.Answers.{result_map};
 ghost use Rattle.bufr_tables.specs.Descriptors.{six_digits};
 ghost use Rattle.bufr_sections.specs.Sections.{descriptors_of, two};
-ghost use Rattle.bufr_sections.specs.SectionsRead.{envelope};
 ghost use Rattle.bufr_io.specs.Taking.{frame_at};
 ghost use Rattle.bufr_ls_engine.specs.Columns.{word};
-ghost use Rattle.bufr_ls_engine.specs.Rows.{edition_of, field_as, fields_as, header, refused_in};
-ghost use Rattle.bufr_ls_engine.specs.Rows.{frame_refused, row, row_as, said_in};
+ghost use Rattle.bufr_ls_engine.specs.Rows.{edition_of, field_as, fields_as, frame_refused};
+ghost use Rattle.bufr_ls_engine.specs.Rows.{header, row, row_as};
+ghost use Rattle.bufr_ls_engine.specs.SectionsLent.{lent};
 
 use crate::column::Column;
-use bufr_answers::{Failure, OutOfMemory};
-use bufr_sections::{Envelope, Refused, read_sections};
+use crate::sections::{LentSections, lend_sections};
+use bufr_base::{Failure, OutOfMemory};
+use bufr_sections::Refused;
 use bufr_tables::Fxy;
 use itoa::{Buffer, Integer};
 use std::alloc::Global;
 
-/// A frame, with the numbers that it has among the inputs.
+/// A frame with its numbers.
 #[derive(Clone, Copy, Debug, Drop)]
-pub struct Numbered<'a> {
+pub(crate) struct Numbered<'a> {
     /// The number of its input, counted from 1.
-    pub input: u128,
+    pub(crate) input: u128,
     /// Its number in its input, counted from 1.
-    pub message: u128,
-    /// The place in its input at which it begins.
-    pub place: u64,
+    pub(crate) message: u128,
+    /// Its place in its input.
+    pub(crate) place: u64,
     /// Its octets.
-    pub octets: &'a [u8],
+    pub(crate) octets: &'a [u8],
 }
 
-/// Adds the row of a frame, and returns whether the frame is refused. If memory runs out, the text
-/// is as it was.
-pub fn hold_row(
+/// Adds the row of a frame, and returns whether it has a refusal. If memory runs out, the text stays.
+pub(crate) fn hold_row(
     alloc: Global,
     text: &mut Vec<u8>,
     columns: &[Column],
@@ -46,7 +47,7 @@ pub fn hold_row(
         ≡ frame_refused (frame_at frame.now.place frame.now.octets.now)) }
     ensures err { OnErr result (text.new.items ≡ text.old.items) }
 {
-    let said = match read_sections(alloc, frame.octets) {
+    let said = match lend_sections(frame.octets) {
         Ok(said) => Ok(said),
         Err(Failure::Fault(why)) => Err(why),
         Err(Failure::OutOfMemory) => return Err(OutOfMemory),
@@ -59,8 +60,8 @@ pub fn hold_row(
     Ok(said.is_err())
 }
 
-/// Adds the header line: the words of the columns.
-pub fn push_header(text: &mut Vec<u8>, columns: &[Column]) -> Result<(), OutOfMemory>
+/// Adds the header line.
+pub(crate) fn push_header(text: &mut Vec<u8>, columns: &[Column]) -> Result<(), OutOfMemory>
     ensures { OnOk result (text.new.items ≡ text.old.items ++ header columns.now) }
 {
     push_words(text, columns)?;
@@ -68,9 +69,9 @@ pub fn push_header(text: &mut Vec<u8>, columns: &[Column]) -> Result<(), OutOfMe
     Ok(())
 }
 
-// What follows adds to a text, and only a part if memory runs out.
+// The next functions add only a part if memory runs out.
 
-/// Adds the words of the columns, parted by commas.
+/// Adds the words of the columns, with commas between them.
 fn push_words(text: &mut Vec<u8>, columns: &[Column]) -> Result<(), OutOfMemory>
     ensures { OnOk result
         (text.new.items ≡ text.old.items ++ join_by word (44 ∷ []) columns.now) }
@@ -86,17 +87,17 @@ fn push_words(text: &mut Vec<u8>, columns: &[Column]) -> Result<(), OutOfMemory>
     Ok(())
 }
 
-/// Adds the row of a frame, given what its octets say.
+/// Adds the row of a frame, given its sections.
 fn push_row(
     alloc: Global,
     text: &mut Vec<u8>,
     columns: &[Column],
     frame: &Numbered<'_>,
-    said: &Result<Envelope<'_>, Refused>,
+    said: &Result<LentSections<'_>, Refused>,
 ) -> Result<(), OutOfMemory>
     ensures ok { OnOk result (text.new.items ≡ text.old.items
         ++ row_as columns.now frame.now.input frame.now.message
-        (frame_at frame.now.place frame.now.octets.now) (result_map envelope said.now)) }
+        (frame_at frame.now.place frame.now.octets.now) (result_map lent said.now)) }
     ensures kept { OnErr result (take (length text.old.items) text.new.items ≡ text.old.items) }
 {
     push_fields(alloc, text, columns, frame, said)?;
@@ -104,17 +105,17 @@ fn push_row(
     Ok(())
 }
 
-/// Adds the fields of a frame's row, parted by commas, given what its octets say.
+/// Adds the fields of a frame, given its sections, with commas between them.
 fn push_fields(
     alloc: Global,
     text: &mut Vec<u8>,
     columns: &[Column],
     frame: &Numbered<'_>,
-    said: &Result<Envelope<'_>, Refused>,
+    said: &Result<LentSections<'_>, Refused>,
 ) -> Result<(), OutOfMemory>
     ensures ok { OnOk result (text.new.items ≡ text.old.items
         ++ fields_as columns.now frame.now.input frame.now.message
-        (frame_at frame.now.place frame.now.octets.now) (result_map envelope said.now)) }
+        (frame_at frame.now.place frame.now.octets.now) (result_map lent said.now)) }
     ensures kept { OnErr result (take (length text.old.items) text.new.items ≡ text.old.items) }
 {
     let [first, others @ ..] = columns else {
@@ -128,34 +129,27 @@ fn push_fields(
     Ok(())
 }
 
-/// Adds the field of a column in a frame's row, given what the frame's octets say.
-#[tactic(auto, unfolding(crate::specs::Rows::field_as))]
+/// Adds the field of a column, given the frame's sections.
+#[inline(always)]
 fn push_field(
     alloc: Global,
     text: &mut Vec<u8>,
     column: Column,
     frame: &Numbered<'_>,
-    said: &Result<Envelope<'_>, Refused>,
+    said: &Result<LentSections<'_>, Refused>,
 ) -> Result<(), OutOfMemory>
     ensures ok { OnOk result (text.new.items ≡ text.old.items
         ++ field_as column frame.now.input frame.now.message
-        (frame_at frame.now.place frame.now.octets.now) (result_map envelope said.now)) }
+        (frame_at frame.now.place frame.now.octets.now) (result_map lent said.now)) }
     ensures kept { OnErr result (take (length text.old.items) text.new.items ≡ text.old.items) }
 {
-    match column {
-        Column::Input => push_number(text, frame.input),
-        Column::Message => push_number(text, frame.message),
-        Column::Place => push_number(text, frame.place),
-        Column::Length => push_number(text, frame.octets.len()),
-        Column::Edition => push_count(text, u64::from(edition_of(frame.octets))),
-        _ => match said {
-            Ok(said) => push_said(text, column, said),
-            Err(why) => push_refused(alloc, text, column, why),
-        },
+    match said {
+        Ok(said) => push_said(text, column, frame, said),
+        Err(why) => push_refused(alloc, text, column, frame, why),
     }
 }
 
-/// Returns the edition of a frame, which its octet 8 has.
+/// Returns the edition of a frame.
 fn edition_of(octets: &[u8]) -> u8
     ensures { result ≡ edition_of octets.now }
 {
@@ -165,51 +159,70 @@ fn edition_of(octets: &[u8]) -> u8
     }
 }
 
-/// Adds what sections say in a column, which may be nothing.
-#[tactic(auto, unfolding(crate::specs::Rows::said_in))]
-fn push_said(text: &mut Vec<u8>, column: Column, said: &Envelope<'_>) -> Result<(), OutOfMemory>
-    ensures ok { OnOk result
-        (text.new.items ≡ text.old.items ++ said_in column (envelope said.now)) }
+/// Adds the field of a column of sections.
+#[inline(always)]
+#[tactic(auto, unfolding(crate::specs::Rows::field_as, crate::specs::Rows::said_in))]
+fn push_said(
+    text: &mut Vec<u8>,
+    column: Column,
+    frame: &Numbered<'_>,
+    said: &LentSections<'_>,
+) -> Result<(), OutOfMemory>
+    ensures ok { OnOk result (text.new.items ≡ text.old.items
+        ++ field_as column frame.now.input frame.now.message
+        (frame_at frame.now.place frame.now.octets.now) (Ok (lent said.now))) }
     ensures kept { OnErr result (take (length text.old.items) text.new.items ≡ text.old.items) }
 {
-    let head = &said.head;
     let number = match column {
-        Column::Centre => head.centre,
-        Column::SubCentre => head.sub_centre,
-        Column::Update => u16::from(head.update),
-        Column::Category => u16::from(head.category),
-        Column::International => u16::from(head.international),
-        Column::LocalCategory => u16::from(head.local_category),
+        Column::Input => return push_wide(text, frame.input),
+        Column::Message => return push_wide(text, frame.message),
+        Column::Place => return push_number(text, frame.place),
+        Column::Length => return push_number(text, frame.octets.len()),
+        Column::Edition => u16::from(edition_of(frame.octets)),
+        Column::Centre => said.centre(),
+        Column::SubCentre => said.sub_centre(),
+        Column::Update => said.update(),
+        Column::Category => said.category(),
+        Column::International => said.international(),
+        Column::LocalCategory => said.local_category(),
         Column::MasterTable => 0,
-        Column::MasterVersion => u16::from(head.master_version),
-        Column::LocalVersion => u16::from(head.local_version),
-        Column::Year => head.year,
-        Column::Month => u16::from(head.month),
-        Column::Day => u16::from(head.day),
-        Column::Hour => u16::from(head.hour),
-        Column::Minute => u16::from(head.minute),
-        Column::Second => u16::from(head.second),
+        Column::MasterVersion => said.master_version(),
+        Column::LocalVersion => said.local_version(),
+        Column::Year => said.year(),
+        Column::Month => said.month(),
+        Column::Day => said.day(),
+        Column::Hour => said.hour(),
+        Column::Minute => said.minute(),
+        Column::Second => said.second(),
         Column::Subsets => said.count,
         Column::Observed => u16::from(said.observed),
         Column::Compressed => u16::from(said.compressed),
         Column::Descriptors => return push_descriptors(text, said.listed),
-        _ => return Ok(()),
+        Column::Reason => return Ok(()),
     };
     push_count(text, u64::from(number))
 }
 
-/// Adds what a refusal says in a column.
-#[tactic(auto, unfolding(crate::specs::Rows::refused_in))]
+/// Adds the field of a column of a refusal.
+#[tactic(auto, unfolding(crate::specs::Rows::field_as, crate::specs::Rows::refused_in))]
 fn push_refused(
     alloc: Global,
     text: &mut Vec<u8>,
     column: Column,
+    frame: &Numbered<'_>,
     why: &Refused,
 ) -> Result<(), OutOfMemory>
-    ensures ok { OnOk result (text.new.items ≡ text.old.items ++ refused_in column why.now) }
+    ensures ok { OnOk result (text.new.items ≡ text.old.items
+        ++ field_as column frame.now.input frame.now.message
+        (frame_at frame.now.place frame.now.octets.now) (Err why.now)) }
     ensures kept { OnErr result (take (length text.old.items) text.new.items ≡ text.old.items) }
 {
     match (column, why) {
+        (Column::Input, _) => push_number(text, frame.input),
+        (Column::Message, _) => push_number(text, frame.message),
+        (Column::Place, _) => push_number(text, frame.place),
+        (Column::Length, _) => push_number(text, frame.octets.len()),
+        (Column::Edition, _) => push_count(text, u64::from(edition_of(frame.octets))),
         (Column::MasterTable, Refused::MasterTable(number)) => push_count(text, u64::from(*number)),
         (Column::Reason, _) => {
             text.extend_from_slice(format!(in alloc; "{why}")?.as_bytes())?;
@@ -219,7 +232,7 @@ fn push_refused(
     }
 }
 
-/// Adds the descriptors of two octets each, parted by spaces; an odd octet is none.
+/// Adds the descriptors of two octets each, with spaces between them.
 #[tactic(auto, unfolding(bufr_sections::specs::Sections::descriptors_of))]
 fn push_descriptors(text: &mut Vec<u8>, octets: &[u8]) -> Result<(), OutOfMemory>
     ensures ok { OnOk result (text.new.items ≡ text.old.items
@@ -258,15 +271,41 @@ fn push_number<I: Integer>(text: &mut Vec<u8>, number: I) -> Result<(), OutOfMem
     Ok(())
 }
 
-/// Adds a number that often has one digit.
-#[tactic(auto, using(std::proofs::lemmas::Fmt::decimal_digit))]
+/// Adds a number that seldom needs more than 64 bits.
+fn push_wide(text: &mut Vec<u8>, number: u128) -> Result<(), OutOfMemory>
+    ensures ok { OnOk result (text.new.items ≡ text.old.items ++ decimal number) }
+    ensures kept { OnErr result (take (length text.old.items) text.new.items ≡ text.old.items) }
+{
+    match u64::try_from(number) {
+        Ok(number) => push_count(text, number),
+        Err(_) => push_number(text, number),
+    }
+}
+
+/// Adds a number that often has one digit or two.
 fn push_count(text: &mut Vec<u8>, number: u64) -> Result<(), OutOfMemory>
     ensures ok { OnOk result (text.new.items ≡ text.old.items ++ decimal number) }
     ensures kept { OnErr result (take (length text.old.items) text.new.items ≡ text.old.items) }
 {
-    if number >= 10 {
+    if number >= 100 {
         return push_number(text, number);
     }
-    text.push(b'0' + number as u8)?;
+    if number >= 10 {
+        push_digit(text, number / 10)?;
+        text.push(b'0' + (number % 10) as u8)?;
+        return Ok(());
+    }
+    push_digit(text, number)
+}
+
+/// Adds a number of one digit.
+#[inline(always)]
+#[tactic(auto, using(std::proofs::lemmas::Fmt::decimal_digit))]
+fn push_digit(text: &mut Vec<u8>, digit: u64) -> Result<(), OutOfMemory>
+    requires { digit < 10 }
+    ensures ok { OnOk result (text.new.items ≡ text.old.items ++ decimal digit) }
+    ensures err { OnErr result (text.new.items ≡ text.old.items) }
+{
+    text.push(b'0' + digit as u8)?;
     Ok(())
 }

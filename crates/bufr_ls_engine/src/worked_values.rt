@@ -1,4 +1,4 @@
-//! Worked values of the lines that are printed, typed from the octets of frames.
+//! Worked values of lines, typed from the octets of frames.
 
 ghost use Rattle.std.specs.Prelude.{◌≡◌, ◌++◌, ◌∷◌, [], codes};
 ghost use Rattle.bufr_sections.specs.Samples.{octets3, octets4};
@@ -9,7 +9,7 @@ ghost use Rattle.bufr_ls_engine.specs.Samples.{short_description, short_section2
 ghost use Rattle.bufr_ls_engine.specs.Samples.{shortest_of, some_columns};
 ghost use Rattle.bufr_ls_engine.specs.declared.column.Column.TheVariants.{Category, Centre, Message, Input, Place};
 
-/// The words of all columns, in their order, and of some in another.
+/// The words of all columns, and of some in another order.
 #[tactic(auto, unfolding(crate::proofs::OnLiterals::rows_on_literals))]
 pub fn words_of_columns()
     ensures all { header all_columns ≡ line_of (codes "input,message,place,length,edition,centre,"
@@ -20,7 +20,7 @@ pub fn words_of_columns()
     ensures none { header [] ≡ line_of [] }
 {}
 
-/// The rows of messages of both editions, whose numbers all differ.
+/// The rows of messages of both editions.
 #[tactic(auto, unfolding(crate::proofs::OnLiterals::rows_on_literals))]
 pub fn rows_of_messages()
     ensures edition_4 { full_row (octets4 (codes "80")) ≡ line_of (codes "3,7,1840,59,4,258,772,5,6,"
@@ -33,7 +33,7 @@ pub fn rows_of_messages()
         ≡ line_of (codes "4,2") }
 {}
 
-/// The rows of refused frames: what each has, and nothing else.
+/// The rows of refused frames.
 #[tactic(auto, unfolding(crate::proofs::OnLiterals::rows_on_literals))]
 pub fn rows_of_refused_frames()
     ensures edition { full_row (shortest_of (codes "05"))
@@ -52,7 +52,7 @@ pub fn rows_of_refused_frames()
         ≡ line_of (codes "M6 MasterTable 10,10,4,34,1840,7,3") }
 {}
 
-/// All that is listed of inputs: inputs and frames are counted from 1, frames in each input.
+/// The lines of inputs.
 #[tactic(auto, unfolding(crate::proofs::OnLiterals::rows_on_literals))]
 pub fn rows_of_inputs()
     ensures none { listed_heads (Input ∷ []) [] ≡ line_of (codes "input") }

@@ -1,6 +1,7 @@
 //! What the engine of `bufr-ls` returns and writes.
 
 mod devices;
+mod growth;
 mod samples;
 
 use bufr_io::{Input, Tally, ToolFault};
@@ -104,6 +105,36 @@ fn rows_in_any_pieces(rt: HostRuntime) {
             ..run
         };
         assert_run(&rt, alloc, run, Ok((8, 6)), &text);
+    }
+}
+
+/// A thousand refused frames and a thousand messages, by turns: 56,000 octets in one read and in many.
+#[test]
+fn thousand_messages(rt: HostRuntime) {
+    let alloc = rt.alloc();
+    let columns = [
+        Column::Message,
+        Column::Place,
+        Column::Reason,
+        Column::Descriptors,
+    ];
+    let mut stream = Vec::new(alloc);
+    let mut text = joined(&rt, alloc, &["message,place,reason,descriptors\n"]);
+    for turn in 0..1000u32 {
+        let (first, place) = (2 * turn + 1, 56 * turn);
+        let (second, next) = (first + 1, place + 12);
+        let rows = format!(in alloc;
+            "{first},{place},M2 Edition 5,\n{second},{next},,301001\n"
+        ).expect(&rt, "memory");
+        text.extend_from_slice(rows.as_bytes())
+            .expect(&rt, "memory");
+        stream.extend_from_slice(TWO_FRAMES).expect(&rt, "memory");
+    }
+    for most in [100, 65_536] {
+        let mut run = Run::new(&columns, &stream, b"", b"");
+        run.place = most;
+        run.most = most;
+        assert_run(&rt, alloc, run, Ok((2000, 1000)), &text);
     }
 }
 

@@ -1,5 +1,4 @@
--- The bits of a subset counted field by field: for whether a subset can be said alone, which
--- `can_be_alone` tests.
+-- A subset with more bits than the longest message fits no message of its own: for `can_be_alone`.
 use Rattle.std.proofs.Common.{◌≡◌, ℕ, ◌+◌, ◌<◌, false, List, length, take, get_or, sym, ap, arith}
 use Rattle.std.specs.Prelude.{nat_le}
 use Rattle.std.proofs.lemmas.Bool.{lt-leb}
@@ -10,7 +9,6 @@ use Rattle.bufr_data.specs.Plain.{field_bits, plain}
 use Rattle.bufr_sections.specs.Spelt.{longest}
 use Rattle.bufr_message.specs.Messages.{octets_alone}
 
--- a subset with more bits than the longest message has cannot be said alone
 pub too_many : (descriptors : List ℕ) (s : Subset) (items : List Field) (i bits own : ℕ) (f : Field)
     → items ≡ s.fields → i < length items → f ≡ get_or items i f
     → bits ≡ length (plain (take i s.fields)) → own ≡ length (field_bits f)

@@ -1,5 +1,5 @@
--- Each subset of the data of a message stands in plain data of its own, which are no longer than
--- those: for the law that the reports of a message have canonical messages.
+-- Each subset of a message's data has plain data of its own, which are no longer: for the law
+-- `reports_have_canonical_messages`.
 use Rattle.std.proofs.Common.{◌≡◌, ℕ, zero, suc, ◌+◌, ◌≤◌, Bool, true, false, List, [], ◌∷◌, ◌++◌}
 use Rattle.std.proofs.Common.{length, map, sym, ap, subst, ◌∙◌, arith, length-append}
 use Rattle.std.specs.List.{AllByRecursion, flat_map}
@@ -21,7 +21,6 @@ use Rattle.bufr_data.specs.Data.{IsDataOf}
 
 -- ---- one value and its column
 
--- two values of one spec's form take as many bits
 same_room : (spec : Spec) (a b : Raw) → HasForm spec a → HasForm spec b
     → length (raw_bits spec.width a) ≡ length (raw_bits spec.width b)
 same_room spec a b (of_text xs kind long small) (of_text ys kind2 long2 small2) =
@@ -31,7 +30,6 @@ same_room spec a b (of_number n other few least) (of_text ys kind long small) = 
 same_room spec a b (of_number n other few least) (of_number k other2 few2 least2) =
     length-bin spec.width n ∙ sym (length-bin spec.width k)
 
--- a column is no shorter than a value of its spec's form
 column_is_long : (spec : Spec) (values : List Raw) (column : List Bool) (v : Raw)
     → IsColumn spec values column → HasForm spec v → length (raw_bits spec.width v) ≤ length column
 column_is_long spec values column v (equal minimum form same is) has =
@@ -61,7 +59,6 @@ column_is_long spec values column v (texts ignored k own form some few wide each
 abbrev FieldsHaveForm : List Field → Type 0
 FieldsHaveForm fields = AllByRecursion (λ f. HasForm f.spec f.raw) fields
 
--- columns are no shorter than the fields of one subset
 columns_are_long : (n k : ℕ) (columns : List Column) (front : List Bool)
     → AreColumns n columns front → FieldsHaveForm (map (field_of k) columns)
     → length (plain (map (field_of k) columns)) ≤ length front
@@ -79,14 +76,13 @@ columns_are_long n k (c ∷ cs) front (column, others, is, many, held, one_count
 
 -- ---- all subsets
 
--- a subset fits by itself, and its own plain bits are at most so many
+-- a subset fits by itself, and has at most this number of plain bits
 pub record StandsAlone (tree : Tree) (most : ℕ) (s : Subset) : Type 0 where
   pub items : ℕ
   pub fits : Fits tree s.fields items
   pub few : items ≤ most_items
   pub short : length (plain_subsets (s ∷ [])) ≤ most
 
--- a subset that fits stands alone
 alone_is : (tree : Tree) (most : ℕ) (s : Subset) (items : ℕ) → Fits tree s.fields items
     → items ≤ most_items → length (plain s.fields) ≤ most → StandsAlone tree most s
 alone_is tree most s items fits few short =
@@ -98,7 +94,6 @@ alone_is tree most s items fits few short =
           (arith, length-append (plain s.fields) []);
     }
 
--- the subsets of columns stand alone
 packed_alone : (tree : Tree) (n : ℕ) (columns : List Column) (front : List Bool)
     → AreColumns n columns front → (k count : ℕ)
     → AllByRecursion (FitsAlone tree) (subsets_from k count columns)
@@ -110,7 +105,6 @@ packed_alone tree n columns front are k (suc count) ((total, (items, fits, sum, 
   packed_alone tree n columns front are (k + 1) count others,
 )
 
--- plain subsets stand alone
 plain_alone : (tree : Tree) (most : ℕ) (subsets : List Subset) (items : ℕ)
     → AllFit tree subsets items → items ≤ most_items → length (plain_subsets subsets) ≤ most
     → AllByRecursion (StandsAlone tree most) subsets
@@ -121,7 +115,6 @@ plain_alone tree most (s ∷ ss) items (own, others, fits, more, sum) few short 
       plain_alone tree most ss others more (omega arith) (omega arith),
     )
 
--- each subset of data stands alone in no more bits
 pub each_alone : (tree : Tree) (compressed : Bool) (subsets : List Subset) (data_bits : List Bool)
     → IsDataOf tree compressed subsets data_bits
     → AllByRecursion (StandsAlone tree (length data_bits)) subsets

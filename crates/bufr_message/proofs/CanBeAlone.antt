@@ -1,5 +1,5 @@
--- Whether each subset of a message can be said alone, and that in edition 4 each can: for the laws
--- on messages that are read and on reports.
+-- The test of whether each subset fits a message of its own; in edition 4 each does. For the laws
+-- on reading and on reports.
 use Rattle.std.proofs.Common.{◌≡◌, ℕ, ◌+◌, ◌*◌, ◌/◌, ◌<◌, ◌≤◌, ◌^◌, Bool, List, [], ◌∷◌, ◌++◌}
 use Rattle.std.proofs.Common.{Decides, length, refl, arith, length-append}
 use Rattle.std.specs.Prelude.{nat_le}
@@ -22,7 +22,6 @@ use Rattle.bufr_message.proofs.LengthFacts.{contents_hold, spelling_long}
 
 -- ---- the test
 
--- subsets pass it that can each be said alone, and no others
 pub alone_is_tested : (descriptors : List ℕ) (subsets : List Subset)
     → Decides (can_be_alone descriptors subsets) (CanBeAlone descriptors subsets)
 alone_is_tested descriptors [] = (λ e. tt, λ all. refl)
@@ -33,7 +32,6 @@ alone_is_tested descriptors (s ∷ subsets) =
 
 -- ---- edition 4
 
--- subsets whose plain bits are so many at most
 pub all_short : (descriptors : List ℕ) (tree : Tree) (most : ℕ) (subsets : List Subset)
     → 45 + 2 * length descriptors + (most + 7) / 8 ≤ longest
     → AllByRecursion (StandsAlone tree most) subsets → CanBeAlone descriptors subsets
@@ -43,7 +41,7 @@ all_short descriptors tree most (s ∷ subsets) few (first, others) =
     let short = first.short in
     (omega arith, all_short descriptors tree most subsets few others)
 
--- a message of edition 4 is as long as each of its subsets said alone
+-- a message of edition 4 is as long as each of its subsets alone
 pub alone_in_edition_4 : BareSpellingsAreShortest
     → (tree : Tree) (m : Message) (contents : List ℕ) (i : Ignored) (data_bits rest : List Bool)
     → bits contents ≡ data_bits ++ rest

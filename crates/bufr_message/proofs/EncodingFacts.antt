@@ -1,17 +1,16 @@
--- Data bits in whole octets: for the octets behind the fourth of section 4 that `encode` writes.
+-- Data bits in whole octets: for `encode`.
 use Rattle.std.proofs.Common.{◌≡◌, ℕ, ◌+◌, ◌-◌, ◌*◌, ◌<◌, ◌%◌, ◌/◌, Bool, false, get_or, replicate}
 use Rattle.std.proofs.Common.{List, [], length, Result, refl, ap, arith}
 use Rattle.std.proofs.lemmas.List.{length-append, length-replicate, append-nil}
 use Rattle.bufr_bits.specs.Bits.{bits}
 use Rattle.bufr_bits.specs.OctetLaws.{length-bits, numbers-bits}
-use Rattle.bufr_fields.specs.declared.fault.WriteFault.{WriteFault}
+use Rattle.bufr_fields.specs.declared.fault.MisfitFault.{MisfitFault}
 use Rattle.bufr_sections.specs.declared.message.Message.{Message}
 use Rattle.bufr_sections.specs.Spelt.{spelt_or}
 use Rattle.bufr_message.specs.Messages.{envelope_with}
 use Rattle.bufr_message.specs.Encodings.{whole_octets, data_or, enclosed_or}
 use Rattle.bufr_data.specs.Subsets.{filled}
 
--- bits filled to whole octets, as octets
 pub whole_octets_are : (octets : List ℕ) (data_bits : List Bool)
     → ((i : ℕ) → get_or octets i 0 < 256) → bits octets ≡ filled data_bits
     → whole_octets data_bits ≡ octets
@@ -25,8 +24,7 @@ whole_octets_are octets data_bits small same =
     let back = numbers-bits octets [] small in
     rw (count, pad, ← same) (rw (append-nil (bits octets)) at back)
 
--- what is answered for the sections of a message with these octets behind the fourth of section 4
 pub enclosed_is : (m : Message) (contents : List ℕ) (data_bits : List Bool)
-    (x : Result (List ℕ) WriteFault) → whole_octets data_bits ≡ contents
+    (x : Result (List ℕ) MisfitFault) → whole_octets data_bits ≡ contents
     → spelt_or (envelope_with m contents) ≡ x → enclosed_or m data_bits ≡ data_or x
 enclosed_is m contents data_bits x whole told = rw (whole, told) refl

@@ -1,11 +1,11 @@
--- Octets are refused for the first cause in the order of the sections, the descriptors and the
--- data: for the laws on refusals of octets.
+-- Reading refuses octets for the first cause of the sections, the descriptors and the data: for the
+-- laws on refusals of octets.
 use Rattle.std.proofs.Common.{◌≡◌, ℕ, ◌/◌, Bool, true, false, cond, List, length, Result, Ok, Err}
 use Rattle.std.proofs.Common.{refl, ap, subst, ◌∙◌, inl, inr}
 use Rattle.std.proofs.lemmas.Bool.{not-true}
 use Rattle.std.proofs.lemmas.Bool.Decides.{not_from_Decides, Decides-not}
 use Rattle.bufr_bits.specs.Bits.{bits}
-use Rattle.bufr_answers.specs.Answers.{◌>>=◌}
+use Rattle.bufr_base.specs.Answers.{◌>>=◌}
 use Rattle.bufr_tables.specs.Entries.{Entries}
 use Rattle.bufr_expand.specs.Templates.{template}
 use Rattle.bufr_expand.specs.Flat.{IsTreeOf}
@@ -17,35 +17,31 @@ use Rattle.bufr_sections.specs.declared.fault.Refused.TheVariants.{Template, Dat
 use Rattle.bufr_sections.specs.Sections.{Envelope, AreOctets, envelope_of}
 use Rattle.bufr_message.specs.Messages.{template_or, data_or, message_with, can_be_alone, ended}
 use Rattle.bufr_message.specs.Messages.{message_in, message_of}
-use Rattle.bufr_fields.specs.declared.fault.ReadFault.TheVariants.{TooLarge}
+use Rattle.bufr_fields.specs.declared.fault.DataFault.TheVariants.{TooLarge}
 use Rattle.bufr_sections.specs.Causes.{IsFirstRefusal, HasSections, is_of_sections}
 use Rattle.bufr_message.specs.Refusals.{IsFirstFault}
 use Rattle.bufr_message.specs.Below.{Below}
-use Rattle.bufr_answers.specs.AnswerLaws.{bind_err}
+use Rattle.bufr_base.specs.AnswerLaws.{bind_err}
 use Rattle.bufr_message.proofs.MessageFacts.{template_passes, data_passes}
 use Rattle.bufr_message.proofs.StepFacts.{step_takes, step_refuses}
 use Rattle.bufr_message.proofs.CanBeAlone.{alone_is_tested}
 
--- ---- octets that are refused
+-- ---- a refusal is the first fault
 
--- a test without which there is a fault was not passed
 not_passed : {A F : Type 0} (b : Bool) (x : A) (fault other : F)
     → cond b (Ok x) (Err fault) ≡ Err other → (b ≡ false) × (fault ≡ other)
 not_passed true x fault other e = absurd cc
 not_passed false x fault other e = (refl, cc)
 
--- what is read under a tree
 abbrev read : Envelope → Tree → Result Decoded Refused
 read e tree = data_or (subsets_in tree e.compressed e.count (bits e.contents)) >>= ended e
 
--- a fault of the sections is the first
 section_fault : (tables : Entries) (octets : List ℕ) (fault : Refused) → is_of_sections fault ≡ true
     → IsFirstRefusal octets fault → IsFirstFault tables octets fault
 section_fault tables octets (Template why) of first = absurd cc
 section_fault tables octets (Data why) of first = absurd cc
 section_fault tables octets fault of first = first
 
--- a fault of the data is the first
 data_fault : Below
     → (tables : Entries) (octets : List ℕ) (fault : Refused) (e : Envelope) (tree : Tree)
     → HasSections octets e → IsTreeOf tables e.descriptors tree → read e tree ≡ Err fault
@@ -72,7 +68,6 @@ data_fault below tables octets fault e tree has built refused =
           (e, tree, has, built, inr (refl, found.0, begins, none))
     ]
 
--- a fault of the descriptors is the first
 tree_fault : Below → (tables : Entries) (octets : List ℕ) (fault : Refused) (e : Envelope)
     → HasSections octets e → (template_or (template tables e.descriptors) >>= read e) ≡ Err fault
     → IsFirstFault tables octets fault
@@ -89,14 +84,12 @@ tree_fault below tables octets fault e has refused =
           data_fault below tables octets fault e tree.0 has built tree.2
     ]
 
--- a fault of what stands in the sections is the first
 message_fault : Below → (tables : Entries) (octets : List ℕ) (fault : Refused) (e : Envelope)
     → HasSections octets e → message_in tables e ≡ Err fault → IsFirstFault tables octets fault
 unfolding message_in
 message_fault below tables octets fault e has refused =
     tree_fault below tables octets fault e has refused
 
--- octets that are refused are so for their first fault
 pub fault_when_refused : Below → (tables : Entries) (octets : List ℕ) (fault : Refused)
     → AreOctets octets → message_of tables octets ≡ Err fault → IsFirstFault tables octets fault
 unfolding message_of
@@ -108,19 +101,16 @@ fault_when_refused below tables octets fault all refused =
       | inr e ↦ message_fault below tables octets fault e.0 (below.takes octets e.0 all e.1) e.2
     ]
 
--- ---- faults that octets have
+-- ---- the first fault is the refusal
 
--- sections that are there are read
 said : Below → (octets : List ℕ) (e : Envelope) → HasSections octets e → envelope_of octets ≡ Ok e
 said below octets e has = ap envelope_of has.2 ∙ below.says has.0 e has.1 has.3
 
--- the first cause of the sections is answered
 sections_answered : Below → (tables : Entries) (octets : List ℕ) (fault : Refused)
     → IsFirstRefusal octets fault → message_of tables octets ≡ Err fault
 unfolding message_of
 sections_answered below tables octets fault first = rw (below.answered octets fault first) refl
 
--- the first fault of octets is answered
 pub refused_when_fault : Below → (tables : Entries) (octets : List ℕ) (fault : Refused)
     → IsFirstFault tables octets fault → message_of tables octets ≡ Err fault
 unfolding message_of message_in

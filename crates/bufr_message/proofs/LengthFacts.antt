@@ -1,5 +1,4 @@
--- How long the octets of a message are, of its parts: for the law that the reports of a message
--- have canonical messages.
+-- The length of a message by its parts: for the law `reports_have_canonical_messages`.
 use Rattle.std.proofs.Common.{◌≡◌, ℕ, ◌+◌, ◌*◌, ◌≤◌, Bool, Option, None, List, [], ◌∷◌, ◌++◌}
 use Rattle.std.proofs.Common.{length, codes, refl, ap, arith}
 use Rattle.std.specs.List.{flat_map}
@@ -14,7 +13,6 @@ use Rattle.bufr_sections.specs.Sections.{is_present, nothing_ignored, section1, 
 use Rattle.bufr_sections.specs.Sections.{section4}
 use Rattle.bufr_sections.specs.SectionLaws.{BareSpellingsAreShortest}
 
--- octets that begin with data bits have eight bits each
 pub contents_hold : (data_bits rest : List Bool) (contents : List ℕ)
     → bits contents ≡ data_bits ++ rest
     → 8 * length contents ≡ length data_bits + length rest
@@ -22,17 +20,14 @@ contents_hold data_bits rest contents begins =
     let size = ap length begins in
     omega (arith, length-append data_bits rest, length-bits contents)
 
--- two octets a descriptor
 pairs : (ds : List ℕ) → length (flat_map (bytes_high_first 2) ds) ≡ 2 * length ds
 pairs [] = refl
 pairs (d ∷ ds) = let more = pairs ds in omega arith
 
--- section 0 and `7777` are 12 octets around the sections
 enclosed_long : (layout : Layout) (middle : List ℕ)
     → length (enclosed layout middle) ≡ 12 + length middle
 enclosed_long layout middle = let both = length-append middle (codes "7777") in omega arith
 
--- four parts, one behind another, are as long as all of them
 four_parts : (a b c d : List ℕ)
     → length (a ++ b ++ c ++ d) ≡ length a + length b + length c + length d
 four_parts a b c d =
@@ -41,7 +36,6 @@ four_parts a b c d =
     let third = length-append (a ++ b ++ c) d in
     omega arith
 
--- a message of edition 4 with nothing in what is free, no octets for local use and no section 2
 pub bare_long : (e : Envelope) → e.head.local ≡ [] → e.section2 ≡ None
     → length (spelling Edition4 e nothing_ignored)
     ≡ 45 + 2 * length e.descriptors + length e.contents
@@ -59,7 +53,7 @@ bare_long e no_local no_section2 =
     let whole = enclosed_long Edition4 (one ++ two ++ three ++ four) in
     omega arith
 
--- no message of edition 4 with these descriptors and these octets in section 4 is shorter
+-- no message of edition 4 with these descriptors and this section 4 is shorter
 pub spelling_long : BareSpellingsAreShortest → (e : Envelope) (i : Ignored)
     → 45 + 2 * length e.descriptors + length e.contents ≤ length (spelling Edition4 e i)
 spelling_long law e i =

@@ -1,5 +1,4 @@
--- The lemmas behind the contracts and laws of this crate: messages read, written and refused,
--- reports.
+-- Lemmas on messages and reports.
 pub mod OnLiterals
 pub mod StepFacts
 pub mod LengthFacts
@@ -16,4 +15,3 @@ pub mod SmallFacts
 pub mod UnderFacts
 pub mod ViewFacts
 pub mod OwnBitsFacts
-pub mod KeptFacts

@@ -1,7 +1,6 @@
--- The message that is read is the one that the octets spell: for `Templates::view` and the laws on
--- messages that are read.
-use Rattle.bufr_answers.specs.Answers.{Gives}
-use Rattle.bufr_answers.specs.declared.failure.Failure.{Failure}
+-- Reading returns the message that octets spell: for `MessageReader::read` and the laws on reading.
+use Rattle.bufr_base.specs.Answers.{Gives}
+use Rattle.bufr_base.specs.declared.failure.Failure.{Failure}
 use Rattle.std.proofs.Common.{◌≡◌, ℕ, ◌/◌, Bool, true, List, length, Result, Ok, refl, sym, ap}
 use Rattle.std.proofs.Common.{subst, ◌∙◌}
 use Rattle.bufr_bits.specs.Bits.{bits}
@@ -20,16 +19,15 @@ use Rattle.bufr_sections.specs.Sections.{envelope_of}
 use Rattle.bufr_message.specs.Messages.{envelope_with, Spells, template_or, data_or, message_with}
 use Rattle.bufr_message.specs.Messages.{CanBeAlone, can_be_alone, message_in, message_of}
 use Rattle.bufr_message.specs.Laws.{MessagesSpeltAreRead}
-use Rattle.bufr_answers.specs.AnswerLaws.{bind_ok, passed_ok}
+use Rattle.bufr_base.specs.AnswerLaws.{bind_ok, passed_ok}
 use Rattle.bufr_sections.specs.declared.fault.Refused.TheVariants.{Template, Data}
-use Rattle.bufr_fields.specs.declared.fault.ReadFault.TheVariants.{TooLarge}
+use Rattle.bufr_fields.specs.declared.fault.DataFault.TheVariants.{TooLarge}
 use Rattle.bufr_message.specs.Below.{Below}
 use Rattle.bufr_message.proofs.CanBeAlone.{alone_is_tested}
 use Rattle.bufr_message.proofs.StepFacts.{PassesOn, step_takes}
 
--- ---- what is spelt is read
+-- ---- reading returns what octets spell
 
--- what the tree and the data are, each step answers
 in_turn : (tables : Entries) (e : Envelope) (tree : Tree) (found : List Subset × List Bool)
     → template tables e.descriptors ≡ Ok tree
     → subsets_in tree e.compressed e.count (bits e.contents) ≡ Ok found
@@ -39,7 +37,6 @@ in_turn : (tables : Entries) (e : Envelope) (tree : Tree) (found : List Subset �
 unfolding message_in
 in_turn tables e tree found built read alone = rw (built, read, alone) refl
 
--- the message that octets spell is read of them
 pub message_of_spelt : Below → (tables : Entries) (octets : List ℕ) (m : Message) (slack : ℕ)
     → Spells tables m octets slack
     → message_of tables octets ≡ Ok (record { message = m; slack_octets = slack })
@@ -56,17 +53,14 @@ message_of_spelt below tables octets m slack s =
     rw said (in_turn tables e s.tree (m.subsets, s.rest) built found alone)
     ∙ ap (λ n. Ok (record { message = m; slack_octets = n })) (sym s.after)
 
--- ---- what is read is spelt
+-- ---- octets spell what reading returns
 
--- a tree is passed on, and the fault of descriptors becomes a refusal
 pub template_passes : PassesOn template_or Template
 template_passes = record { value = λ tree. refl; fault = λ why. refl }
 
--- data are passed on, and so is their fault
 pub data_passes : {A : Type 0} → PassesOn {A = A} data_or Data
 data_passes = record { value = λ found. refl; fault = λ why. refl }
 
--- what is read spells its message
 spells_read : Below
     → (tables : Entries) (octets : List ℕ) (layout : Layout) (e : Envelope) (i : Ignored)
     (tree : Tree) (found : List Subset × List Bool) → octets ≡ spelling layout e i
@@ -94,7 +88,6 @@ spells_read below tables octets layout e i tree found spelt fits has read alone 
       alone = alone;
     }
 
--- a message that is read is spelt so
 pub message_of_takes : Below → (tables : Entries) (octets : List ℕ) (d : Decoded) → AreOctets octets
     → message_of tables octets ≡ Ok d → Spells tables d.message octets d.slack_octets
 unfolding message_of message_in
@@ -116,9 +109,8 @@ message_of_takes below tables octets d all ok =
     subst (λ (d : Decoded). Spells tables d.message octets d.slack_octets) done.1
     (spells_read below tables octets said.0 e.0 said.1 tree.0 found.0 said.2 said.3 has read alone)
 
--- ---- what a call answers that answers the message that is read
+-- ---- results of a call
 
--- it answers what is spelt
 pub spelt_answered : MessagesSpeltAreRead
     → (tables : Entries) (octets : List ℕ) (r : Result Decoded (Failure Refused))
     → Gives (λ (d : Decoded). d) r (message_of tables octets) → (m : Message) (z : ℕ)

@@ -1,4 +1,4 @@
--- What opens the definitions on literals: for the worked examples.
+-- The definitions that the worked examples open.
 use Rattle.bufr_bits.specs.Bits.{bin, number, numbers, number_at, numbers_at}
 use Rattle.bufr_tables.specs.Entries.{at}
 use Rattle.bufr_expand.specs.Expansion.{expand_list, expand_within}
@@ -15,7 +15,6 @@ use Rattle.bufr_sections.specs.Spelt.{spelt_or}
 use Rattle.bufr_message.specs.Messages.{message_in, message_of}
 use Rattle.bufr_message.specs.Encodings.{data_bits_or, code}
 
--- the definitions that the examples cite open on literals
 unfoldable pub messages_on_literals : Unit {0}
 unfolding bin number numbers number_at numbers_at at expand_list expand_within tree_within turns
     course_then fields_at subsets_at items_of items_of_all columns_at columns_of fewest_bits

@@ -1,5 +1,5 @@
 -- A canonical message is what the report's own fields spell: for the law on canonical messages,
--- `canonical_of_read` and `View::canonical`.
+-- `canonical_of_read` and views.
 use Rattle.std.proofs.Common.{◌≡◌, ℕ, zero, suc, ◌^◌, ◌<◌, Bool, true, false, List, [], ◌∷◌, ◌++◌, length}
 use Rattle.std.proofs.Common.{Option, Some, None, Result, Ok, Err, refl, sym, ap, subst, ◌∙◌, arith}
 use Rattle.std.proofs.Common.{inl, inr}
@@ -16,7 +16,7 @@ use Rattle.bufr_expand.specs.declared.operators.Spec.{Spec}
 use Rattle.bufr_fields.specs.declared.field.Raw.{Raw}
 use Rattle.bufr_fields.specs.declared.field.Field.{Field}
 use Rattle.bufr_fields.specs.declared.field.Subset.{Subset}
-use Rattle.bufr_fields.specs.declared.fault.WriteFault.{WriteFault}
+use Rattle.bufr_fields.specs.declared.fault.MisfitFault.{MisfitFault}
 use Rattle.bufr_data.specs.Data.{ReadsExactly}
 use Rattle.bufr_expand.specs.Trees.{Tree}
 use Rattle.bufr_sections.specs.declared.message.Head.{Head}
@@ -27,8 +27,8 @@ use Rattle.bufr_sections.specs.SectionsRead.{envelope_lent, message_lent}
 use Rattle.bufr_sections.specs.Spelt.{spelt_or}
 use Rattle.bufr_fields.specs.Fits.{HasForm, of_text, of_number}
 use Rattle.bufr_data.specs.Plain.{plain}
-use Rattle.bufr_answers.specs.Answers.{result_map}
-use Rattle.bufr_answers.specs.AnswerLaws.{bind_ok, ok_is}
+use Rattle.bufr_base.specs.Answers.{result_map}
+use Rattle.bufr_base.specs.AnswerLaws.{bind_ok, ok_is}
 use Rattle.bufr_message.specs.declared.report.Report.{Report}
 use Rattle.bufr_message.specs.Below.{Below}
 use Rattle.bufr_message.specs.Encodings.{whole_octets, data_or, data_bits_or, enclosed_or}
@@ -46,7 +46,6 @@ use Rattle.bufr_message.proofs.EncodingFacts.{enclosed_is, whole_octets_are}
 use Rattle.bufr_message.proofs.WrittenFacts.{bits_found}
 use Rattle.bufr_message.proofs.UnwrittenFacts.{bare_is_written}
 
--- the sections of a report alone with this head and these octets behind the fourth of section 4
 abbrev pub envelope_alone : Head → Report → List ℕ → Envelope
 envelope_alone h r contents =
     record {
@@ -59,13 +58,11 @@ envelope_alone h r contents =
       contents = contents;
     }
 
--- a raw value of a spec's form has room in its bits
 room_of : (spec : Spec) (raw : Raw) → HasForm spec raw → has_room spec.width raw ≡ true
 room_of spec raw (of_text octets kind long small) = refl
 room_of spec raw (of_number n other few below) =
     and_from (nat_le spec.width 64) (nat_lt n (2 ^ spec.width)) (le-leb _ _ few) (lt-ltb _ _ below)
 
--- so have all of them
 rooms_of : (fields : List Field) → AllByRecursion (λ f. HasForm f.spec f.raw) fields
     → have_room fields ≡ true
 rooms_of [] forms = refl
@@ -84,16 +81,14 @@ canonical_is_own below tables r octets c =
     let same : found.0 ≡ plain r.subset.fields = held.3.2 ∙ append-nil (plain r.subset.fields) in
     rw rooms (ap if_written (sym (ap (enclosed_or (alone r)) same) ∙ found.2))
 
--- ---- subsets that were read
+-- ---- subsets as read
 
--- so have the fields of subsets that stand alone
 all_rooms : (tree : Tree) (most : ℕ) (subsets : List Subset)
     → AllByRecursion (StandsAlone tree most) subsets → HaveRoom subsets
 all_rooms tree most [] all = tt
 all_rooms tree most (s ∷ ss) (first, others) =
     (rooms_of s.fields first.fits.formed, all_rooms tree most ss others)
 
--- and so have those of subsets that are read
 pub rooms_read : ((tree : Tree) (compressed : Bool) (count : ℕ) (front : List Bool)
     (found : List Subset × List Bool) → ReadsExactly tree compressed count front found)
     → (contents : List ℕ) (compressed : Bool) (subsets : List Subset)
@@ -102,16 +97,14 @@ rooms_read reads contents compressed subsets (tree, count, rest, is) =
     let begins = (reads tree compressed count (bits contents) (subsets, rest)).0 is in
     all_rooms tree (length begins.0) subsets (each_alone tree compressed subsets begins.0 begins.1)
 
--- ---- the canonical message of a report of a view
+-- ---- the canonical message of a view's report
 
--- there is a subset at each number below their count, whose fields have room
 room_at : (subsets : List Subset) (i : ℕ) → i < length subsets → HaveRoom subsets
     → (s : Subset) × (slice_get subsets i ≡ Some s) × (have_room s.fields ≡ true)
 room_at [] i below rooms = absurd (omega arith)
 room_at (s ∷ ss) zero below rooms = (s, refl, rooms.0)
 room_at (s ∷ ss) (suc i) below rooms = room_at ss i (omega (arith, below)) rooms.1
 
--- what is put behind others with the bits of the subset of a number is what its report spells alone
 pub put_there : {E : Type 0} (m : Message) (i : ℕ) (contents old new : List ℕ)
     (answer : Result Bool E) → i < length m.subsets → HaveRoom m.subsets
     → IfSome (slice_get m.subsets i) (λ s. bits contents ≡ filled (plain s.fields))
@@ -132,20 +125,17 @@ put_there m i contents old new (Ok there) below rooms holds put =
     subst (λ (o : Option Report). AddsOwn o old there new)
     (sym (slice_get-map (report_of m) m.subsets i ∙ ap (option_map (report_of m)) t.1)) alone
 
--- what was put behind none, where it is said whether there is some
 pub told_own : (own : Option (List ℕ)) (there some : Bool) (new : List ℕ)
     → IsPutBehind [] own there new → there ≡ some → own ≡ (if some then Some new else None)
 told_own None there some new put is = rw (← is, put.0) refl
 told_own (Some octets) there some new put is = rw (← is, put.0, put.1) refl
 
--- so it is what the report that is there spells alone
 pub told_there : (found : Option Report) (there some : Bool) (new : List ℕ)
     → AddsOwn found [] there new → there ≡ some
     → option_map spelt_alone found ≡ Some (if some then Some new else None)
 told_there None there some new put is = absurd put
 told_there (Some r) there some new put is = ap Some (told_own (spelt_alone r) there some new put is)
 
--- the bits of a subset that were put behind none and filled to whole octets
 pub put_and_filled : (found : Option Subset) (begun put full : List Bool) (contents : List ℕ)
     → begun ≡ [] → IfSome found (λ s. put ≡ begun ++ plain s.fields) → full ≡ filled put
     → bits contents ≡ full → IfSome found (λ s. bits contents ≡ filled (plain s.fields))
@@ -153,9 +143,8 @@ put_and_filled None begun put full contents none is whole same = tt
 put_and_filled (Some s) begun put full contents none is whole same =
     same ∙ whole ∙ ap filled (is ∙ ap (λ (b : List Bool). b ++ plain s.fields) none)
 
--- what is answered for a report alone with these octets behind the fourth of section 4
 pub alone_is : (r : Report) (h : Head) (contents : List ℕ) (data_bits : List Bool)
-    (x : Result (List ℕ) WriteFault) → whole_octets data_bits ≡ contents → h ≡ with_no_local r.head
+    (x : Result (List ℕ) MisfitFault) → whole_octets data_bits ≡ contents → h ≡ with_no_local r.head
     → spelt_or (envelope_alone h r contents) ≡ x
     → spelt_with r (Some data_bits) ≡ if_written (data_or x)
 alone_is r h contents data_bits x whole same told =
@@ -163,7 +152,6 @@ alone_is r h contents data_bits x whole same told =
     (enclosed_is (alone r) contents data_bits x whole
     (subst (λ (k : Head). spelt_or (envelope_alone k r contents) ≡ x) same told))
 
--- so it is put behind others
 pub put_behind : (r : Report) (h : Head) (contents : List ℕ) (data_bits : List Bool)
     (old new : List ℕ) → whole_octets data_bits ≡ contents → h ≡ with_no_local r.head
     → result_map (λ o. old ++ o) (spelt_or (envelope_alone h r contents)) ≡ Ok new
@@ -171,29 +159,27 @@ pub put_behind : (r : Report) (h : Head) (contents : List ℕ) (data_bits : List
 put_behind r h contents data_bits old new whole same told =
     by_answer (spelt_or (envelope_alone h r contents)) refl
   where
-    by_answer : (x : Result (List ℕ) WriteFault) → spelt_or (envelope_alone h r contents) ≡ x
+    by_answer : (x : Result (List ℕ) MisfitFault) → spelt_or (envelope_alone h r contents) ≡ x
         → IsPutBehind old (spelt_with r (Some data_bits)) true new
     by_answer (Ok octets) is =
         rw (alone_is r h contents data_bits (Ok octets) whole same is)
         (refl, sym (ok_is _ _ (rw is at told)))
     by_answer (Err fault) is = let none = rw is at told in absurd cc
 
--- or there is none
 pub none_behind : (r : Report) (h : Head) (contents : List ℕ) (data_bits : List Bool)
-    (old new : List ℕ) (fault : WriteFault) → whole_octets data_bits ≡ contents
+    (old new : List ℕ) (fault : MisfitFault) → whole_octets data_bits ≡ contents
     → h ≡ with_no_local r.head
     → result_map (λ o. old ++ o) (spelt_or (envelope_alone h r contents)) ≡ Err fault → new ≡ old
     → IsPutBehind old (spelt_with r (Some data_bits)) false new
 none_behind r h contents data_bits old new fault whole same told kept =
     by_answer (spelt_or (envelope_alone h r contents)) refl
   where
-    by_answer : (x : Result (List ℕ) WriteFault) → spelt_or (envelope_alone h r contents) ≡ x
+    by_answer : (x : Result (List ℕ) MisfitFault) → spelt_or (envelope_alone h r contents) ≡ x
         → IsPutBehind old (spelt_with r (Some data_bits)) false new
     by_answer (Ok octets) is = let some = rw is at told in absurd cc
     by_answer (Err other) is =
         rw (alone_is r h contents data_bits (Err other) whole same is) (refl, kept)
 
--- what is put with the bits of a report's own fields is what it spells alone
 pub own_put : (r : Report) (contents old new : List ℕ) (there : Bool)
     → Some (bits contents) ≡ option_map filled (own_bits r.subset.fields)
     → ((data_bits : List Bool) → bits contents ≡ filled data_bits
@@ -211,19 +197,16 @@ own_put r contents old new there held put = by_own (own_bits r.subset.fields) re
 
 -- ---- octets that are their own canonical message
 
--- each octet is below 256, and so is what is answered behind the last
 each_small : (octets : List ℕ) → AreOctets octets → (i : ℕ) → get_or octets i 0 < 256
 each_small octets all i = elim (cases_lt i (length octets)) [
   | inl here ↦ all i 0 here
   | inr past ↦ rw (get_or_past octets i 0 past) (omega arith)
 ]
 
--- a head that has no octets for local use is that of its report
 head_alone : (h : Head) → h.local ≡ [] → h ≡ with_no_local (without_local h)
 head_alone h none = ap (λ (local : List ℕ). record h { local = local }) none
 
--- octets that are written for the sections of one plain subset, whose bits, filled, are the
--- contents, are the canonical message of its report
+-- `spell` of one plain subset writes the canonical message of its report
 own_octets : (m : Message) (contents octets : List ℕ) → AreOctets contents
     → HaveRoom m.subsets → length m.subsets ≡ 1 → m.head.local ≡ [] → m.section2 ≡ None
     → m.compressed ≡ false
@@ -247,7 +230,6 @@ own_octets m contents octets small rooms one local two flat holds told =
     (slice_get-map (report_of m) m.subsets 0 ∙ ap (option_map (report_of m)) t.1)
     ∙ ap Some (ap (spelt_with r) own ∙ spelt)
 
--- so it is of the sections that a view lends, where they are told to be written so
 pub own_told : (m : Message) (lent : LentSections) (contents octets : List ℕ) (bare : Bool)
     → AreOctets contents → HaveRoom m.subsets → length m.subsets ≡ 1 → m.compressed ≡ false
     → IfSome (slice_get m.subsets 0) (λ s. bits contents ≡ filled (plain s.fields))
@@ -265,7 +247,6 @@ own_told m lent contents octets true small rooms one flat holds same read spelt 
     (sym (ap (λ (x : Message). x.section2) same) ∙ two) flat holds
     (ap spelt_or (sym whole) ∙ spelt (length m.subsets) (read ∙ ap Ok (sym whole)))
 
--- octets that are the canonical message of the report that is there, put behind others
 pub own_behind : (found : Option Report) (own old new : List ℕ)
     → option_map spelt_alone found ≡ Some (Some own) → new ≡ old ++ own → AddsOwn found old true new
 own_behind None own old new told is = absurd cc

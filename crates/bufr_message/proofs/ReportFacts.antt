@@ -1,4 +1,4 @@
--- The canonical message of a report tells what the report is: for the laws on canonical messages.
+-- A canonical message determines its report: for the laws on canonical messages.
 use Rattle.std.proofs.Common.{◌≡◌, ℕ, ◌+◌, ◌/◌, Bool, List, [], ◌∷◌, ◌++◌, length, get_or, Ok, refl}
 use Rattle.std.proofs.Common.{sym, ap, ◌∙◌, arith, length-append}
 use Rattle.bufr_bits.specs.Bits.{bits}
@@ -14,33 +14,28 @@ use Rattle.bufr_message.specs.Reports.{reports_read, reports_in, alone, IsCanoni
 use Rattle.bufr_message.proofs.LengthFacts.{contents_hold, bare_long}
 use Rattle.bufr_message.proofs.MessageFacts.{message_of_spelt}
 
--- they are read as the report alone
 pub canonical_is_read : Below → (tables : Entries) (r : Report) (octets : List ℕ)
     → IsCanonical tables r octets
     → message_of tables octets ≡ Ok (record { message = alone r; slack_octets = 0 })
 canonical_is_read below tables r octets c =
     message_of_spelt below tables octets (alone r) 0 c.spelt.spells
 
--- the reports of a canonical message
 pub one_report : Below → (tables : Entries) (r : Report) (octets : List ℕ)
     → IsCanonical tables r octets → reports_in tables octets ≡ r ∷ []
 one_report below tables r octets c = ap reports_read (canonical_is_read below tables r octets c)
 
--- one canonical message is that of one report
 pub canonical_tells_apart : Below → (tables : Entries) (r s : Report) (octets : List ℕ)
     → IsCanonical tables r octets → IsCanonical tables s octets → r ≡ s
 canonical_tells_apart below tables r s octets c d =
     ap (λ (rs : List Report). get_or rs 0 r)
     (sym (one_report below tables r octets c) ∙ one_report below tables s octets d)
 
--- octets that hold bits and fewer than eight more are as many as hold them
 contents_long : (own rest : List Bool) (contents : List ℕ) → bits contents ≡ own ++ rest
     → 0 ≡ length rest / 8 → length contents ≡ (length own + 7) / 8
 contents_long own rest contents begins few =
     let whole = contents_hold own rest contents begins in
     omega arith
 
--- spellings in edition 4 with nothing in what is free
 spelt_bare : (layout : Layout) (i : Ignored) (e : Envelope) (octets : List ℕ) → layout ≡ Edition4
     → i ≡ nothing_ignored → octets ≡ spelling layout e i
     → length octets ≡ length (spelling Edition4 e nothing_ignored)
@@ -49,7 +44,6 @@ spelt_bare layout i e octets four nothing is =
     (is ∙ ap (λ (l : Layout). spelling l e i) four
     ∙ ap (λ (j : Ignored). spelling Edition4 e j) nothing)
 
--- a canonical message is as long as its parts say
 pub canonical_long : (tables : Entries) (r : Report) (octets : List ℕ)
     → IsCanonical tables r octets → length octets ≡ octets_alone r.descriptors r.subset
 canonical_long tables r octets c =

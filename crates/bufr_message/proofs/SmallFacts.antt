@@ -1,5 +1,4 @@
--- The fields of a subset of a message that octets spell are few and small: for the law that subsets
--- are small.
+-- A subset has few fields, and each is small: for the law `subsets_are_small`.
 use Rattle.std.proofs.Common.{ℕ, ◌+◌, ◌≤◌, List, [], ◌∷◌, length, map}
 use Rattle.std.proofs.Common.{sym, subst, arith}
 use Rattle.std.specs.List.{AllByRecursion}
@@ -23,7 +22,7 @@ use Rattle.bufr_fields.specs.Forms.{number_of}
 use Rattle.bufr_message.specs.SmallSubsets.{IsSmall, IsSmallField, HasSmallFields, SubsetsAreSmall}
 use Rattle.bufr_message.proofs.AloneFacts.{StandsAlone, each_alone}
 
--- each field that a course asks for is one item more at least, up to the most
+-- each field that a course asks for adds an item, up to the limit
 fields_few : (c : Course) (used : ℕ) (fields : List Told) (later : Course) → used ≤ most_items
     → IsSteady used c → After c fields later → used + length fields ≤ most_items
 unfolding IsSteady After
@@ -34,7 +33,6 @@ fields_few (asks met d spec more) used (f ∷ fields) later le steady after =
     let rest = fields_few (more f.number) met fields later steady.1 (steady.3 f.number) after.2 in
     omega (arith, rest, steady.0)
 
--- a raw value of the form of a spec within the limits is small
 raw_small : (spec : Spec) (raw : Raw) → CanBeAsked spec → HasForm spec raw → IsSmall raw
 raw_small spec raw can (of_text octets kind long small) =
     let few = (can.octets kind).few_octets in
@@ -43,7 +41,6 @@ raw_small spec raw can (of_number n other few below) =
     let most = pow-le-pow_right {n = 2} (omega arith) {i = spec.width} {j = 64} few in
     omega (arith, most, below)
 
--- the fields that a course asks for are small
 fields_small : (c : Course) (fields : List Field) (later : Course) → EachAsked CanBeAsked c
     → After c (map told_of fields) later → Formed fields → AllByRecursion IsSmallField fields
 unfolding After EachAsked
@@ -56,14 +53,13 @@ fields_small (asks met d spec more) (f ∷ fields) later can after formed =
       fields_small (more (number_of f.raw)) fields later (can.1 (number_of f.raw)) after.2 formed.1,
     )
 
--- what the lower layer says of the courses of templates
+-- the laws of the crate below on courses
 pub record OfCourses : Type 0 where
   pub steady : (tree : Tree) (used : ℕ) → IsSteady used (course tree used)
   pub within_limits : (tables : Entries) (list : List ℕ) (tree : Tree) (used : ℕ)
       → IsTreeOf tables list tree → EachAsked CanBeAsked (course tree used)
   pub allowed : AreAllowed
 
--- the fields of a subset that stands alone
 subset_small : OfCourses → (tables : Entries) (list : List ℕ) (tree : Tree) (most : ℕ)
     → IsTreeOf tables list tree → (s : Subset) → StandsAlone tree most s → HasSmallFields s
 subset_small laws tables list tree most is s alone =
@@ -78,7 +74,6 @@ subset_small laws tables list tree most is s alone =
           (laws.within_limits tables list tree 0 is) after fits.formed;
     }
 
--- so are those of subsets
 each_small : OfCourses → (tables : Entries) (list : List ℕ) (tree : Tree) (most : ℕ)
     → IsTreeOf tables list tree → (subsets : List Subset)
     → AllByRecursion (StandsAlone tree most) subsets → AllByRecursion HasSmallFields subsets
@@ -88,7 +83,6 @@ each_small laws tables list tree most is (s ∷ subsets) (first, others) = (
   each_small laws tables list tree most is subsets others,
 )
 
--- the subsets of a message that octets spell are few, and each is small
 pub subsets_small : OfCourses → SubsetsAreSmall
 subsets_small laws tables m octets slack spells = record {
   few = spells.fits.count;

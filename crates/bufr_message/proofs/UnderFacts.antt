@@ -1,4 +1,5 @@
--- Each report of a message that octets spell has a canonical message: for the law on reports.
+-- Each report of a message that octets spell has a canonical message: its subset has plain data,
+-- its head fits edition 4, and it is not too long.
 use Rattle.std.proofs.Common.{◌≡◌, ℕ, ◌<◌, ◌≤◌, ◌^◌, Bool, true, false, List, [], ◌∷◌, length, map}
 use Rattle.std.proofs.Common.{refl, arith, length-append}
 use Rattle.std.specs.Prelude.{nat_lt}
@@ -24,7 +25,6 @@ use Rattle.bufr_message.proofs.LengthFacts.{bare_long}
 use Rattle.bufr_message.proofs.WrittenFacts.{whole_octets_long, bare_when_written}
 use Rattle.bufr_message.proofs.UnwrittenFacts.{told, code_within, some_are}
 
--- a year of the century is in the range of edition 4's field
 year_small : (n : ℕ) → n < 2 ^ 8 → year_of_century n < 2 ^ 16
 year_small n small = by_test (nat_lt n 70) refl
   where
@@ -32,13 +32,11 @@ year_small n small = by_test (nat_lt n 70) refl
     by_test true is = rw is (omega arith)
     by_test false is = rw is (omega arith)
 
--- a head that has a section 1 has one in edition 4 without its octets for local use
 head_alone : (layout : Layout) (h : Head) (i : Ignored) → HasSection1 layout h i
     → HeadFits (with_no_local (without_local h))
 head_alone Edition4 h i fits = omega arith
 head_alone Edition3 h i fits = let year = year_small i.year_octet fits.year_octet in omega arith
 
--- a subset that stands alone, and can be said alone, is written alone
 under_alone : Below
     → (tables : Entries) (m : Message) (octets : List ℕ) (slack : ℕ)
     (spells : Spells tables m octets slack) → (s : Subset)
@@ -65,7 +63,6 @@ under_alone below tables m octets slack spells s stands few =
       record { spelt = bare_when_written below tables r _ fits written },
     )
 
--- so is each of them
 all_under : Below
     → (tables : Entries) (m : Message) (octets : List ℕ) (slack : ℕ)
     (spells : Spells tables m octets slack) → (subsets : List Subset)
@@ -77,7 +74,6 @@ all_under below tables m octets slack spells (s ∷ ss) (first, others) (few, fe
   all_under below tables m octets slack spells ss others fewer,
 )
 
--- the reports of a message that octets spell have canonical messages
 pub reports_under : Below
     → (tables : Entries) (m : Message) (octets : List ℕ) (slack : ℕ)
     (spells : Spells tables m octets slack) → AllByRecursion (IsUnder tables) (reports_of m)

@@ -1,17 +1,16 @@
--- A message is refused for the first cause in the order of the descriptors, the template, the
--- subsets and the limits, and a message that octets spell is written: for the laws on messages that
--- are written.
+-- Writing refuses a message for the first cause of the descriptors, the template, the subsets and
+-- the limits, and takes messages that octets spell: for the laws on writing.
 use Rattle.std.proofs.Common.{◌≡◌, ◌≢◌, ◌⊎◌, ℕ, ◌-◌, ◌/◌, ◌%◌, ◌^◌, ◌<◌, ◌≤◌, Bool, true, false}
 use Rattle.std.proofs.Common.{get_or, List, [], ◌∷◌, ◌++◌, length, replicate, Result, Ok, Err, refl}
 use Rattle.std.proofs.Common.{sym, ap, subst, ◌∙◌, arith, inl, inr}
 use Rattle.std.proofs.lemmas.Bool.{cases_lt}
 use Rattle.std.proofs.lemmas.List.{get_or_past}
 use Rattle.bufr_bits.specs.Bits.{bits}
-use Rattle.bufr_answers.specs.Answers.{◌>>=◌}
+use Rattle.bufr_base.specs.Answers.{◌>>=◌}
 use Rattle.bufr_tables.specs.Entries.{Entries}
 use Rattle.bufr_expand.specs.Templates.{template}
 use Rattle.bufr_expand.specs.Trees.{Tree}
-use Rattle.bufr_fields.specs.declared.fault.WriteFault.TheVariants.{TooLarge}
+use Rattle.bufr_fields.specs.declared.fault.MisfitFault.TheVariants.{TooLarge}
 use Rattle.bufr_data.specs.Data.{IsDataOf, IsBareDataOf, written_bits}
 use Rattle.bufr_data.specs.Compressed.{Column}
 use Rattle.bufr_data.specs.Compressed.Best.{CanBePacked}
@@ -27,7 +26,7 @@ use Rattle.bufr_message.specs.Encodings.{whole_octets, some_descriptors, templat
 use Rattle.bufr_message.specs.Encodings.{data_bits_or, enclosed_or, SpellsBare, code}
 use Rattle.bufr_data.specs.Subsets.{filled}
 use Rattle.bufr_message.specs.Refusals.{IsTooLong, IsFirstEncodeFault}
-use Rattle.bufr_answers.specs.AnswerLaws.{bind_err, err_is}
+use Rattle.bufr_base.specs.AnswerLaws.{bind_err, err_is}
 use Rattle.bufr_message.specs.Below.{Below}
 use Rattle.bufr_message.proofs.EncodingFacts.{whole_octets_are}
 use Rattle.bufr_message.proofs.LengthFacts.{contents_hold}
@@ -35,24 +34,20 @@ use Rattle.bufr_message.proofs.StepFacts.{step_takes, step_refuses}
 use Rattle.bufr_message.proofs.WrittenFacts.{whole_octets_long, descriptors_take, template_passes}
 use Rattle.bufr_message.proofs.WrittenFacts.{data_passes, tells_limits, HasBits, bits_found}
 
--- ---- what refuses in each step
+-- ---- causes of each step
 
--- no descriptor is refused
 descriptors_refuse : (ds : List ℕ) (fault : EncodeFault) → some_descriptors ds ≡ Err fault
     → (ds ≡ []) × (NoDescriptors ≡ fault)
 descriptors_refuse [] fault e = (refl, cc)
 descriptors_refuse (d ∷ ds) fault e = absurd cc
 
--- some descriptor is handed on
 descriptors_are : (ds : List ℕ) → ds ≢ [] → some_descriptors ds ≡ Ok ds
 descriptors_are [] some = absurd (some refl)
 descriptors_are (d ∷ ds) some = refl
 
--- the envelope of the one encoding with these data bits
 abbrev pub told : Message → List Bool → Envelope
 told m data_bits = envelope_with m (whole_octets data_bits)
 
--- a message with data bits is refused for its length alone
 limits_refuse : (m : Message) (data_bits : List Bool) (fault : EncodeFault)
     → enclosed_or m data_bits ≡ Err fault → IsTooLong m data_bits × (Data TooLarge ≡ fault)
 limits_refuse m data_bits fault refused =
@@ -62,17 +57,14 @@ limits_refuse m data_bits fault refused =
       | inr past ↦ (past.0, ap (λ why. Data why) (err_is _ _ (sym past.1 ∙ d.1)) ∙ d.2)
     ]
 
--- ---- messages that are refused
+-- ---- a refusal is the first fault
 
--- the data bits of a message whose descriptors have this tree
 abbrev held : Message → Tree → Result (List Bool) EncodeFault
 held m tree = data_or (written_bits tree m.compressed m.subsets)
 
--- the data bits of a message whose descriptors these are
 abbrev templated : Entries → Message → List ℕ → Result (List Bool) EncodeFault
 templated tables m list = template_or (template tables list) >>= held m
 
--- a fault of the descriptors or of the subsets is the first
 tree_fault : Below → (tables : Entries) (m : Message) (fault : EncodeFault) → m.descriptors ≢ []
     → templated tables m m.descriptors ≡ Err fault → IsFirstEncodeFault tables m fault
 tree_fault below tables m fault some refused =
@@ -91,7 +83,6 @@ tree_fault below tables m fault some refused =
           subst (IsFirstEncodeFault tables m) d.2 (tree.0, some, has, inl first)
     ]
 
--- a fault of the data bits is the first
 bits_fault : Below → (tables : Entries) (m : Message) (fault : EncodeFault)
     → data_bits_or tables m ≡ Err fault → IsFirstEncodeFault tables m fault
 unfolding data_bits_or
@@ -105,7 +96,6 @@ bits_fault below tables m fault refused =
           (subst (λ (ds : List ℕ). templated tables m ds ≡ Err fault) (sym d.1) list.2)
     ]
 
--- a message that has no octets is refused for its first fault
 pub fault_when_unwritten : Below → (tables : Entries) (m : Message) (fault : EncodeFault)
     → code tables m ≡ Err fault → IsFirstEncodeFault tables m fault
 unfolding code
@@ -118,9 +108,8 @@ fault_when_unwritten below tables m fault refused =
           subst (IsFirstEncodeFault tables m) l.1 (f.0, f.1, f.2, inr (refl, found.0, f.3, l.0))
     ]
 
--- ---- faults that messages have
+-- ---- the first fault is the refusal
 
--- data bits that a message has are found
 pub bits_are : Below → (tables : Entries) (m : Message) (data_bits : List Bool)
     → HasBits tables m data_bits → data_bits_or tables m ≡ Ok data_bits
 unfolding data_bits_or
@@ -129,7 +118,6 @@ bits_are below tables m data_bits (tree, some, has, held_bare) =
     let written = (below.writes tree m.compressed m.subsets data_bits).1 held_bare in
     rw (descriptors_are m.descriptors some, found, written) refl
 
--- a message that is too long is refused
 too_long_refuses : (m : Message) (data_bits : List Bool) → IsTooLong m data_bits
     → enclosed_or m data_bits ≡ Err (Data TooLarge)
 too_long_refuses m data_bits long = elim (tells_limits (told m data_bits)) [
@@ -137,7 +125,6 @@ too_long_refuses m data_bits long = elim (tells_limits (told m data_bits)) [
   | inr past ↦ ap data_or past.1
 ]
 
--- the first fault of a message is answered
 pub unwritten_when_fault : Below → (tables : Entries) (m : Message) (fault : EncodeFault)
     → IsFirstEncodeFault tables m fault → code tables m ≡ Err fault
 unfolding code data_bits_or
@@ -159,9 +146,8 @@ unwritten_when_fault below tables m (Data why)
       same,
     ) refl
 
--- ---- messages that are spelt are written
+-- ---- messages that octets spell
 
--- data bits in whole octets are no longer than octets that begin with them
 bits_are_short : (data_bits rest : List Bool) (contents : List ℕ)
     → bits contents ≡ data_bits ++ rest → length (whole_octets data_bits) ≤ length contents
 bits_are_short data_bits rest contents begins =
@@ -169,11 +155,9 @@ bits_are_short data_bits rest contents begins =
     let all = contents_hold data_bits rest contents begins in
     omega arith
 
--- descriptors of which there is one are some
 pub some_are : (ds : List ℕ) → 0 < length ds → ds ≢ []
 some_are ds one = λ none. let size = ap length none in absurd (omega arith)
 
--- a message with these data bits is written with them, where it is within the limits
 pub code_within : Below → (tables : Entries) (m : Message) (data_bits : List Bool)
     → HasBits tables m data_bits → length m.subsets ≤ most_subsets
     → length (bare (told m data_bits)) ≤ longest → code tables m ≡ Ok (bare (told m data_bits))
@@ -183,8 +167,7 @@ code_within below tables m data_bits has few short = elim (tells_limits (told m 
   | inr past ↦ absurd (omega (arith, few, short, past.0))
 ]
 
--- a message that octets spell is written with the data that leave no choice, where these are no
--- longer than those in the octets
+-- data that leave no choice are no longer than those in the octets, so writing takes the message
 spelt_has_code : Below
     → (tables : Entries) (m : Message) (octets : List ℕ) (slack : ℕ)
     (s : Spells tables m octets slack) → s.layout ≡ Edition4
@@ -202,7 +185,6 @@ spelt_has_code below tables m octets slack s four nothing_free =
     code_within below tables m s.data_bits (s.tree, some, s.template, nothing_free) (omega arith)
     (omega arith)
 
--- a plain message that octets of edition 4 spell is written
 pub plain_is_written : Below
     → (tables : Entries) (m : Message) (octets : List ℕ) (slack : ℕ)
     (s : Spells tables m octets slack) → s.layout ≡ Edition4 → m.compressed ≡ false
@@ -214,8 +196,6 @@ plain_is_written below tables m octets slack s four plain =
     subst (λ (c : Bool). IsBareDataOf s.tree c m.subsets s.data_bits) (sym plain) held_bare in
     (bare (told m s.data_bits), spelt_has_code below tables m octets slack s four no_choice)
 
--- a compressed message that octets spell is written where its subsets can stand in columns that are
--- written, or is too long with them
 pub packable_is_written : Below → (tables : Entries) (m : Message) (octets : List ℕ) (slack : ℕ)
     → Spells tables m octets slack → m.compressed ≡ true → (columns : List Column)
     → CanBePacked m.subsets columns
@@ -233,14 +213,12 @@ packable_is_written below tables m octets slack s packed columns can =
       | inr past ↦ inr (rw (data_bits, past.1) refl)
     ]
 
--- octets are below 256 at any place
 octet_at_any : (octets : List ℕ) (i : ℕ) → AreOctets octets → get_or octets i 0 < 256
 octet_at_any octets i all = elim (cases_lt i (length octets)) [
   | inl lt ↦ all i 0 lt
   | inr le ↦ let none = get_or_past octets i 0 le in omega arith
 ]
 
--- octets whose bits are these and fewer than eight zero bits are these bits filled
 contents_are : (data_bits rest : List Bool) (contents : List ℕ) → AreOctets contents
     → bits contents ≡ data_bits ++ rest → 0 ≡ length rest / 8 → rest ≡ replicate (length rest) false
     → whole_octets data_bits ≡ contents
@@ -251,7 +229,6 @@ contents_are data_bits rest contents all begins few zeros =
     begins ∙ ap (λ xs. data_bits ++ xs) (zeros ∙ ap (λ n. replicate n false) added) in
     whole_octets_are contents data_bits (λ i. octet_at_any contents i all) same
 
--- octets that spell a message with nothing in what is free are written
 pub bare_is_written : Below → (tables : Entries) (m : Message) (octets : List ℕ)
     → SpellsBare tables m octets → code tables m ≡ Ok octets
 bare_is_written below tables m octets b =

@@ -1,5 +1,5 @@
--- Whether the subsets of a view can be said alone, for `view`; and that its reports are under the
--- tables, for `View::report` and `reports`.
+-- Subsets of a view that fit messages of their own, and its reports under the tables: for `view`,
+-- `View::report` and `reports`.
 use Rattle.std.proofs.Common.{◌≡◌, ℕ, ◌+◌, ◌*◌, ◌<◌, ◌≤◌, Bool, true, false, List, [], ◌∷◌, ◌++◌}
 use Rattle.std.proofs.Common.{length, take}
 use Rattle.std.proofs.Common.{Some, Result, Ok, Err, refl, sym, ap, subst, ◌∙◌, arith}
@@ -25,9 +25,8 @@ use Rattle.bufr_message.proofs.AloneFacts.{each_alone}
 use Rattle.bufr_message.proofs.CanBeAlone.{all_short, alone_is_tested}
 use Rattle.bufr_message.proofs.LengthFacts.{contents_hold}
 
--- ---- subsets that can be said alone
+-- ---- subsets that fit
 
--- each can where the octets that hold them are few
 pub few_octets : ((tree : Tree) (compressed : Bool) (count : ℕ) (front : List Bool)
     (found : List Subset × List Bool) → ReadsExactly tree compressed count front found)
     → (contents : List ℕ) (compressed : Bool) (descriptors : List ℕ) (subsets : List Subset)
@@ -40,7 +39,6 @@ few_octets reads contents compressed descriptors subsets (tree, count, rest, is)
     (alone_is_tested descriptors subsets).1
     (all_short descriptors tree (length begins.0) subsets (omega arith) each)
 
--- one subset more
 pub one_more_short : (descriptors : List ℕ) (subsets : List Subset) (i : ℕ) (s : Subset)
     → i < length subsets → slice_get subsets i ≡ Some s
     → can_be_alone descriptors (take i subsets) ≡ true
@@ -50,7 +48,6 @@ one_more_short descriptors subsets i s below is so_far test =
     list_all_more (λ s. nat_le (octets_alone descriptors s) longest) subsets i s below
     ∙ rw (so_far, get_or_from_slice_get subsets i s s is, test) refl
 
--- one subset that cannot
 pub one_too_long : (descriptors : List ℕ) (subsets : List Subset) (i : ℕ) (s : Subset)
     → slice_get subsets i ≡ Some s → nat_le (octets_alone descriptors s) longest ≡ false
     → can_be_alone descriptors subsets ≡ false
@@ -59,9 +56,8 @@ one_too_long descriptors subsets i s is test =
     list_all_at fits subsets i s (slice_get_within subsets i s is)
     (ap fits (get_or_from_slice_get subsets i s s is) ∙ test)
 
--- ---- subsets that are built
+-- ---- subsets built
 
--- one subset more is behind the first so many
 pub one_more_built : (subsets built : List Subset) (i : ℕ) (s : Subset)
     → slice_get subsets i ≡ Some s → built ≡ take i subsets
     → built ++ s ∷ [] ≡ take (i + 1) subsets
@@ -72,7 +68,6 @@ one_more_built subsets built i s is so_far =
 
 -- ---- reports
 
--- the report of a number is that of the subset of this number
 pub one_report : {E : Type 0} (m : Message) (i : ℕ) (s : Subset) (answer : Result Report E)
     → slice_get m.subsets i ≡ Some s
     → IfOk answer (λ r. r ≡ with_parts m.head m.observed m.descriptors s)
@@ -82,7 +77,6 @@ one_report m i s (Ok r) is made =
     ∙ ap (λ x. Some x) (sym made)
 one_report m i s (Err e) is made = made
 
--- one of reports that are under the tables is
 under_at : (tables : Entries) (rs : List Report) (i : ℕ) (r : Report)
     → AllByRecursion (IsUnder tables) rs → slice_get rs i ≡ Some r → IsUnder tables r
 under_at tables rs i r all is =
@@ -90,7 +84,6 @@ under_at tables rs i r all is =
     (All-get_or (IsUnder tables) rs i r (slice_get_within rs i r is)
     (All-from_recursion (IsUnder tables) rs all))
 
--- the report of a view that is answered is under the tables by which octets spell the message
 pub under_answer : {E : Type 0} (law : ReportsSpeltAreUnder) (m : Message) (i : ℕ)
     (answer : Result Report E) → IfOk answer (λ r. slice_get (reports_of m) i ≡ Some r)
     → (tables : Entries) (octets : List ℕ) (slack : ℕ) → Spells tables m octets slack
@@ -99,7 +92,6 @@ under_answer law m i (Ok r) is tables octets slack spells =
     under_at tables (reports_of m) i r (law tables m octets slack spells) is
 under_answer law m i (Err e) is tables octets slack spells = is
 
--- each report of those that are answered is under the tables by which octets spell the message
 pub all_under_answer : {X E : Type 0} (law : ReportsSpeltAreUnder) (m : Message)
     (items : X → List Report) (answer : Result X E) → IfOk answer (λ x. items x ≡ reports_of m)
     → (tables : Entries) (octets : List ℕ) (slack : ℕ) → Spells tables m octets slack

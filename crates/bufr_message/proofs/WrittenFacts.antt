@@ -1,4 +1,4 @@
--- What is written for a message spells it: for `encode` and the laws on messages that are written.
+-- The octets that writing returns spell the message: for `encode` and the laws on writing.
 use Rattle.std.proofs.Common.{◌≡◌, ◌≢◌, ◌⊎◌, ℕ, ◌+◌, ◌-◌, ◌*◌, ◌/◌, ◌<◌, ◌≤◌, ◌^◌, Bool, true}
 use Rattle.std.proofs.Common.{false, List, [], ◌∷◌, ◌++◌, length, drop, replicate, Ok, Err, refl}
 use Rattle.std.proofs.Common.{sym, ap, subst, ◌∙◌, arith, inl, inr, length-append}
@@ -13,7 +13,7 @@ use Rattle.bufr_tables.specs.Entries.{Entries}
 use Rattle.bufr_expand.specs.Templates.{template}
 use Rattle.bufr_expand.specs.Flat.{IsTreeOf}
 use Rattle.bufr_expand.specs.Trees.{Tree}
-use Rattle.bufr_fields.specs.declared.fault.WriteFault.TheVariants.{TooLarge}
+use Rattle.bufr_fields.specs.declared.fault.MisfitFault.TheVariants.{TooLarge}
 use Rattle.bufr_data.specs.Data.{IsBareDataOf, written_bits}
 use Rattle.bufr_sections.specs.declared.message.Message.{Message}
 use Rattle.bufr_sections.specs.declared.layout.Layout.TheVariants.{Edition4}
@@ -24,7 +24,7 @@ use Rattle.bufr_message.specs.Encodings.{whole_octets, some_descriptors, templat
 use Rattle.bufr_message.specs.Encodings.{data_bits_or, enclosed_or, SpellsBare, code}
 use Rattle.bufr_sections.specs.declared.fault.EncodeFault.TheVariants.{Template, Data}
 use Rattle.bufr_message.specs.Laws.{NumbersFit}
-use Rattle.bufr_answers.specs.AnswerLaws.{bind_ok, ok_is}
+use Rattle.bufr_base.specs.AnswerLaws.{bind_ok, ok_is}
 use Rattle.bufr_message.specs.Below.{Below}
 use Rattle.bufr_message.proofs.CanBeAlone.{alone_in_edition_4}
 use Rattle.bufr_message.proofs.MessageFacts.{message_of_spelt}
@@ -32,11 +32,9 @@ use Rattle.bufr_message.proofs.StepFacts.{PassesOn, step_takes}
 
 -- ---- data bits in whole octets
 
--- how many bits are filled in
 abbrev pub fill : List Bool → ℕ
 fill data_bits = 8 * ((length data_bits + 7) / 8) - length data_bits
 
--- data bits in whole octets are those and zero bits
 pub whole_octets_spelt : (data_bits : List Bool)
     → (bits (whole_octets data_bits) ≡ data_bits ++ replicate (fill data_bits) false)
     × AreOctets (whole_octets data_bits)
@@ -56,38 +54,32 @@ whole_octets_spelt data_bits =
       found.1,
     )
 
--- they are as many octets as hold them
 pub whole_octets_long : (data_bits : List Bool)
     → length (whole_octets data_bits) ≡ (length data_bits + 7) / 8
 whole_octets_long data_bits = length-numbers ((length data_bits + 7) / 8) 8 _
 
--- less than an octet is filled in
 fill_short : (data_bits : List Bool) → 0 ≡ length (replicate (fill data_bits) false) / 8
 fill_short data_bits = omega (arith, length-replicate (fill data_bits) false)
 
--- ---- what the steps of writing take
+-- ---- the steps of writing
 
--- some descriptor is there, and they are handed on
 pub descriptors_take : (ds list : List ℕ) → some_descriptors ds ≡ Ok list
     → (ds ≢ []) × (ds ≡ list)
 descriptors_take [] list e = absurd cc
 descriptors_take (d ∷ ds) list e = (λ none. absurd cc, ok_is _ _ e)
 
--- a tree is passed on, and so is the fault of descriptors
 pub template_passes : PassesOn template_or Template
 template_passes = record { value = λ tree. refl; fault = λ why. refl }
 
--- data are passed on, and so is their fault
 pub data_passes : {A : Type 0} → PassesOn {A = A} data_or Data
 data_passes = record { value = λ found. refl; fault = λ why. refl }
 
--- sections are within the limits and have octets, or are past one of them and have none
+-- sections within the limits have octets, others have none
 abbrev pub TellsLimits : Envelope → Type 0
 TellsLimits e =
     ((e.count ≤ most_subsets) × (length (bare e) ≤ longest) × (spelt_or e ≡ Ok (bare e)))
     ⊎ (((most_subsets < e.count) ⊎ (longest < length (bare e))) × (spelt_or e ≡ Err TooLarge))
 
--- so it is with any sections
 pub tells_limits : (e : Envelope) → TellsLimits e
 unfolding spelt_or
 tells_limits e =
@@ -100,7 +92,6 @@ tells_limits e =
     by_tests false few false short =
         inl (ltb-false _ _ few, ltb-false _ _ short, rw (few, short) refl)
 
--- what is written is within the limits
 limits_take : (e : Envelope) (found : List ℕ) → spelt_or e ≡ Ok found
     → (e.count < 2 ^ 16) × (length (bare e) < 2 ^ 24) × (found ≡ bare e)
 limits_take e found passed = elim (tells_limits e) [
@@ -109,13 +100,12 @@ limits_take e found passed = elim (tells_limits e) [
   | inr past ↦ absurd (let no = sym passed ∙ past.1 in cc)
 ]
 
--- what is found of a message whose data bits these are
+-- the message has these data bits
 abbrev pub HasBits : Entries → Message → List Bool → Type 0
 HasBits tables m data_bits =
     (tree : Tree) × (m.descriptors ≢ []) × IsTreeOf tables m.descriptors tree
     × IsBareDataOf tree m.compressed m.subsets data_bits
 
--- data bits that are found are those of the message
 pub bits_found : Below → (tables : Entries) (m : Message) (data_bits : List Bool)
     → data_bits_or tables m ≡ Ok data_bits → HasBits tables m data_bits
 unfolding data_bits_or
@@ -133,14 +123,12 @@ bits_found below tables m data_bits found =
       (below.writes tree.0 m.compressed m.subsets data_bits).0 written,
     )
 
--- descriptors that are some are at least one
 at_least_one : (ds : List ℕ) → ds ≢ [] → 0 < length ds
 at_least_one [] some = absurd (some refl)
 at_least_one (d ∷ ds) some = omega arith
 
 -- ---- together
 
--- what is written with these data bits spells the message
 spells_written : Below
     → (tables : Entries) (m : Message) (octets : List ℕ) (data_bits : List Bool) → NumbersFit m
     → HasBits tables m data_bits → enclosed_or m data_bits ≡ Ok octets
@@ -190,7 +178,6 @@ spells_written below tables m octets data_bits fit (tree, some, has, holds) e =
       zeros = ap (λ n. replicate n false) (sym (length-replicate (fill data_bits) false));
     }
 
--- what is written spells the message with nothing in what is free
 pub bare_when_written : Below → (tables : Entries) (m : Message) (octets : List ℕ) → NumbersFit m
     → code tables m ≡ Ok octets → SpellsBare tables m octets
 unfolding code
@@ -199,7 +186,6 @@ bare_when_written below tables m octets fit ok =
     let has = bits_found below tables m found.0 found.1 in
     spells_written below tables m octets found.0 fit has found.2
 
--- and is read as it
 pub read_when_written : Below → (tables : Entries) (m : Message) (octets : List ℕ) → NumbersFit m
     → code tables m ≡ Ok octets
     → message_of tables octets ≡ Ok (record { message = m; slack_octets = 0 })

@@ -1,12 +1,11 @@
--- What the messages that are read, and those that are written, have to do with those that are
--- spelt.
+-- Laws on reading and writing messages.
 use Rattle.std.specs.Prelude.{◌≡◌, ℕ, ◌⊎◌, ◌<◌, ◌^◌, true, false, List, All, IfSome, Ok, Err}
 use Rattle.bufr_tables.specs.Entries.{Entries}
 use Rattle.bufr_sections.specs.declared.message.Message.{Message}
 use Rattle.bufr_sections.specs.declared.layout.Layout.TheVariants.{Edition4}
 use Rattle.bufr_sections.specs.declared.message.Decoded.{Decoded}
 use Rattle.bufr_sections.specs.declared.fault.Refused.{Refused}
-use Rattle.bufr_fields.specs.declared.fault.WriteFault.TheVariants.{TooLarge}
+use Rattle.bufr_fields.specs.declared.fault.MisfitFault.TheVariants.{TooLarge}
 use Rattle.bufr_data.specs.Compressed.{Column}
 use Rattle.bufr_data.specs.Compressed.Best.{CanBePacked}
 use Rattle.bufr_sections.specs.declared.fault.EncodeFault.{EncodeFault}
@@ -16,70 +15,70 @@ use Rattle.bufr_sections.specs.Sections.{AreOctets, HeadFits}
 use Rattle.bufr_message.specs.Messages.{Spells, message_of}
 use Rattle.bufr_message.specs.Encodings.{SpellsBare, code}
 
--- the message that is read of octets is spelt by them
+-- octets spell the message that reading returns
 abbrev pub MessagesReadAreSpelt : Type 0
 MessagesReadAreSpelt = (tables : Entries) (octets : List ℕ) (d : Decoded)
     → AreOctets octets → message_of tables octets ≡ Ok d
     → Spells tables d.message octets d.slack_octets
 
--- a message that octets spell is read of them, and no other
+-- reading returns the message that octets spell
 abbrev pub MessagesSpeltAreRead : Type 0
 MessagesSpeltAreRead = (tables : Entries) (octets : List ℕ) (m : Message) (slack : ℕ)
     → Spells tables m octets slack
     → message_of tables octets ≡ Ok (record { message = m; slack_octets = slack })
 
--- octets that spell no message are refused for their first fault
+-- a refusal of octets is their first fault
 abbrev pub RefusedForFirstFault : Type 0
 RefusedForFirstFault = (tables : Entries) (octets : List ℕ) (fault : Refused)
     → AreOctets octets → message_of tables octets ≡ Err fault → IsFirstFault tables octets fault
 
--- the first fault of octets is the one that is answered
+-- reading refuses octets for their first fault
 abbrev pub FirstFaultIsAnswered : Type 0
 FirstFaultIsAnswered = (tables : Entries) (octets : List ℕ) (fault : Refused)
     → IsFirstFault tables octets fault → message_of tables octets ≡ Err fault
 
--- the numbers of a message's sections in the ranges of their fields (FM 94 BUFR, sections 1 to 3):
--- what the program's types hold has them so
+-- the numbers of a message's sections are in the ranges of their fields (FM 94 BUFR, sections 1 to
+-- 3); the program's types ensure it
 pub record NumbersFit (m : Message) : Type 0 where
   pub head : HeadFits m.head
   pub section2 : IfSome m.section2 AreOctets
   pub descriptors : All (λ d. d < 2 ^ 16) m.descriptors
 
--- the octets that are written for a message spell it, with nothing in what is free
+-- the octets that writing returns spell the message, with zeros in all that readers ignore
 abbrev pub MessagesWrittenAreBare : Type 0
 MessagesWrittenAreBare = (tables : Entries) (m : Message) (octets : List ℕ)
     → NumbersFit m → code tables m ≡ Ok octets → SpellsBare tables m octets
 
--- the octets that spell a message with nothing in what is free are those that are written for it
+-- writing returns the octets that spell a message so
 abbrev pub BareAreWritten : Type 0
 BareAreWritten = (tables : Entries) (m : Message) (octets : List ℕ)
     → SpellsBare tables m octets → code tables m ≡ Ok octets
 
--- what is written is read again, to the last value
+-- reading what was written for a message returns the message, to the last value
 abbrev pub MessagesWrittenAreRead : Type 0
 MessagesWrittenAreRead = (tables : Entries) (m : Message) (octets : List ℕ)
     → NumbersFit m → code tables m ≡ Ok octets
     → message_of tables octets ≡ Ok (record { message = m; slack_octets = 0 })
 
--- a message that has no octets is refused for its first fault
+-- a refusal of a message is its first fault
 abbrev pub UnwrittenForFirstFault : Type 0
 UnwrittenForFirstFault = (tables : Entries) (m : Message) (fault : EncodeFault)
     → code tables m ≡ Err fault → IsFirstEncodeFault tables m fault
 
--- the first fault of a message is the one that is answered
+-- writing refuses a message for its first fault
 abbrev pub FirstEncodeFaultIsAnswered : Type 0
 FirstEncodeFaultIsAnswered = (tables : Entries) (m : Message) (fault : EncodeFault)
     → IsFirstEncodeFault tables m fault → code tables m ≡ Err fault
 
--- a message that octets of edition 4 spell is written, where its data are not compressed
+-- writing takes each plain message that octets of edition 4 spell
 abbrev pub PlainSpeltAreWritten : Type 0
 PlainSpeltAreWritten = (tables : Entries) (m : Message) (octets : List ℕ) (slack : ℕ)
     → (s : Spells tables m octets slack) → s.layout ≡ Edition4 → m.compressed ≡ false
     → (written : List ℕ) × (code tables m ≡ Ok written)
 
--- a compressed message that octets spell, in either edition, is written where its subsets can stand
--- in the columns that are written (all but differing texts of more than 63 octets), and these are
--- not too long: texts are written whole, which a reader does not ask
+-- writing takes each compressed message that octets spell, in either edition, if its columns can
+-- hold the subsets and are not too long. They hold all but differing texts of more than 63 octets:
+-- a writer writes texts whole, which a reader does not ask
 abbrev pub PackableSpeltAreWritten : Type 0
 PackableSpeltAreWritten = (tables : Entries) (m : Message) (octets : List ℕ) (slack : ℕ)
     → Spells tables m octets slack → m.compressed ≡ true

@@ -18,3 +18,24 @@ pub use Rattle.bufr_sections.specs.Reasons
 pub use Rattle.bufr_sections.specs.EncodeReasons
 pub mod Kept
 pub mod Judged
+pub use Rattle.bufr_base.specs.Answers
+pub use Rattle.bufr_tables.specs.Descriptors
+pub use Rattle.bufr_tables.specs.Entries
+pub use Rattle.bufr_fields.specs.declared.field.Field
+pub use Rattle.bufr_fields.specs.declared.field.Raw
+pub use Rattle.bufr_fields.specs.declared.field.Subset
+pub use Rattle.bufr_sections.specs.declared.message.Head
+pub use Rattle.bufr_sections.specs.declared.message.Message
+pub use Rattle.bufr_sections.specs.declared.message.Decoded
+pub use Rattle.bufr_sections.specs.declared.fault.Refused
+pub use Rattle.bufr_sections.specs.declared.fault.EncodeFault
+pub use Rattle.bufr_bits.specs.Devices
+pub use Rattle.bufr_listing.specs.Listings
+pub use Rattle.bufr_listing.specs.Reasons as ListingReasons
+pub use Rattle.bufr_listing.specs.declared.fault.ListingFault
+pub use Rattle.bufr_listing.specs.declared.fault.Cause
+pub use Rattle.bufr_listing.specs.declared.writer.ListingWriteFault
+pub use Rattle.bufr_listing_reader.specs.Lines
+pub use Rattle.bufr_listing_reader.specs.FirstFaults
+pub use Rattle.bufr_listing_reader.specs.Reading
+pub use Rattle.bufr_listing_reader.specs.Unread

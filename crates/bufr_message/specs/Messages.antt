@@ -1,18 +1,18 @@
--- What octets spell a message, and the message that octets spell (FM 94 BUFR, WMO-No. 306 Volume
--- I.2: sections 3 and 4; regulations 94.5 and 94.6).
+-- When octets spell a message, and which message octets spell (FM 94 BUFR, WMO-No. 306 Volume I.2:
+-- sections 3 and 4; regulations 94.5 and 94.6).
 use Rattle.std.specs.Prelude.{◌≡◌, ℕ, ◌+◌, ◌*◌, ◌/◌, ◌≤◌, Bool, List, ◌++◌, length, Result, Ok, Err}
 use Rattle.std.specs.Prelude.{nat_le, if◌then◌else◌}
 use Rattle.std.specs.List.{AllByRecursion, list_all}
 use Rattle.bufr_bits.specs.Bits.{bits}
-use Rattle.bufr_answers.specs.Answers.{◌>>=◌}
+use Rattle.bufr_base.specs.Answers.{◌>>=◌}
 use Rattle.bufr_tables.specs.Entries.{Entries}
 use Rattle.bufr_expand.specs.declared.node.TemplateFault.{TemplateFault}
 use Rattle.bufr_expand.specs.Templates.{template}
 use Rattle.bufr_expand.specs.Flat.{IsTreeOf}
 use Rattle.bufr_expand.specs.Trees.{Tree}
 use Rattle.bufr_fields.specs.declared.field.Subset.{Subset}
-use Rattle.bufr_fields.specs.declared.fault.ReadFault.{ReadFault}
-use Rattle.bufr_fields.specs.declared.fault.ReadFault.TheVariants.{TooLarge}
+use Rattle.bufr_fields.specs.declared.fault.DataFault.{DataFault}
+use Rattle.bufr_fields.specs.declared.fault.DataFault.TheVariants.{TooLarge}
 use Rattle.bufr_data.specs.Plain.{plain}
 use Rattle.bufr_data.specs.Data.{IsDataOf, subsets_in}
 use Rattle.bufr_sections.specs.declared.message.Message.{Message}
@@ -23,9 +23,9 @@ use Rattle.bufr_sections.specs.declared.fault.Refused.TheVariants as refusals
 use Rattle.bufr_sections.specs.Sections.{Envelope, Ignored, EnvelopeFits, spelling, envelope_of}
 use Rattle.bufr_sections.specs.Spelt.{longest}
 
--- ---- what octets spell
+-- ---- spelling
 
--- the sections of a message that has these octets behind the fourth of section 4
+-- the sections of a message, with `contents` in section 4 from its fifth octet on
 abbrev pub envelope_with : Message → List ℕ → Envelope
 envelope_with m contents =
     record {
@@ -38,23 +38,23 @@ envelope_with m contents =
       contents = contents;
     }
 
--- how many octets the message of edition 4 has that says one subset alone, plain, with nothing in
--- what is free: sections 0, 1 and 5 have 8, 22 and 4, sections 3 and 4 have 7 and 4 beside two for
--- each descriptor and the bits of the subset in whole octets
+-- the length of the message of edition 4 with one subset alone, plain, and zeros in all that
+-- readers ignore: 8, 22 and 4 octets of sections 0, 1 and 5; 7 and 4 of sections 3 and 4; two for
+-- each descriptor; and the subset's bits in whole octets
 abbrev pub octets_alone : List ℕ → Subset → ℕ
 octets_alone descriptors s = 45 + 2 * length descriptors + (length (plain s.fields) + 7) / 8
 
--- each of the subsets can be said alone: such a message has 16,777,215 octets at most. This is for
--- messages of edition 3, whose section 1 is five octets shorter
+-- each subset fits a message of its own of at most 16,777,215 octets. Only messages of edition 3
+-- can fail this: their section 1 is five octets shorter
 abbrev pub CanBeAlone : List ℕ → List Subset → Type 0
 CanBeAlone descriptors subsets =
     AllByRecursion (λ s. octets_alone descriptors s ≤ longest) subsets
 
--- the octets are a message, with so many octets of section 4 after its data: its sections have true
--- lengths and the message's values in their places, section 1 in the layout of its edition; its
--- descriptors have a tree; the octets of section 4 after its fourth begin with the data of its
--- subsets; and each of these can be said alone. What stands in reserved bits and octets, in the odd
--- octet of section 3 and behind the data bits is free
+-- the octets are a message, with `slack` octets of section 4 after its data: the sections have true
+-- lengths and the message's values at their places, section 1 in the layout of its edition; the
+-- descriptors have a tree; section 4 begins, from its fifth octet, with the data of the subsets;
+-- and each of these fits a message of its own. Reserved bits and octets, the odd octet of section 3
+-- and all after the data are free
 pub record Spells (tables : Entries) (m : Message) (octets : List ℕ) (slack : ℕ) : Type 0 where
   pub layout : Layout
   pub contents : List ℕ
@@ -70,19 +70,19 @@ pub record Spells (tables : Entries) (m : Message) (octets : List ℕ) (slack : 
   pub after : slack ≡ length rest / 8
   pub alone : CanBeAlone m.descriptors m.subsets
 
--- ---- reading from the left, with the first fault
+-- ---- reading from the left, to the first fault
 
--- a tree, or the fault of the descriptors as a refusal
+-- a tree, or the descriptors' fault as a refusal
 abbrev pub template_or : Result Tree TemplateFault → Result Tree Refused
 template_or (Ok tree) = Ok tree
 template_or (Err fault) = Err (refusals.Template fault)
 
 -- data, or their fault as a refusal
-abbrev pub data_or : {A : Type 0} → Result A ReadFault → Result A Refused
+abbrev pub data_or : {A : Type 0} → Result A DataFault → Result A Refused
 data_or (Ok found) = Ok found
 data_or (Err fault) = Err (refusals.Data fault)
 
--- a message of sections and subsets
+-- the message of sections and subsets
 abbrev pub message_with : Envelope → List Subset → Message
 message_with e subsets =
     record {
@@ -94,12 +94,12 @@ message_with e subsets =
       subsets = subsets;
     }
 
--- whether each of the subsets can be said alone
+-- whether each subset fits a message of its own
 abbrev pub can_be_alone : List ℕ → List Subset → Bool
 can_be_alone descriptors subsets =
     list_all (λ s. nat_le (octets_alone descriptors s) longest) subsets
 
--- the message of sections and data, where each subset can be said alone
+-- the message of sections and data, if each subset fits a message of its own
 abbrev pub ended : Envelope → List Subset × List Bool → Result Decoded Refused
 ended e found =
     if can_be_alone e.descriptors found.0

@@ -1,5 +1,5 @@
--- The octets that a report's own fields spell alone. The tables are not asked: a report under some
--- tables has this one canonical message under each tables under which it has one.
+-- The octets that a report's own fields spell alone, without tables: a report has the same
+-- canonical message under all tables under which it has one.
 use Rattle.std.specs.Prelude.{◌≡◌, ℕ, ◌^◌, ◌&&◌, ◌++◌, Bool, true, false, List, Option, Some, None, nat_lt}
 use Rattle.std.specs.Prelude.{nat_le, if◌then◌else◌}
 use Rattle.std.specs.List.{AllByRecursion, list_all}
@@ -14,25 +14,25 @@ use Rattle.bufr_message.specs.declared.report.Report.{Report}
 use Rattle.bufr_message.specs.Encodings.{enclosed_or}
 use Rattle.bufr_message.specs.Reports.{alone, if_written, IsCanonical}
 
--- a raw value can be put in so many bits: a number is below 2 to their power, and they are at most
--- 64 (FM 94 BUFR, regulation 94.1.3)
+-- a raw value fits these bits: a number is below 2 to their power, with at most 64 (FM 94 BUFR,
+-- regulation 94.1.3)
 abbrev pub has_room : ℕ → Raw → Bool
 has_room width (Number n) = nat_le width most_raw_bits && nat_lt n (2 ^ width)
 has_room width (Text octets) = true
 
--- each field's raw value can be put in the bits that it has
+-- each raw value fits the bits of its field
 abbrev pub have_room : List Field → Bool
 have_room fields = list_all (λ (f : Field). has_room f.spec.width f.raw) fields
 
--- the bits of fields, where each has room
+-- the bits of fields, if each value fits
 abbrev pub own_bits : List Field → Option (List Bool)
 own_bits fields = if have_room fields then Some (plain fields) else None
 
--- the fields of each of the subsets have room
+-- the values of each subset fit
 abbrev pub HaveRoom : List Subset → Type 0
 HaveRoom subsets = AllByRecursion (λ s. have_room s.fields ≡ true) subsets
 
--- the octets of the report alone with these data bits, where it is not too long
+-- the octets of the report alone with these data bits, if it is not too long
 abbrev pub spelt_with : Report → Option (List Bool) → Option (List ℕ)
 spelt_with r None = None
 spelt_with r (Some data_bits) = if_written (enclosed_or (alone r) data_bits)
@@ -41,18 +41,17 @@ spelt_with r (Some data_bits) = if_written (enclosed_or (alone r) data_bits)
 abbrev pub spelt_alone : Report → Option (List ℕ)
 spelt_alone r = spelt_with r (own_bits r.subset.fields)
 
--- octets were put behind others, and it is said that there are some; or there are none, and the
--- others are as they were
+-- the octets, if there are any, follow the old ones, and the flag is up; else the old ones stay
 abbrev pub IsPutBehind : List ℕ → Option (List ℕ) → Bool → List ℕ → Type 0
 IsPutBehind old None there new = (there ≡ false) × (new ≡ old)
 IsPutBehind old (Some octets) there new = (there ≡ true) × (new ≡ old ++ octets)
 
--- what the report that is there spells alone was put behind others, or there is none
+-- what the report spells alone, if anything, follows the old octets
 abbrev pub AddsOwn : Option Report → List ℕ → Bool → List ℕ → Type 0
 AddsOwn None old there new = ⊥
 AddsOwn (Some r) old there new = IsPutBehind old (spelt_alone r) there new
 
--- a canonical message, under whatever tables, is what the report's own fields spell
+-- the canonical message of a report, whatever the tables, is what its own fields spell
 abbrev pub CanonicalIsOwn : Type 0
 CanonicalIsOwn = (tables : Entries) (r : Report) (octets : List ℕ)
     → IsCanonical tables r octets → spelt_alone r ≡ Some octets

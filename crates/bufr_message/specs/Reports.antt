@@ -1,5 +1,5 @@
--- Reports: one subset of a message with its head, and the one message that says a report alone
--- (this project's own, over FM 94 BUFR edition 4).
+-- Reports, the subsets of a message with its head, and the one message of a report alone (this
+-- project's own, over FM 94 BUFR edition 4).
 use Rattle.std.specs.Prelude.{◌≡◌, ℕ, Bool, false, List, [], ◌∷◌, map, length, Option, Some, None}
 use Rattle.std.specs.Prelude.{Result, Ok, Err}
 use Rattle.std.specs.List.{AllByRecursion}
@@ -50,11 +50,11 @@ with_parts head observed descriptors subset =
 abbrev pub report_of : Message → Subset → Report
 report_of m subset = with_parts m.head m.observed m.descriptors subset
 
--- one report a subset, in order
+-- one report for each subset, in order
 abbrev pub reports_of : Message → List Report
 reports_of m = map (report_of m) m.subsets
 
--- the reports of the message that octets spell, and none where they spell none
+-- the reports of the message as read, none after a refusal
 abbrev pub reports_read : Result Decoded Refused → List Report
 reports_read (Ok d) = reports_of d.message
 reports_read (Err e) = []
@@ -85,8 +85,7 @@ with_no_local h = record {
   local = [];
 }
 
--- the message that says a report alone: no octets for local use, no section 2, this one subset,
--- and not compressed
+-- the message of a report alone: no octets for local use, no section 2, one subset, not compressed
 abbrev pub alone : Report → Message
 alone r = record {
   head = with_no_local r.head;
@@ -97,44 +96,44 @@ alone r = record {
   subsets = r.subset ∷ [];
 }
 
--- the octets that were written, and none where there was a fault
+-- the octets of a message, none after a fault
 abbrev pub if_written : Result (List ℕ) EncodeFault → Option (List ℕ)
 if_written (Ok octets) = Some octets
 if_written (Err fault) = None
 
--- the canonical message of a report, where it has one
+-- the canonical message of a report, if it has one
 abbrev pub canonical : Entries → Report → Option (List ℕ)
 canonical tables r = if_written (code tables (alone r))
 
--- these octets are the canonical message of a report: they spell, in edition 4, the message that
--- says it alone, with nothing in what is free
+-- these octets are the canonical message of a report: they spell the report alone, in edition 4,
+-- with zeros in all that readers ignore
 pub record IsCanonical (tables : Entries) (r : Report) (octets : List ℕ) : Type 0 where
   pub spelt : SpellsBare tables (alone r) octets
 
--- a report under the tables is one that has a canonical message
+-- a report is under the tables if it has a canonical message
 abbrev pub IsUnder : Entries → Report → Type 0
 IsUnder tables r = (octets : List ℕ) × IsCanonical tables r octets
 
 -- ---- laws
 
--- two reports under the tables with one canonical message are one
+-- two reports under the same tables with one canonical message are one
 abbrev pub CanonicalTellsApart : Type 0
 CanonicalTellsApart = (tables : Entries) (r s : Report) (octets : List ℕ)
     → IsCanonical tables r octets → IsCanonical tables s octets → r ≡ s
 
--- a canonical message is read as a message whose one report is that report, with nothing after it
+-- reading a canonical message returns its report alone, with nothing after it
 abbrev pub CanonicalIsRead : Type 0
 CanonicalIsRead = (tables : Entries) (r : Report) (octets : List ℕ) → IsCanonical tables r octets
     → (message_of tables octets ≡ Ok (record { message = alone r; slack_octets = 0 }))
     × (reports_in tables octets ≡ r ∷ [])
 
--- a canonical message has as many octets as are said of it where a message is read
+-- the length of a canonical message is `octets_alone`
 abbrev pub CanonicalIsAsLong : Type 0
 CanonicalIsAsLong = (tables : Entries) (r : Report) (octets : List ℕ)
     → IsCanonical tables r octets → length octets ≡ octets_alone r.descriptors r.subset
 
--- each report of a message that octets spell, plain or compressed, in edition 3 or 4, is one under
--- the tables: what is written of it can only run out of memory
+-- each report of a message that octets spell, plain or compressed, in edition 3 or 4, is under the
+-- tables
 abbrev pub ReportsSpeltAreUnder : Type 0
 ReportsSpeltAreUnder = (tables : Entries) (m : Message) (octets : List ℕ) (slack : ℕ)
     → Spells tables m octets slack → AllByRecursion (IsUnder tables) (reports_of m)

@@ -1,4 +1,4 @@
--- What the examples speak of: worked messages, and what is made of them.
+-- Messages for the worked examples.
 use Rattle.std.specs.Prelude.{ℕ, List, [], ◌++◌, codes, Result, Ok, Err}
 use Rattle.bufr_expand.specs.Samples.{sample}
 use Rattle.bufr_sections.specs.declared.message.Head.{Head}
@@ -9,13 +9,13 @@ use Rattle.bufr_sections.specs.declared.fault.EncodeFault.{EncodeFault}
 use Rattle.bufr_message.specs.Messages.{message_of}
 use Rattle.bufr_message.specs.Encodings.{code}
 
--- ---- what is made of octets under the tables of the examples
+-- ---- octets under the tables of the examples
 
--- what octets are read as
+-- what reading returns for octets
 abbrev pub read : List ℕ → Result Decoded Refused
 read octets = message_of sample octets
 
--- what is written for the message that octets spell
+-- what writing returns for the message that octets spell
 abbrev pub written_again : List ℕ → List ℕ
 written_again octets = written_for (read octets)
   where
@@ -27,7 +27,7 @@ written_again octets = written_for (read octets)
     written_for (Ok d) = octets_or_none (code sample d.message)
     written_for (Err e) = []
 
--- how many octets of section 4 stand after its data
+-- the number of octets of section 4 after the data
 abbrev pub slack_of : Result Decoded Refused → Result ℕ Refused
 slack_of (Ok d) = Ok d.slack_octets
 slack_of (Err e) = Err e
@@ -39,40 +39,40 @@ head_of (Err e) = Err e
 
 -- ---- plain messages
 
--- section 3 for one subset of eight elements
+-- a section 3 for one subset of eight elements
 abbrev pub elements3 : List ℕ
 elements3 = hex (codes "000017 00 0001 80 0101 0102 0401 0402 0403 0404 0405 0C65")
 
--- the message of that section, whose data are one subset
+-- a message with this section 3 and one subset
 abbrev pub elements_only : List ℕ
 elements_only =
     framed (codes "000046 04") (plain1 ++ elements3 ++ hex (codes "00000D 00 14C03F409EC01AACC0"))
 
--- with two octets for local use and a section 2
+-- section 1 with two octets for local use, and a section 2
 abbrev pub local12 : List ℕ
 local12 =
     hex (codes "000018 00 0062 0000 00 80 00 02 00 25 00 07E8 01 0F 0C 00 00 ABCD 000006 00 0102")
 
--- and with an odd octet in section 3 and two octets after the data
+-- the message with these, an odd octet in section 3 and two octets after the data
 abbrev pub local_octets_and_slack : List ℕ
 local_octets_and_slack =
     framed (codes "000051 04")
     (local12 ++ hex (codes "000018 00 0001 80 0101 0102 0401 0402 0403 0404 0405 0C65 FF")
     ++ hex (codes "00000F 00 14C03F409EC01AACC0 0000"))
 
--- without what is free
+-- the message with these alone
 abbrev pub local_octets : List ℕ
 local_octets =
     framed (codes "00004E 04") (local12 ++ elements3 ++ hex (codes "00000D 00 14C03F409EC01AACC0"))
 
--- fourteen numbers in section 1 that all differ, and two octets for local use
+-- a message with fourteen different numbers in section 1, and two octets for local use
 abbrev pub distinct_head : List ℕ
 distinct_head =
     framed (codes "000033 04")
     (hex (codes "000018 00 0102 0304 05 00 06 07 08 09 0A 0B0C 0D 0E 0F 10 11 1213")
     ++ hex (codes "000009 00 0001 80 0C65") ++ hex (codes "000006 00 6AB3"))
 
--- ---- compressed messages: two subsets with these data
+-- ---- compressed messages
 
 -- a compressed message of two subsets whose data end with these octets
 abbrev pub compressed : List ℕ → List ℕ
@@ -81,7 +81,7 @@ compressed content =
     (plain1 ++ hex (codes "00000F 00 0002 C0 C101 C10B C10C 0C65")
     ++ hex (codes "000013 00 14030003F400201E03000006AB" ++ content))
 
--- ---- a message of edition 3 of this year of the century, and what is written for it
+-- ---- edition 3
 
 -- a message of edition 3 with the year of the century in this octet
 abbrev pub edition_3_of : List ℕ → List ℕ
@@ -91,7 +91,7 @@ edition_3_of year =
     ++ hex (codes "000010 00 0001 80 C101 C10B C10C 0C65 00")
     ++ hex (codes "00000E 00 14C03F409EC01AACC0 00"))
 
--- what is written for it: a message of edition 4
+-- what writing returns for it: a message of edition 4
 abbrev pub edition_3_written : List ℕ
 edition_3_written =
     framed (codes "00003F 04")

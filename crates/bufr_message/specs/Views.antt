@@ -1,5 +1,4 @@
--- What a view stands on: octets that hold the data of subsets, and those that its sections are read
--- of.
+-- The basis of a view: octets that hold its subsets, and octets that hold its sections.
 use Rattle.std.specs.Prelude.{◌≡◌, ℕ, Bool, List, Ok, length}
 use Rattle.bufr_bits.specs.Bits.{bits}
 use Rattle.bufr_expand.specs.Trees.{Tree}
@@ -10,14 +9,14 @@ use Rattle.bufr_sections.specs.Sections.{AreOctets, descriptors_of, envelope_of}
 use Rattle.bufr_sections.specs.SectionsRead.{envelope}
 use Rattle.bufr_message.specs.OwnBits.{HaveRoom}
 
--- these subsets are read at the front of the octets, under some template
+-- the octets begin with these subsets, under some template
 abbrev pub AreReadFrom : List ℕ → Bool → List Subset → Type 0
 AreReadFrom contents compressed subsets =
     (tree : Tree) × (count : ℕ) × (rest : List Bool)
     × (subsets_in tree compressed count (bits contents) ≡ Ok (subsets, rest))
 
--- octets are viewed as these sections, with this list of descriptors and these subsets: they are
--- what is read of the octets, the fields of the subsets have room, and what holds them is octets
+-- a view of octets: they spell these sections, which list these descriptors and announce the
+-- subsets; the values of the subsets fit their bits
 pub record IsViewOf (octets : List ℕ) (sections : Envelope) (descriptors : List ℕ)
     (subsets : List Subset) : Type 0 where
   pub rooms : HaveRoom subsets

@@ -1,4 +1,4 @@
-//! Whether each subset of a message can be said alone in edition 4.
+//! Subsets that fit a message of their own.
 
 ghost use Rattle.std.specs.Prelude.{◌≡◌, ◌<◌, ◌*◌, ◌^◌, ℕ, Bool, List, length, nat_le, IfOk};
 ghost use Rattle.bufr_data.specs.Plain.{field_bits};
@@ -6,16 +6,15 @@ ghost use Rattle.bufr_sections.specs.Spelt.{longest};
 ghost use Rattle.bufr_message.specs.Messages.{octets_alone, can_be_alone};
 ghost use Rattle.bufr_message.specs.Views.{AreReadFrom};
 
-use bufr_answers::OutOfMemory;
+use bufr_base::OutOfMemory;
 use bufr_data::laws::data_hold_subsets;
 use bufr_data::{Field, Raw, Subset, SubsetIndex};
 use bufr_sections::LONGEST;
 use bufr_tables::Fxy;
 use std::alloc::Global;
 
-/// Whether each of the subsets, which stand in so many bits of whole octets under these
-/// descriptors, can be said alone. They are built one by one only where the bits are so many that
-/// one of the subsets could be too long.
+/// Whether each subset fits a message of its own. Builds the subsets only if `there`, the number of
+/// their bits, is large.
 pub(crate) fn can_be_alone(
     alloc: Global,
     descriptors: &[Fxy],
@@ -31,7 +30,7 @@ pub(crate) fn can_be_alone(
         return Ok(true);
     }
     for index in 0..subsets.count() {
-        let subset = subsets.subset(alloc, index + 1)?;
+        let subset = subsets.subset(alloc, index)?;
         if !is_short(descriptors, &subset) {
             return Ok(false);
         }
@@ -39,7 +38,7 @@ pub(crate) fn can_be_alone(
     Ok(true)
 }
 
-/// Whether the message of edition 4 that says this subset alone has 16,777,215 octets at most.
+/// Whether the message with this subset alone has at most 16,777,215 octets.
 fn is_short(descriptors: &[Fxy], subset: &Subset) -> bool
     ensures { result ≡ nat_le (octets_alone descriptors.now subset.now) longest }
 {
@@ -53,7 +52,6 @@ fn is_short(descriptors: &[Fxy], subset: &Subset) -> bool
     45 + 2 * descriptors.len() as u128 + (bits + 7) / 8 <= LONGEST
 }
 
-/// How many bits a field has.
 fn bits_of(field: &Field) -> u128
     ensures value { result ≡ length (field_bits field.now) }
     ensures small { result < 2 ^ 68 }

@@ -1,10 +1,10 @@
-//! What is said of a message that nobody looks into.
+//! What `judge` returns.
 
-/// What is said of a message without its fields.
+/// A summary of a message, without its fields.
 #[derive(Clone, Copy, Debug, Drop, PartialEq, Eq)]
 pub struct Judged {
-    /// How many subsets it has.
+    /// The number of subsets.
     pub subsets: u64,
-    /// How many octets of section 4 stand after its data, as `Decoded` says it.
+    /// The slack, as in `Decoded`.
     pub slack_octets: u64,
 }

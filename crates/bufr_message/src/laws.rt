@@ -1,4 +1,4 @@
-//! Laws of messages and the octets that they stand in.
+//! Laws on messages and their octets.
 
 ghost use Rattle.bufr_message.specs.Below.{Below};
 ghost use Rattle.bufr_message.specs.OwnBits.{CanonicalIsOwn};
@@ -17,7 +17,7 @@ use bufr_expand::laws::{courses_are_steady, courses_are_unrollings, templates_ar
 use bufr_sections::laws::bare_spellings_are_shortest;
 pub use bufr_sections::laws::{refusals_of_sections_are_the_first, sections_are_spelt};
 
-/// What the crates below say of sections, descriptors and data.
+/// Collects the laws of the crates below.
 fn laws_below()
     ensures { Below }
 {
@@ -28,7 +28,7 @@ fn laws_below()
     data_hold_subsets();
 }
 
-/// Reading answers a message exactly where the octets spell one, which is then the only one.
+/// Reading returns exactly the message that octets spell, and there is only one.
 pub fn messages_are_spelt()
     ensures read { MessagesReadAreSpelt }
     ensures spelt { MessagesSpeltAreRead }
@@ -36,7 +36,8 @@ pub fn messages_are_spelt()
     laws_below();
 }
 
-/// Octets are refused exactly for their first fault: of the sections, the descriptors, the data.
+/// Reading refuses octets exactly for their first fault: of the sections, the descriptors, the
+/// data.
 pub fn refusals_of_octets_are_the_first()
     ensures given { RefusedForFirstFault }
     ensures answered { FirstFaultIsAnswered }
@@ -44,10 +45,9 @@ pub fn refusals_of_octets_are_the_first()
     laws_below();
 }
 
-/// The octets that are written for a message are those that spell it with nothing in what is free,
-/// and are read as it. Each plain message that octets of edition 4 spell is written, and each
-/// compressed one that octets spell and whose subsets can stand in the columns that are written,
-/// unless it is too long.
+/// Writing returns exactly the octets that spell a message with zeros in all that readers ignore,
+/// and reading them returns the message. Writing takes each plain message that octets of edition 4
+/// spell, and each compressed one that its columns can hold, unless it is too long.
 pub fn written_messages_are_spelt()
     ensures bare { MessagesWrittenAreBare }
     ensures only { BareAreWritten }
@@ -58,8 +58,8 @@ pub fn written_messages_are_spelt()
     laws_below();
 }
 
-/// Messages are refused exactly for their first fault: no descriptor, the descriptors, the subsets,
-/// the limits.
+/// Writing refuses messages exactly for their first fault: no descriptor, the descriptors, the
+/// subsets, the limits.
 pub fn refusals_of_messages_are_the_first()
     ensures given { UnwrittenForFirstFault }
     ensures answered { FirstEncodeFaultIsAnswered }
@@ -67,9 +67,8 @@ pub fn refusals_of_messages_are_the_first()
     laws_below();
 }
 
-/// Two reports under the tables that have one canonical message are one, and a canonical message is
-/// read as a message whose one report is that report. It has 45 octets, two for each descriptor,
-/// and those of the subset's bits.
+/// Two reports with one canonical message, under the same tables, are one. Reading it returns the
+/// report alone. It has 45 octets, two for each descriptor, and those of the subset's bits.
 pub fn canonical_messages_are_reports()
     ensures apart { CanonicalTellsApart }
     ensures read { CanonicalIsRead }
@@ -78,23 +77,22 @@ pub fn canonical_messages_are_reports()
     laws_below();
 }
 
-/// The canonical message of a report, under whatever tables, is what its own fields spell.
+/// The canonical message of a report is what its own fields spell, whatever the tables.
 pub fn canonical_messages_are_own()
     ensures { CanonicalIsOwn }
 {
     laws_below();
 }
 
-/// The reports of a message that octets spell, plain or compressed, have canonical messages: what
-/// is written of them can only run out of memory.
+/// Each report of a message that octets spell, plain or compressed, has a canonical message.
 pub fn reports_have_canonical_messages()
     ensures { ReportsSpeltAreUnder }
 {
     laws_below();
 }
 
-/// A message that octets spell has less than 2 to the 16 subsets, and each of them has 16,777,216
-/// fields at most, each of which has 8,191 octets or 64 bits at most.
+/// A message that octets spell has fewer than 2 to the 16th subsets, each of at most 16,777,216
+/// fields, each of at most 8,191 octets or 64 bits.
 pub fn subsets_are_small()
     ensures { SubsetsAreSmall }
 {

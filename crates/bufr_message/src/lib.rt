@@ -1,5 +1,5 @@
-//! BUFR messages and the octets that they stand in: editions 3 and 4 are read, edition 4 is
-//! written.
+//! Reads BUFR messages of editions 3 and 4, and writes edition 4. A refused call changes nothing;
+//! `reports` has then used up its message.
 #![tactic(auto)]
 
 mod alone;
@@ -8,6 +8,7 @@ mod encoding;
 mod judged;
 mod kept;
 pub mod laws;
+pub mod listing;
 mod message_view;
 mod own_bits;
 mod ranges;
@@ -17,9 +18,9 @@ mod viewing;
 mod worked_reports;
 mod worked_values;
 
-pub use bufr_answers::{Failure, Items, OutOfMemory};
-pub use bufr_data::{Decimal, Field, Fields, Raw, ReadFault, Subset, WriteFault};
-pub use bufr_expand::{KeptTemplates, Spec, TemplateFault};
+pub use bufr_base::{Failure, Items, OutOfMemory};
+pub use bufr_data::{DataFault, Decimal, Field, Fields, KeptTemplates, MisfitFault, Raw, Subset};
+pub use bufr_expand::{Spec, TemplateFault};
 pub use bufr_sections::{Decoded, EncodeFault, Head, LentSections, Message, Refused};
 pub use bufr_tables::{Element, Fxy, Kind, TableB, TableD, TableFault, Tables};
 pub use decoding::decode;
@@ -28,5 +29,5 @@ pub use judged::Judged;
 pub use message_view::View;
 pub use own_bits::canonical_of_read;
 pub use report::{Report, ReportHead, canonical, reports};
-pub use templates::Templates;
+pub use templates::MessageReader;
 pub use viewing::view;

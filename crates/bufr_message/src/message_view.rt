@@ -1,17 +1,18 @@
-//! Messages whose reports are built one at a time.
+//! Views of messages, which build one subset at a time.
 
-ghost use Rattle.std.specs.Prelude.{◌≡◌, ℕ, ◌-◌, ◌/◌, ◌≤◌, List, length, slice_get, Some, IfOk};
+ghost use Rattle.std.specs.Prelude.{◌≡◌, ℕ, ◌-◌, ◌/◌, ◌<◌, ◌≤◌, List, length, slice_get, Some, IfOk};
 ghost use Rattle.std.specs.Prelude.{option_map, IfSome, Ok, OnErr};
 ghost use Rattle.bufr_bits.specs.Bits.{bits};
-ghost use Rattle.bufr_answers.specs.Answers.{Gives, result_map};
+ghost use Rattle.bufr_base.specs.Answers.{Gives, result_map};
 ghost use Rattle.bufr_tables.specs.Entries.{Entries};
 ghost use Rattle.bufr_fields.specs.declared.field.Subset.{Subset};
 ghost use Rattle.bufr_data.specs.Data.{subsets_in};
+ghost use Rattle.bufr_data.specs.Kept.{AreKept};
 ghost use Rattle.bufr_sections.specs.declared.message.Decoded.{Decoded};
 ghost use Rattle.bufr_sections.specs.Sections.{descriptors_of, envelope_of};
 ghost use Rattle.bufr_sections.specs.SectionsRead.{envelope, message_lent};
 ghost use Rattle.bufr_message.specs.Judged.{judged};
-ghost use Rattle.bufr_message.specs.Kept.{AreOf, message_under};
+ghost use Rattle.bufr_message.specs.Kept.{message_under};
 ghost use Rattle.bufr_message.specs.Messages.{Spells, data_or, message_of, message_with};
 ghost use Rattle.bufr_message.specs.OwnBits.{HaveRoom, spelt_alone, AddsOwn};
 ghost use Rattle.bufr_message.specs.Reports.{reports_of, IsUnder};
@@ -19,14 +20,14 @@ ghost use Rattle.bufr_message.specs.Views.{AreReadFrom};
 
 use crate::alone::can_be_alone;
 use crate::judged::Judged;
-use crate::kept::{Kept, bring_to_front};
+use crate::kept::bring_to_front;
 use crate::laws::{reports_have_canonical_messages, sections_are_spelt};
 use crate::own_bits::put_alone;
 use crate::report::{Report, report_with};
-use bufr_answers::{Failure, Items, OutOfMemory};
+use bufr_base::{Failure, Items, OutOfMemory};
 use bufr_bits::{BitReader, BitSink};
 use bufr_data::laws::data_hold_subsets;
-use bufr_data::{DataTemplate, Fields, ReadFault, Subset, SubsetIndex};
+use bufr_data::{DataFault, DataTemplate, Fields, Kept, Subset, SubsetIndex};
 use bufr_sections::{
     Decoded, Envelope, Head, LentSections, Message, Refused, are_bare, read_sections,
 };
@@ -35,11 +36,11 @@ use std::alloc::Global;
 use std::marker::Model;
 use std::rc::Rc;
 
-/// How many octets of a subset are given room before any is put: most have fewer.
+/// The first capacity for the octets of a subset. Most have fewer.
 const OCTETS_WITH_ROOM: usize = 64;
 
-/// A message that was read, none of whose subsets is built before it is asked for. It borrows the
-/// octets. Contracts see what `decode` answers.
+/// A view of a message as read, which builds a subset only on request. Contracts see what `decode`
+/// returns.
 #[derive(Debug, Drop)]
 pub struct View<'a> {
     octets: &'a [u8],
@@ -49,7 +50,6 @@ pub struct View<'a> {
     slack_octets: u64,
 }
 
-/// A list of descriptors and subsets that were built.
 #[derive(Drop)]
 struct Built {
     descriptors: Items<Fxy>,
@@ -74,33 +74,33 @@ impl<'a> Model for View<'a> {
       slack_octets = v.slack_octets;
     } };
 
-    // What was read has room in its bits, and its sections are read of the octets.
+    // The sections come from the octets, and each value fits its bits.
     ghost invariant = { λ v. IsViewOf v.octets.now v.sections v.descriptors.value v.subsets };
 }
 
 impl<'a> View<'a> {
-    /// How many reports the message has, one a subset.
+    /// Returns the number of reports, one for each subset.
     pub fn count(&self) -> usize
         ensures { result ≡ length self.now.message.subsets }
     {
         self.subsets.count()
     }
 
-    /// How many octets of section 4 stand after its data, as `Decoded` says it.
+    /// Returns the slack, as in `Decoded`.
     pub fn slack(&self) -> u64
         ensures { result ≡ self.now.slack_octets }
     {
         self.slack_octets
     }
 
-    /// Section 1.
+    /// Returns section 1.
     pub fn head(&self) -> &Head
         ensures { result.now ≡ self.now.message.head }
     {
         &self.sections.head
     }
 
-    /// What the sections say before the data, lent.
+    /// Lends sections 1 to 3.
     pub fn sections(&self) -> LentSections<'_>
         ensures { message_lent result self.now.message.subsets ≡ self.now.message }
     {
@@ -113,38 +113,35 @@ impl<'a> View<'a> {
         }
     }
 
-    /// The subset of this number, from 1, which is built anew. It can only run out of memory.
-    pub fn subset(&self, alloc: Global, number: usize) -> Result<Subset, OutOfMemory>
-        requires first { 1 ≤ number }
-        requires last { number ≤ length self.now.message.subsets }
-        ensures { IfOk result (λ s. slice_get self.now.message.subsets (number - 1) ≡ Some s) }
+    /// Builds the subset at an index, from 0.
+    pub fn subset(&self, alloc: Global, index: usize) -> Result<Subset, OutOfMemory>
+        requires { index < length self.now.message.subsets }
+        ensures { IfOk result (λ s. slice_get self.now.message.subsets index ≡ Some s) }
     {
-        self.subsets.subset(alloc, number)
+        self.subsets.subset(alloc, index)
     }
 
-    /// The fields of the subset of this number, from 1, one at a time. It can only run out of memory.
-    pub fn fields(&self, alloc: Global, number: usize) -> Result<Fields<'_>, OutOfMemory>
-        requires first { 1 ≤ number }
-        requires last { number ≤ length self.now.message.subsets }
+    /// Returns the fields of the subset at an index, from 0, one at a time.
+    pub fn fields(&self, alloc: Global, index: usize) -> Result<Fields<'_>, OutOfMemory>
+        requires { index < length self.now.message.subsets }
         ensures { IfOk result (λ fields.
-            slice_get self.now.message.subsets (number - 1) ≡ Some (record { fields = fields })) }
+            slice_get self.now.message.subsets index ≡ Some (record { fields = fields })) }
     {
-        self.subsets.fields(alloc, number)
+        self.subsets.fields(alloc, index)
     }
 
-    /// The report of this number, from 1, which is built anew. It can only run out of memory.
+    /// Builds the report of this number, from 1.
     pub fn report(&self, alloc: Global, number: usize) -> Result<Report, OutOfMemory>
         requires first { 1 ≤ number }
         requires last { number ≤ length self.now.message.subsets }
         ensures is { IfOk result (λ r.
             slice_get (reports_of self.now.message) (number - 1) ≡ Some r) }
-        // Under tables by which octets spell the message it has a canonical message.
         ensures under { (tables : Entries) (octets : List ℕ) (slack : ℕ)
             → Spells tables self.now.message octets slack
             → IfOk result (IsUnder tables) }
     {
         reports_have_canonical_messages();
-        let subset = self.subsets.subset(alloc, number)?;
+        let subset = self.subsets.subset(alloc, number - 1)?;
         report_with(
             alloc,
             &self.sections.head,
@@ -154,9 +151,7 @@ impl<'a> View<'a> {
         )
     }
 
-    /// The octets that were read, where they are the canonical message of the one report that they
-    /// have: then none has to be written. `None` also where it is not asked: of octets for local use,
-    /// a section 2, or compressed data. It takes no memory.
+    /// Lends the octets if they are the canonical message of their one report. Takes no memory.
     pub fn own(&self) -> Option<&'a [u8]>
         ensures one { IfSome result (λ own. length self.now.message.subsets ≡ 1) }
         ensures is { IfSome result (λ own. option_map spelt_alone
@@ -166,7 +161,7 @@ impl<'a> View<'a> {
             return None;
         }
         let contents = self.sections.contents;
-        if self.subsets.lent(1)? != contents {
+        if self.subsets.lent(0)? != contents {
             return None;
         }
         if !are_bare(self.octets, &self.sections(), contents) {
@@ -175,36 +170,32 @@ impl<'a> View<'a> {
         Some(self.octets)
     }
 
-    /// The canonical message of the report of this number, from 1: what `canonical_of_read` answers
-    /// of it, but no subset is built. Of plain data the bits are copied as they stand, at once where
-    /// they stand in whole octets. It can only run out of memory.
-    pub fn canonical(&self, alloc: Global, number: usize) -> Result<Option<Vec<u8>>, OutOfMemory>
-        requires first { 1 ≤ number }
-        requires last { number ≤ length self.now.message.subsets }
+    /// Returns the canonical message of the report at an index, from 0, as `canonical_of_read`
+    /// does. Builds no subset.
+    pub fn canonical(&self, alloc: Global, index: usize) -> Result<Option<Vec<u8>>, OutOfMemory>
+        requires { index < length self.now.message.subsets }
         ensures { IfOk result (λ found.
-            option_map spelt_alone (slice_get (reports_of self.now.message) (number - 1))
+            option_map spelt_alone (slice_get (reports_of self.now.message) index)
             ≡ Some (option_map (λ v. v.items) found)) }
     {
         let mut octets = Vec::new(alloc);
-        if !self.put_canonical(alloc, number, &mut octets)? {
+        if !self.put_canonical(alloc, index, &mut octets)? {
             return Ok(None);
         }
         Ok(Some(octets))
     }
 
-    /// Puts the canonical message of the report of this number, from 1, behind other octets, and
-    /// says whether there is one: what `canonical` answers. It can only run out of memory. Where
-    /// there is none, or it does, the others are as they were.
+    /// Adds the canonical message of the report at an index, from 0, and returns whether there is
+    /// one.
     pub fn put_canonical(
         &self,
         alloc: Global,
-        number: usize,
+        index: usize,
         out: &mut Vec<u8>,
     ) -> Result<bool, OutOfMemory>
-        requires first { 1 ≤ number }
-        requires last { number ≤ length self.now.message.subsets }
+        requires { index < length self.now.message.subsets }
         ensures put { IfOk result (λ there.
-            AddsOwn (slice_get (reports_of self.now.message) (number - 1))
+            AddsOwn (slice_get (reports_of self.now.message) index)
             out.old.items there out.new.items) }
         ensures err { OnErr result (out.new.items ≡ out.old.items) }
     {
@@ -215,18 +206,17 @@ impl<'a> View<'a> {
         let head = &self.sections.head;
         let observed = self.sections.observed;
         let descriptors = self.descriptors.as_slice();
-        if let Some(contents) = self.subsets.lent(number) {
+        if let Some(contents) = self.subsets.lent(index) {
             return put_alone(alloc, head, observed, descriptors, contents, out);
         }
         let mut sink = BitSink::with_capacity(alloc, OCTETS_WITH_ROOM)?;
-        self.subsets.put(alloc, number, &mut sink)?;
+        self.subsets.put(alloc, index, &mut sink)?;
         sink.fill_octet();
         let contents = sink.into_bytes();
         put_alone(alloc, head, observed, descriptors, &contents, out)
     }
 
-    /// The message, with all its subsets built. It can only run out of memory; the view is then
-    /// gone.
+    /// Builds the message with all its subsets.
     pub(crate) fn into_decoded(self, alloc: Global) -> Result<Decoded, OutOfMemory>
         ensures { IfOk result (λ d. d ≡ self.entry) }
     {
@@ -234,7 +224,6 @@ impl<'a> View<'a> {
         Ok(self.decoded_with(built))
     }
 
-    /// The list of descriptors, copied, and all subsets. It can only run out of memory.
     fn built(&self, alloc: Global) -> Result<Built, OutOfMemory>
         ensures descriptors { IfOk result (λ b. b.descriptors ≡ self.now.message.descriptors) }
         ensures subsets { IfOk result (λ b. b.subsets ≡ self.now.message.subsets) }
@@ -247,7 +236,6 @@ impl<'a> View<'a> {
         })
     }
 
-    /// The message with this list of descriptors and these subsets, which are its own.
     fn decoded_with(self, built: Built) -> Decoded
         requires descriptors { built.descriptors ≡ self.message.descriptors }
         requires subsets { built.subsets ≡ self.message.subsets }
@@ -267,18 +255,17 @@ impl<'a> View<'a> {
     }
 }
 
-/// All subsets, from the first on. It can only run out of memory.
 fn all_subsets(alloc: Global, subsets: &SubsetIndex<'_>) -> Result<Items<Subset>, OutOfMemory>
     ensures { IfOk result (λ built. built ≡ subsets.now) }
 {
     let mut built = Vec::with_capacity(alloc, subsets.count())?;
     for index in 0..subsets.count() {
-        built.push(subsets.subset(alloc, index + 1)?)?;
+        built.push(subsets.subset(alloc, index)?)?;
     }
     Ok(Items::from_vec(built))
 }
 
-/// The message that octets spell, with its list of descriptors then kept in front of the others.
+/// Views the message that octets spell, and puts its list of descriptors first.
 #[tactic(auto, unfolding(crate::specs::Messages::message_of, crate::specs::Messages::message_in))]
 pub(crate) fn view_keeping<'a>(
     alloc: Global,
@@ -286,8 +273,8 @@ pub(crate) fn view_keeping<'a>(
     kept: &mut Vec<Kept>,
     octets: &'a [u8],
 ) -> Result<View<'a>, Failure<Refused>>
-    requires { AreOf tables.now kept.old.items }
-    ensures are { AreOf tables.now kept.new.items }
+    requires { AreKept tables.now kept.old.items }
+    ensures are { AreKept tables.now kept.new.items }
     ensures exact { Gives (λ d. d) result (message_of tables.now octets.now) }
 {
     let sections = read_sections(alloc, octets)?;
@@ -295,8 +282,7 @@ pub(crate) fn view_keeping<'a>(
     view_in(alloc, &mut kept[0], octets, sections)
 }
 
-/// What is said of the message that octets spell, with its list of descriptors then kept in front of
-/// the others. No view is made.
+/// Judges the message that octets spell, and puts its list of descriptors first.
 #[tactic(auto, unfolding(crate::specs::Messages::message_of, crate::specs::Messages::message_in))]
 pub(crate) fn judge_keeping(
     alloc: Global,
@@ -304,8 +290,8 @@ pub(crate) fn judge_keeping(
     kept: &mut Vec<Kept>,
     octets: &[u8],
 ) -> Result<Judged, Failure<Refused>>
-    requires { AreOf tables.now kept.old.items }
-    ensures are { AreOf tables.now kept.new.items }
+    requires { AreKept tables.now kept.old.items }
+    ensures are { AreKept tables.now kept.new.items }
     ensures exact { Gives (λ j. j) result (result_map judged (message_of tables.now octets.now)) }
 {
     let sections = read_sections(alloc, octets)?;
@@ -313,7 +299,7 @@ pub(crate) fn judge_keeping(
     judge_in(alloc, &mut kept[0], &sections)
 }
 
-/// What is said of the message of sections, whose descriptors are this list with its template.
+/// Judges the message of sections, with their template.
 fn judge_in(
     alloc: Global,
     kept: &mut Kept,
@@ -331,8 +317,8 @@ fn judge_in(
     })
 }
 
-/// The message of sections, whose descriptors are this list with its template.
-// A call would move the sections through memory once more.
+/// Views the message of sections, with their template.
+// A call would copy the sections once more.
 #[inline(always)]
 fn view_in<'a>(
     alloc: Global,
@@ -358,8 +344,7 @@ fn view_in<'a>(
     })
 }
 
-/// The subsets of sections, whose descriptors are this list with its template, and how many octets
-/// stand after their bits.
+/// Finds the subsets of sections, and the octets after them. Refuses a subset too long alone.
 #[inline(always)]
 fn subsets_of<'a>(
     alloc: Global,
@@ -377,13 +362,11 @@ fn subsets_of<'a>(
     let (subsets, slack_octets) = index_of(alloc, &mut kept.template, sections)?;
     let there = 8 * sections.contents.len() as u128;
     if !can_be_alone(alloc, kept.descriptors.as_slice(), there, &subsets)? {
-        return Err(Failure::Fault(Refused::Data(ReadFault::TooLarge)));
+        return Err(Failure::Fault(Refused::Data(DataFault::TooLarge)));
     }
     Ok((subsets, slack_octets))
 }
 
-/// The subsets at the front of the octets behind the fourth of section 4, and how many octets stand
-/// after their bits.
 #[inline(always)]
 fn index_of<'a>(
     alloc: Global,

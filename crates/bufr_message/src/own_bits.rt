@@ -1,4 +1,4 @@
-//! The canonical message of a report that was read, from its own fields alone.
+//! Canonical messages of reports as read, from their own fields alone.
 
 ghost use Rattle.std.specs.Prelude.{◌≡◌, ◌++◌, ◌^◌, ◌&&◌, ℕ, Bool, List, true, Some, IfOk, OnOk, OnErr};
 ghost use Rattle.std.specs.Prelude.{option_map, nat_lt, nat_le};
@@ -14,24 +14,20 @@ ghost use Rattle.bufr_message.specs.Reports.{with_parts, without_local, with_no_
 
 use crate::laws::canonical_messages_are_own;
 use crate::report::{Report, ReportHead};
-use bufr_answers::{Failure, OutOfMemory};
+use bufr_base::{Failure, OutOfMemory};
 use bufr_bits::BitSink;
 use bufr_data::{Field, MOST_RAW_BITS, Raw};
 use bufr_sections::{Head, LentSections, spell_behind};
 use bufr_tables::Fxy;
 use std::alloc::Global;
 
-/// The canonical message of a report that has one under some tables, as each report of a decoded
-/// message and of a view has: the octets that `canonical` answers, written from the report's own
-/// fields, with no tables asked and no template built. Of any other report it answers what its
-/// fields spell so, or `None` where a number has no room in its field or the message is too long.
-/// It can only run out of memory.
+/// Returns the canonical message of a report of a decoded message or a view, as `canonical` does,
+/// but needs no tables. For any other report, what its fields spell, or `None` if a number does not
+/// fit its bits or the message is too long.
 pub fn canonical_of_read(alloc: Global, report: &Report) -> Result<Option<Vec<u8>>, OutOfMemory>
-    // A report that has a canonical message under some tables has this one.
     ensures canonical { (tables : Entries) (octets : List ℕ)
         → IsCanonical tables report.now octets
         → IfOk result (λ found. option_map (λ v. v.items) found ≡ Some octets) }
-    // Which octets it is.
     ensures exact { IfOk result (λ found.
         option_map (λ v. v.items) found ≡ spelt_alone report.now) }
 {
@@ -39,8 +35,7 @@ pub fn canonical_of_read(alloc: Global, report: &Report) -> Result<Option<Vec<u8
     spelt_alone(alloc, report)
 }
 
-/// The octets that the report's own fields spell: the one clause from which `canonical_of_read` has
-/// its other.
+/// Writes the report's own fields for `canonical_of_read`.
 fn spelt_alone(alloc: Global, report: &Report) -> Result<Option<Vec<u8>>, OutOfMemory>
     ensures { IfOk result (λ found.
         option_map (λ v. v.items) found ≡ spelt_alone report.now) }
@@ -58,10 +53,8 @@ fn spelt_alone(alloc: Global, report: &Report) -> Result<Option<Vec<u8>>, OutOfM
     Ok(Some(octets))
 }
 
-/// Puts the octets that say alone a subset with this head but for its octets for local use, this
-/// flag and these descriptors, whose data bits, filled, are the contents, behind others, and says
-/// whether there are any: there are none where they are too many. It can only run out of memory.
-/// Where there are none, or it does, the others are as they were.
+/// Adds the message of one subset alone, without octets for local use. Returns false if it would be
+/// too long.
 pub(crate) fn put_alone(
     alloc: Global,
     head: &Head,
@@ -84,7 +77,6 @@ pub(crate) fn put_alone(
     put_with_head(&head, observed, descriptors, contents, out)
 }
 
-/// The same with a head that has no octets for local use.
 fn put_with_head(
     head: &Head,
     observed: bool,
@@ -114,10 +106,10 @@ fn put_with_head(
     }
 }
 
-/// How many fields are given room before any is put, two octets each: most subsets have fewer.
+/// The first capacity for fields, of two octets each. Most subsets have fewer.
 const FIELDS_WITH_ROOM: usize = 64;
 
-/// The bits of fields, filled to whole octets; `None` where a number has no room in its field.
+/// Returns the bits of fields in whole octets; `None` if a number does not fit its bits.
 fn bits_of_fields(alloc: Global, fields: &[Field]) -> Result<Option<Vec<u8>>, OutOfMemory>
     ensures { IfOk result (λ found.
         option_map (λ v. bits v.items) found ≡ option_map filled (own_bits fields.now)) }
@@ -134,7 +126,6 @@ fn bits_of_fields(alloc: Global, fields: &[Field]) -> Result<Option<Vec<u8>>, Ou
     Ok(Some(sink.into_bytes()))
 }
 
-/// Whether a raw value can be put in so many bits.
 fn has_room(raw: &Raw, width: u32) -> bool
     ensures { result ≡ has_room width raw.now }
 {
@@ -144,7 +135,7 @@ fn has_room(raw: &Raw, width: u32) -> bool
     }
 }
 
-/// Whether a number stands in so many bits, which are at most 64.
+/// Whether a number fits `width` bits, at most 64.
 fn is_below(number: u64, width: u32) -> bool
     ensures { result ≡ (nat_le width most_raw_bits && nat_lt number (2 ^ width)) }
 {
@@ -154,7 +145,6 @@ fn is_below(number: u64, width: u32) -> bool
     width == MOST_RAW_BITS || number < 1 << width
 }
 
-/// Puts a raw value in so many bits.
 fn put_raw(raw: &Raw, width: u32, sink: &mut BitSink) -> Result<(), OutOfMemory>
     requires { has_room width raw.now ≡ true }
     ensures { OnOk result (sink.new ≡ sink.old ++ raw_bits width raw.now) }

@@ -1,17 +1,16 @@
-//! The ranges of a message's numbers, which its types keep.
+//! The ranges of a message's numbers, which its types ensure.
 
 ghost use Rattle.std.specs.Prelude.{◌<◌, ◌^◌, All, IfSome};
 ghost use Rattle.bufr_sections.specs.Sections.{AreOctets, HeadFits};
 ghost use Rattle.bufr_sections.specs.SectionsRead.{message_lent};
 ghost use Rattle.bufr_message.specs.Laws.{NumbersFit};
 
-use bufr_answers::Items;
+use bufr_base::Items;
 use bufr_data::Subset;
 use bufr_sections::{Head, LentSections};
 use bufr_tables::Fxy;
 
-/// The numbers of a message of these sections and subsets are in the ranges of their fields, by
-/// their types. Nothing is done with them.
+/// Shows that the numbers of a message fit their fields, and does nothing else.
 pub(crate) fn numbers_fit(sections: &LentSections<'_>, subsets: &[Subset])
     ensures { NumbersFit (message_lent sections.now subsets.now) }
 {
@@ -21,7 +20,6 @@ pub(crate) fn numbers_fit(sections: &LentSections<'_>, subsets: &[Subset])
     descriptors_fit(sections.descriptors);
 }
 
-/// The same of the head.
 fn head_fits(head: &Head)
     ensures { HeadFits head.now }
 {
@@ -42,7 +40,6 @@ fn head_fits(head: &Head)
     octets_fit(head.local.as_slice());
 }
 
-/// The same of section 2.
 fn section2_fits(section2: &Option<Items<u8>>)
     ensures { IfSome section2.now AreOctets }
 {
@@ -51,17 +48,14 @@ fn section2_fits(section2: &Option<Items<u8>>)
     }
 }
 
-/// The same of octets.
 fn octets_fit(octets: &[u8])
     ensures { AreOctets octets.now }
 {}
 
-/// The same of numbers of two octets.
 fn pairs_fit(numbers: &[u16])
     ensures { All (λ n. n < 2 ^ 16) numbers.now }
 {}
 
-/// The same of descriptors.
 fn descriptors_fit(descriptors: &[Fxy])
     ensures { All (λ d. d < 2 ^ 16) descriptors.now }
 {

@@ -1,8 +1,8 @@
-//! Reports: one subset of a message with its head, and the message that says a report alone.
+//! Reports and their canonical messages.
 
 ghost use Rattle.std.specs.Prelude.{◌≡◌, ℕ, List, IfOk, Ok};
 ghost use Rattle.std.specs.List.{AllByRecursion};
-ghost use Rattle.bufr_answers.specs.Answers.{Gives};
+ghost use Rattle.bufr_base.specs.Answers.{Gives};
 ghost use Rattle.bufr_tables.specs.Entries.{Entries};
 ghost use Rattle.bufr_message.specs.Messages.{Spells};
 ghost use Rattle.bufr_message.specs.Encodings.{code};
@@ -12,21 +12,21 @@ ghost use Rattle.bufr_message.specs.Reports.{alone, IsCanonical, IsUnder};
 use crate::encoding::octets_of;
 use crate::laws::{reports_have_canonical_messages, written_messages_are_spelt};
 use crate::ranges::numbers_fit;
-use bufr_answers::{Failure, Items, OutOfMemory};
+use bufr_base::{Failure, Items, OutOfMemory};
 use bufr_data::Subset;
 use bufr_sections::{EncodeFault, Head, LentSections, Message};
 use bufr_tables::{Fxy, Tables};
 use std::alloc::Global;
 use std::slice;
 
-/// What section 1 says of a report: all but the octets for local use.
+/// A report's section 1, without its octets for local use.
 #[derive(Debug, Drop, PartialEq)]
 pub struct ReportHead {
     /// The originating centre.
     pub centre: u16,
     /// The originating sub-centre.
     pub sub_centre: u16,
-    /// The update sequence number, 0 for an original message.
+    /// The update sequence number; 0 for an original message.
     pub update: u8,
     /// The data category (Table A).
     pub category: u8,
@@ -53,7 +53,7 @@ pub struct ReportHead {
 }
 
 impl ReportHead {
-    /// What a head says but for its octets for local use.
+    /// Copies a head without its octets for local use.
     pub fn of_head(head: &Head) -> ReportHead
         ensures { result ≡ without_local head.now }
     {
@@ -75,7 +75,7 @@ impl ReportHead {
         }
     }
 
-    /// The head that says this with no octets for local use. It takes no memory.
+    /// Returns a head without octets for local use.
     pub(crate) fn with_no_local(&self, alloc: Global) -> Head
         ensures { result ≡ with_no_local self.now }
     {
@@ -99,12 +99,12 @@ impl ReportHead {
     }
 }
 
-/// One subset of a message, with all that an archive keeps of the message's sections.
+/// A report: one subset of a message, with all that an archive keeps of the sections.
 #[derive(Debug, Drop, PartialEq)]
 pub struct Report {
     /// Section 1 without its octets for local use.
     pub head: ReportHead,
-    /// Whether the data are observed.
+    /// The flag for observed data.
     pub observed: bool,
     /// The descriptors of section 3.
     pub descriptors: Items<Fxy>,
@@ -112,11 +112,9 @@ pub struct Report {
     pub subset: Subset,
 }
 
-/// The reports of a message, one a subset, in order. It can only run out of memory; the message is
-/// then gone.
+/// Splits a message into its reports, one for each subset, in order.
 pub fn reports(alloc: Global, message: Message) -> Result<Vec<Report>, OutOfMemory>
     ensures are { IfOk result (λ found. found.items ≡ reports_of message) }
-    // Under tables by which octets spell the message each has a canonical message.
     ensures under { (tables : Entries) (octets : List ℕ) (slack : ℕ)
         → Spells tables message octets slack
         → IfOk result (λ found. AllByRecursion (IsUnder tables) found.items) }
@@ -125,7 +123,7 @@ pub fn reports(alloc: Global, message: Message) -> Result<Vec<Report>, OutOfMemo
     reports_of(alloc, message)
 }
 
-/// The reports of a message: the one clause from which `reports` has its other.
+/// Splits a message for `reports`.
 fn reports_of(alloc: Global, message: Message) -> Result<Vec<Report>, OutOfMemory>
     ensures { IfOk result (λ found. found.items ≡ reports_of message) }
 {
@@ -144,7 +142,6 @@ fn reports_of(alloc: Global, message: Message) -> Result<Vec<Report>, OutOfMemor
     Ok(found)
 }
 
-/// The report of a subset with this head and these descriptors.
 pub(crate) fn report_with(
     alloc: Global,
     head: &Head,
@@ -163,20 +160,16 @@ pub(crate) fn report_with(
     })
 }
 
-/// The canonical message of a report: the octets of the message that has its head, no octets for
-/// local use, no section 2 and this one subset, not compressed. Of a report of a decoded message it
-/// can only run out of memory; else the first fault of that message is answered, as `encode` does.
+/// Returns the canonical message of a report: edition 4, no octets for local use, no section 2, and
+/// the subset alone, not compressed. For a report that has none, the first fault, as of `encode`.
 pub fn canonical(
     alloc: Global,
     tables: &Tables,
     report: &Report,
 ) -> Result<Vec<u8>, Failure<EncodeFault>>
-    // What is answered is the report's canonical message.
     ensures canonical { IfOk result (λ v. IsCanonical tables.now report.now v.items) }
-    // The canonical message of a report that has one is answered, unless memory runs out.
     ensures under { (octets : List ℕ) → IsCanonical tables.now report.now octets
         → Gives (λ v. v.items) result (Ok octets) }
-    // Which octets, or which fault, it is.
     ensures exact { Gives (λ v. v.items) result (code tables.now (alone report.now)) }
 {
     written_messages_are_spelt();

@@ -6,16 +6,23 @@ ghost use Rattle.bufr_message.specs.OwnBits.{has_room};
 ghost use Rattle.bufr_message.specs.Samples.{elements_only, local_octets_and_slack};
 ghost use Rattle.bufr_message.specs.Samples.{distinct_head, compressed, edition_3_of};
 ghost use Rattle.bufr_message.specs.ReportSamples.{reports, canonicals, observed_flags};
+ghost use Rattle.bufr_message.specs.ReportSamples.{report_heads, distinct_report_head};
 ghost use Rattle.bufr_message.specs.ReportSamples.{in_sequences, plain_pair, distinct_alone};
 ghost use Rattle.bufr_message.specs.ReportSamples.{edition_3_alone, for_flags, canonical_each};
 ghost use Rattle.bufr_message.specs.ReportSamples.{temperature4, temperature4_local, front3_alone};
 ghost use Rattle.bufr_message.specs.ReportSamples.{temperature3, temperature3_local};
 ghost use Rattle.bufr_sections.specs.Samples.{plain1};
 
-/// The reports of compressed subsets are those of the same subsets, plain.
+/// Compressed subsets have the reports of the same subsets, plain.
 #[tactic(auto, unfolding(crate::proofs::OnLiterals::messages_on_literals))]
 pub fn reports_of_a_pair()
     ensures { reports (compressed (codes "3050")) ≡ reports plain_pair }
+{}
+
+/// The head of a report: each number of section 1 is in its own place.
+#[tactic(auto, unfolding(crate::proofs::OnLiterals::messages_on_literals))]
+pub fn heads_of_reports()
+    ensures { report_heads distinct_head ≡ distinct_report_head ∷ [] }
 {}
 
 /// The canonical messages of two subsets, the second with a missing temperature.
@@ -36,8 +43,7 @@ pub fn canonical_messages()
     ensures flags { observed_flags (distinct_alone (codes "00")) ≡ false ∷ [] }
 {}
 
-/// The canonical message of a temperature in each edition, with and without section 2, and with
-/// each pair of flags: of all these it keeps whether the data are observed.
+/// A temperature in each edition, with and without section 2, and with each pair of flags.
 #[tactic(auto, unfolding(crate::proofs::OnLiterals::messages_on_literals))]
 pub fn canonical_messages_of_each_kind()
     ensures edition_4 { for_flags (λ f. canonicals (temperature4 f)) ≡ canonical_each plain1 }
@@ -49,7 +55,7 @@ pub fn canonical_messages_of_each_kind()
         ≡ canonical_each front3_alone }
 {}
 
-/// What can be put in so many bits: numbers below 2 to their power, in 64 at most.
+/// Numbers that fit bits: below 2 to their power, in at most 64.
 pub fn room_for_values()
     ensures least { has_room 1 (Number 1) ≡ true }
     ensures above { has_room 1 (Number 2) ≡ false }

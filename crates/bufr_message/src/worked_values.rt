@@ -1,4 +1,4 @@
-//! Worked examples of the definitions.
+//! Worked examples of messages.
 
 ghost use Rattle.std.specs.Prelude.{◌≡◌, ◌++◌, Ok, Err, codes};
 ghost use Rattle.bufr_tables.specs.Descriptors.{descriptor};
@@ -8,11 +8,11 @@ ghost use Rattle.bufr_message.specs.Samples.{elements_only, elements3, local_oct
 ghost use Rattle.bufr_message.specs.Samples.{local_octets, distinct_head, compressed};
 ghost use Rattle.bufr_message.specs.Samples.{edition_3_of, edition_3_written};
 
-use bufr_data::ReadFault;
+use bufr_data::DataFault;
 use bufr_expand::TemplateFault;
 use bufr_sections::Refused;
 
-/// Messages that are read and written again.
+/// Messages, read and written again.
 #[tactic(auto, unfolding(crate::proofs::OnLiterals::messages_on_literals))]
 pub fn messages()
     ensures elements { written_again elements_only ≡ elements_only }
@@ -22,7 +22,7 @@ pub fn messages()
     ensures distinct_again { written_again distinct_head ≡ distinct_head }
 {}
 
-/// Compressed messages that are read and written again: a missing value, increments of two bits.
+/// Compressed messages with a missing value, and with increments of two bits.
 #[tactic(auto, unfolding(crate::proofs::OnLiterals::messages_on_literals))]
 pub fn compressed_messages()
     ensures pair { written_again (compressed (codes "3050")) ≡ compressed (codes "3050") }
@@ -30,7 +30,7 @@ pub fn compressed_messages()
     ensures slack { slack_of (read (compressed (codes "3050"))) ≡ Ok 0 }
 {}
 
-/// Messages that are refused.
+/// Refused messages.
 #[tactic(auto, unfolding(crate::proofs::OnLiterals::messages_on_literals))]
 pub fn refusals()
     ensures sections { read (hex (codes "42554652 000008 05")) ≡ Err (Refused.Edition 5) }
@@ -39,11 +39,10 @@ pub fn refusals()
         ≡ Err (Refused.Template (TemplateFault.UnknownElement (descriptor 0 1 250))) }
     ensures data_end { read (framed (codes "000045 04")
         (plain1 ++ elements3 ++ hex (codes "00000C 00 14C03F409EC01AAC")))
-        ≡ Err (Refused.Data (ReadFault.DataEnds 1 8)) }
+        ≡ Err (Refused.Data (DataFault.DataEnds 1 8)) }
 {}
 
-/// Operators that do not act: 201130 on a local descriptor of 16 bits that 206 gives, 208010 on the
-/// four characters of 205. Each message ends where its data do.
+/// Operators that do not act: 201 on an element of 206, 208 on the characters of 205.
 #[tactic(auto, unfolding(crate::proofs::OnLiterals::messages_on_literals))]
 pub fn operators_that_do_not_act()
     ensures on_206 { slack_of (read (framed (codes "000035 04")
@@ -54,7 +53,7 @@ pub fn operators_that_do_not_act()
         ≡ Ok 0 }
 {}
 
-/// Messages of edition 3, and what is written for them: edition 4.
+/// Messages of edition 3, and the messages of edition 4 written for them.
 #[tactic(auto, unfolding(crate::proofs::OnLiterals::messages_on_literals))]
 pub fn edition_3()
     ensures written { written_again (edition_3_of (codes "18")) ≡ edition_3_written }

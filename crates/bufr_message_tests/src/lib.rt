@@ -1,4 +1,4 @@
-//! Tests of the public calls of bufr_message. It has tests only.
+//! Tests of the public calls of bufr_message, and nothing else.
 #![tactic(auto)]
 
 #[cfg(test)]

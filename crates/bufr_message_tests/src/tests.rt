@@ -1,6 +1,4 @@
-//! Messages read, viewed and written, their reports, and the order of what refuses to write one.
-//! Octets and texts are typed from the rules of the formats; `tests/rows` has the rows of listings
-//! and of refusals.
+//! Reads, views and writes messages and their reports.
 
 mod long;
 mod refused;
@@ -10,8 +8,7 @@ mod shown;
 use std::fmt::Debug;
 use std::process::Abort;
 
-/// Stops the test where the two differ, and tells where. It is a function, since a comparison
-/// written out in a test makes the proof of that test more than twice as long.
+/// Stops the test if the two differ. Inline it would lengthen the proof.
 fn same<T: PartialEq + Debug + Drop>(rt: &impl Abort, place: &str, found: T, wanted: T) {
     assert_eq!(rt; found, wanted, "at {place}");
 }

@@ -1,41 +1,38 @@
--- The time that fields say, part by part: for `laws::moments_are_dates`.
+-- The time of a report, part by part: for `laws::moments_are_dates`.
 use Rattle.std.proofs.Common.{◌≡◌, ℕ, ◌≤◌, Bool, true, false, cond, Option, Some, None, List, ℤ}
 use Rattle.std.proofs.Common.{pos, negsuc, ◌≤ℤ◌, refl, ap, ◌∙◌, subst, arith}
 use Rattle.std.specs.Prelude.{◌&&◌, int_le, unsigned_abs}
 use Rattle.jiff.specs.Words.{days_in_month}
 use Rattle.jiff.proofs.SpanFacts.{signed_arith}
 use Rattle.bufr_fields.specs.declared.field.Field.{Field}
-use Rattle.bufr_keys.specs.declared.key.Moment.{Moment}
+use Rattle.bufr_entries.specs.declared.key.Moment.{Moment}
+use Rattle.bufr_report_keys.specs.declared.elements.TheConstants.{YEAR, MONTH, DAY, HOUR, MINUTE}
+use Rattle.bufr_report_keys.specs.declared.elements.TheConstants.{SECOND}
 use Rattle.bufr_report_keys.specs.Usable.{◌>>=◌, element_number}
 use Rattle.bufr_report_keys.specs.Keys.{greatest_year, from_to, sixtieth, moment}
 use Rattle.bufr_report_keys.specs.Laws.{SaidOrZero, IsSaid}
 
 -- ---- steps of a chain
 
--- what a chain answers follows from what its first step does
 bind_some : {A B : Type 0} (x : Option A) (f : A → Option B) (y : B) → (x >>= f) ≡ Some y
     → (a : A) × (x ≡ Some a) × (f a ≡ Some y)
 bind_some (Some a) f y e = (a, refl, e)
 bind_some None f y e = absurd cc
 
--- a chain goes on with what its first step answers
 then_some : {A B : Type 0} (x : Option A) (f : A → Option B) (a : A) → x ≡ Some a → (x >>= f) ≡ f a
 then_some x f a e = ap (λ o. o >>= f) e
 
--- a value that is given where a test is true
 tested_some : {A : Type 0} (b : Bool) (x y : A) → cond b (Some x) None ≡ Some y
     → (b ≡ true) × (x ≡ y)
 tested_some true x y e = (refl, cc)
 tested_some false x y e = absurd cc
 
--- both parts of a test that is true
 both_true : (a b : Bool) → (a && b) ≡ true → (a ≡ true) × (b ≡ true)
 both_true true b h = (refl, h)
 both_true false b h = absurd cc
 
 -- ---- numbers in a range
 
--- a number in a range is one without sign
 within : (low high : ℕ) (z : ℤ) (n : ℕ) → from_to low high z ≡ Some n
     → (z ≡ pos n) × (low ≤ n) × (n ≤ high)
 within low high (pos k) n h =
@@ -52,57 +49,50 @@ within low high (negsuc k) n h =
     let b0 = b.0 in
     absurd (grind (arith, signed_arith, b0))
 
--- and any number without sign in the range is such a one
 in_range : (low high n : ℕ) → low ≤ n → n ≤ high → from_to low high (pos n) ≡ Some n
 in_range low high n l h =
     let b0 : int_le (pos low) (pos n) ≡ true = grind (arith, signed_arith, l) in
     let b1 : int_le (pos n) (pos high) ≡ true = grind (arith, signed_arith, h) in
     rw (b0, b1) refl
 
--- a minute or second is what is said, or 0
 sixtieth_is : (x : Option ℤ) (n : ℕ) → sixtieth x ≡ Some n → SaidOrZero x n × (n ≤ 59)
 sixtieth_is None n h = let e : 0 ≡ n = cc in (cc, omega arith)
 sixtieth_is (Some z) n h = let w = within 0 59 z n h in (w.0, w.2)
 
--- and it is what it is said to be
 is_sixtieth : (x : Option ℤ) (n : ℕ) → SaidOrZero x n → n ≤ 59 → sixtieth x ≡ Some n
 is_sixtieth None n h b = let e : 0 ≡ n = cc in ap Some e
 is_sixtieth (Some z) n h b = ap (from_to 0 59) h ∙ in_range 0 59 n (omega arith) b
 
--- an order of numbers without sign is one of numbers with one
 signed : (a b : ℕ) → a ≤ b → pos a ≤ℤ pos b
 signed a b h = omega (arith, signed_arith)
 
--- and back
 unsigned : (a b : ℕ) → pos a ≤ℤ pos b → a ≤ b
 unsigned a b h = omega (arith, signed_arith)
 
--- no year is too early for the calendar
 low_year : (n : ℕ) → negsuc 9998 ≤ℤ pos n
 low_year n = omega (arith, signed_arith)
 
 -- ---- the time
 
--- a moment is what the fields say
 pub moment_is_said : (fields : List Field) (m : Moment) → moment fields ≡ Some m → IsSaid fields m
 moment_is_said fields m h =
-    let year = bind_some (element_number 4 1 fields >>= from_to 1 greatest_year) _ m h in
-    let y0 = bind_some (element_number 4 1 fields) (from_to 1 greatest_year) year.0 year.1 in
+    let year = bind_some (element_number YEAR fields >>= from_to 1 greatest_year) _ m h in
+    let y0 = bind_some (element_number YEAR fields) (from_to 1 greatest_year) year.0 year.1 in
     let yr = within 1 greatest_year y0.0 year.0 y0.2 in
-    let month = bind_some (element_number 4 2 fields >>= from_to 1 12) _ m year.2 in
-    let m0 = bind_some (element_number 4 2 fields) (from_to 1 12) month.0 month.1 in
+    let month = bind_some (element_number MONTH fields >>= from_to 1 12) _ m year.2 in
+    let m0 = bind_some (element_number MONTH fields) (from_to 1 12) month.0 month.1 in
     let mo = within 1 12 m0.0 month.0 m0.2 in
     let days = days_in_month (pos year.0) month.0 in
-    let day = bind_some (element_number 4 3 fields >>= from_to 1 days) _ m month.2 in
-    let d0 = bind_some (element_number 4 3 fields) (from_to 1 days) day.0 day.1 in
+    let day = bind_some (element_number DAY fields >>= from_to 1 days) _ m month.2 in
+    let d0 = bind_some (element_number DAY fields) (from_to 1 days) day.0 day.1 in
     let da = within 1 days d0.0 day.0 d0.2 in
-    let hour = bind_some (element_number 4 4 fields >>= from_to 0 23) _ m day.2 in
-    let h0 = bind_some (element_number 4 4 fields) (from_to 0 23) hour.0 hour.1 in
+    let hour = bind_some (element_number HOUR fields >>= from_to 0 23) _ m day.2 in
+    let h0 = bind_some (element_number HOUR fields) (from_to 0 23) hour.0 hour.1 in
     let ho = within 0 23 h0.0 hour.0 h0.2 in
-    let minute = bind_some (sixtieth (element_number 4 5 fields)) _ m hour.2 in
-    let second = bind_some (sixtieth (element_number 4 6 fields)) _ m minute.2 in
-    let mi = sixtieth_is (element_number 4 5 fields) minute.0 minute.1 in
-    let se = sixtieth_is (element_number 4 6 fields) second.0 second.1 in
+    let minute = bind_some (sixtieth (element_number MINUTE fields)) _ m hour.2 in
+    let second = bind_some (sixtieth (element_number SECOND fields)) _ m minute.2 in
+    let mi = sixtieth_is (element_number MINUTE fields) minute.0 minute.1 in
+    let se = sixtieth_is (element_number SECOND fields) second.0 second.1 in
     let said : Moment = record {
       year = year.0;
       month = month.0;
@@ -131,27 +121,26 @@ moment_is_said fields m h =
     } in
     subst (IsSaid fields) same facts
 
--- and what the fields say is the moment
 pub said_is_moment : (fields : List Field) (m : Moment) → IsSaid fields m → moment fields ≡ Some m
 said_is_moment fields m s =
     let days = days_in_month (pos m.year) m.month in
-    let year : (element_number 4 1 fields >>= from_to 1 greatest_year) ≡ Some m.year =
-    then_some (element_number 4 1 fields) (from_to 1 greatest_year) (pos m.year) s.year
+    let year : (element_number YEAR fields >>= from_to 1 greatest_year) ≡ Some m.year =
+    then_some (element_number YEAR fields) (from_to 1 greatest_year) (pos m.year) s.year
     ∙ in_range 1 greatest_year m.year s.from_year_1 (unsigned m.year greatest_year s.date.0.1) in
-    let month : (element_number 4 2 fields >>= from_to 1 12) ≡ Some m.month =
-    then_some (element_number 4 2 fields) (from_to 1 12) (pos m.month) s.month
+    let month : (element_number MONTH fields >>= from_to 1 12) ≡ Some m.month =
+    then_some (element_number MONTH fields) (from_to 1 12) (pos m.month) s.month
     ∙ in_range 1 12 m.month (unsigned 1 m.month s.date.1.0) (unsigned m.month 12 s.date.1.1) in
-    let day : (element_number 4 3 fields >>= from_to 1 days) ≡ Some m.day =
-    then_some (element_number 4 3 fields) (from_to 1 days) (pos m.day) s.day
+    let day : (element_number DAY fields >>= from_to 1 days) ≡ Some m.day =
+    then_some (element_number DAY fields) (from_to 1 days) (pos m.day) s.day
     ∙ in_range 1 days m.day (unsigned 1 m.day s.date.2.0) (unsigned m.day days s.date.2.1) in
-    let hour : (element_number 4 4 fields >>= from_to 0 23) ≡ Some m.hour =
-    then_some (element_number 4 4 fields) (from_to 0 23) (pos m.hour) s.hour
+    let hour : (element_number HOUR fields >>= from_to 0 23) ≡ Some m.hour =
+    then_some (element_number HOUR fields) (from_to 0 23) (pos m.hour) s.hour
     ∙ in_range 0 23 m.hour (omega arith) s.hours in
-    let minute = is_sixtieth (element_number 4 5 fields) m.minute s.minute s.minutes in
-    let second = is_sixtieth (element_number 4 6 fields) m.second s.second s.seconds in
-    then_some (element_number 4 1 fields >>= from_to 1 greatest_year) _ m.year year
-    ∙ then_some (element_number 4 2 fields >>= from_to 1 12) _ m.month month
-    ∙ then_some (element_number 4 3 fields >>= from_to 1 days) _ m.day day
-    ∙ then_some (element_number 4 4 fields >>= from_to 0 23) _ m.hour hour
-    ∙ then_some (sixtieth (element_number 4 5 fields)) _ m.minute minute
-    ∙ then_some (sixtieth (element_number 4 6 fields)) _ m.second second
+    let minute = is_sixtieth (element_number MINUTE fields) m.minute s.minute s.minutes in
+    let second = is_sixtieth (element_number SECOND fields) m.second s.second s.seconds in
+    then_some (element_number YEAR fields >>= from_to 1 greatest_year) _ m.year year
+    ∙ then_some (element_number MONTH fields >>= from_to 1 12) _ m.month month
+    ∙ then_some (element_number DAY fields >>= from_to 1 days) _ m.day day
+    ∙ then_some (element_number HOUR fields >>= from_to 0 23) _ m.hour hour
+    ∙ then_some (sixtieth (element_number MINUTE fields)) _ m.minute minute
+    ∙ then_some (sixtieth (element_number SECOND fields)) _ m.second second

@@ -1,4 +1,4 @@
--- Usable texts in the words of their rule: for `laws::usable_values`.
+-- Usable texts by their rule: for `laws::usable_values`.
 use Rattle.std.proofs.Common.{◌≡◌, ◌⊎◌, inl, inr, ℕ, Bool, true, false, Some, List, [], ◌∷◌, ◌++◌}
 use Rattle.std.proofs.Common.{refl, sym, ap, ◌∙◌}
 use Rattle.bufr_tables.specs.declared.element.Kind.{Kind}
@@ -12,7 +12,7 @@ use Rattle.bufr_report_keys.specs.Laws.{IsUsableText}
 use Rattle.bufr_report_keys.proofs.BlankFacts.{Ends, left_and_blanks, left_ends, blanks_are_cut}
 use Rattle.bufr_report_keys.proofs.BlankFacts.{other_is_kept, ends_are_some}
 
--- a text comes of octets alone
+-- a text comes from a raw text of kind Text that is not missing
 record Comes (kind : Kind) (raw : Raw) (missing : Bool) (text : List ℕ) : Type 0 where
   octets : List ℕ
   is_text : kind ≡ kinds.Text
@@ -20,7 +20,6 @@ record Comes (kind : Kind) (raw : Raw) (missing : Bool) (text : List ℕ) : Type
   there : missing ≡ false
   left : some_octets (without_last_blanks octets) ≡ Some text
 
--- the parts that a text comes of
 comes : (kind : Kind) (raw : Raw) (missing : Bool) (text : List ℕ)
     → text_by kind raw missing ≡ Some text → Comes kind raw missing text
 comes kinds.Text (raws.Text octets) true text e = absurd cc
@@ -28,22 +27,18 @@ comes kinds.Text (raws.Text octets) false text e =
     record { octets = octets; is_text = refl; of = refl; there = refl; left = e }
 comes kind raw missing text e = absurd cc
 
--- octets that are some
 some_is : (w text : List ℕ) → some_octets w ≡ Some text → w ≡ text
 some_is [] text e = absurd cc
 some_is (x ∷ xs) text e = cc
 
--- are not none
 none_is : (w text : List ℕ) → some_octets w ≡ Some text → w ≡ [] → ⊥
 none_is [] text e h = cc
 none_is (x ∷ xs) text e h = cc
 
--- so they end with another octet
 must_end : (w text : List ℕ) → some_octets w ≡ Some text → (w ≡ []) ⊎ Ends w → Ends w
 must_end w text e (inl h) = absurd (none_is w text e h)
 must_end w text e (inr t) = t
 
--- a usable text is one
 pub text_is_usable : (f : Field) (text : List ℕ) → usable_text f ≡ Some text → IsUsableText f text
 text_is_usable f text e =
     let c = comes f.spec.kind f.raw (is_missing f) text e in
@@ -63,7 +58,6 @@ text_is_usable f text e =
       no_blank = ends.3;
     }
 
--- and no other is
 pub usable_is_text : (f : Field) (text : List ℕ) → IsUsableText f text → usable_text f ≡ Some text
 usable_is_text f text u =
     let left : without_last_blanks (text ++ u.blanks) ≡ u.front ++ u.last ∷ [] =

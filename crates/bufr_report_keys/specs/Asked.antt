@@ -1,16 +1,19 @@
--- The elements that a key asks for.
+-- The elements of keys.
 use Rattle.std.specs.Prelude.{ℕ, ◌==◌, ◌&&◌, ◌||◌, Bool, nat_le}
-use Rattle.bufr_tables.specs.Descriptors.{descriptor}
+use Rattle.bufr_report_keys.specs.declared.elements.TheConstants.{BLOCK_NUMBER, STATION_NUMBER}
+use Rattle.bufr_report_keys.specs.declared.elements.TheConstants.{MOBILE_IDENTIFIER, WIGOS_SERIES}
+use Rattle.bufr_report_keys.specs.declared.elements.TheConstants.{WIGOS_LOCAL_IDENTIFIER, YEAR}
+use Rattle.bufr_report_keys.specs.declared.elements.TheConstants.{SECOND}
 
--- an element that says a station (Table B 001001, 001002, 001011 and 001125 to 001128)
+-- the elements of stations (Table B 001001, 001002, 001011 and 001125 to 001128)
 abbrev pub is_station : ℕ → Bool
-is_station d = d == descriptor 0 1 1 || d == descriptor 0 1 2 || d == descriptor 0 1 11
-    || (nat_le (descriptor 0 1 125) d && nat_le d (descriptor 0 1 128))
+is_station d = d == BLOCK_NUMBER || d == STATION_NUMBER || d == MOBILE_IDENTIFIER
+    || (nat_le WIGOS_SERIES d && nat_le d WIGOS_LOCAL_IDENTIFIER)
 
--- an element that says a time (004001 to 004006)
+-- the elements of times (004001 to 004006)
 abbrev pub is_time : ℕ → Bool
-is_time d = nat_le (descriptor 0 4 1) d && nat_le d (descriptor 0 4 6)
+is_time d = nat_le YEAR d && nat_le d SECOND
 
--- an element that a key asks for
+-- the elements of keys
 abbrev pub is_asked : ℕ → Bool
 is_asked d = is_station d || is_time d

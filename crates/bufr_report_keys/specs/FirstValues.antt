@@ -1,102 +1,107 @@
--- What the first field of each element says that a key asks for.
+-- The first values of the elements of keys.
 use Rattle.std.specs.Prelude.{ℕ, ◌==◌, Bool, true, false, List, [], ◌∷◌, Option, Some, ℤ, pos}
 use Rattle.std.specs.Option.{option_map, option_or, option_flatten}
 use Rattle.jiff.specs.Words.{days_in_month}
-use Rattle.bufr_tables.specs.Descriptors.{descriptor}
 use Rattle.bufr_fields.specs.declared.field.Field.{Field}
-use Rattle.bufr_keys.specs.declared.key.Station.{Station}
-use Rattle.bufr_keys.specs.declared.key.Station.TheVariants.{Wmo, Wigos, Mobile}
-use Rattle.bufr_keys.specs.declared.key.Moment.{Moment}
-use Rattle.bufr_keys.specs.declared.key.Key.{Key}
+use Rattle.bufr_entries.specs.declared.key.Station.{Station}
+use Rattle.bufr_entries.specs.declared.key.Station.TheVariants.{Wmo, Wigos, Mobile}
+use Rattle.bufr_entries.specs.declared.key.Moment.{Moment}
+use Rattle.bufr_entries.specs.declared.key.Key.{Key}
 use Rattle.bufr_message.specs.declared.report.ReportHead.{ReportHead}
+use Rattle.bufr_report_keys.specs.declared.elements.TheConstants.{BLOCK_NUMBER, STATION_NUMBER}
+use Rattle.bufr_report_keys.specs.declared.elements.TheConstants.{MOBILE_IDENTIFIER, WIGOS_SERIES}
+use Rattle.bufr_report_keys.specs.declared.elements.TheConstants.{WIGOS_ISSUER, WIGOS_ISSUE_NUMBER}
+use Rattle.bufr_report_keys.specs.declared.elements.TheConstants.{WIGOS_LOCAL_IDENTIFIER, YEAR}
+use Rattle.bufr_report_keys.specs.declared.elements.TheConstants.{MONTH, DAY, HOUR, MINUTE, SECOND}
 use Rattle.bufr_report_keys.specs.declared.first_values.FirstValues.{FirstValues}
 use Rattle.bufr_report_keys.specs.Usable.{◌>>=◌, usable_number, usable_text, first_field}
 use Rattle.bufr_report_keys.specs.Keys.{or_else, from_to, greatest_year, sixtieth, key_with}
 
--- the number of the first field of element 0 XX YYY, or that it has none; none where no field of it
--- is met
-abbrev pub first_number : ℕ → ℕ → List Field → Option (Option ℤ)
-first_number x y fields = option_map usable_number (first_field (descriptor 0 x y) fields)
+-- the number of the first field of an element, or that it has none; none where no field of it is met
+abbrev pub first_number : ℕ → List Field → Option (Option ℤ)
+first_number d fields = option_map usable_number (first_field d fields)
 
--- its text
-abbrev pub first_text : ℕ → ℕ → List Field → Option (Option (List ℕ))
-first_text x y fields = option_map usable_text (first_field (descriptor 0 x y) fields)
+-- the text of the first field of element 0 XX YYY, or that it is unusable; none without such a
+-- field
+abbrev pub first_text : ℕ → List Field → Option (Option (List ℕ))
+first_text d fields = option_map usable_text (first_field d fields)
 
--- those of the 13 elements (Table B 001001, 001002, 001011, 001125 to 001128, 004001 to 004006)
+-- the first values of the 13 elements (Table B 001001, 001002, 001011, 001125 to 001128, 004001 to
+-- 004006)
 abbrev pub first_values : List Field → FirstValues
 first_values fields = record {
-  block = first_number 1 1 fields;
-  station = first_number 1 2 fields;
-  mobile = first_text 1 11 fields;
-  series = first_number 1 125 fields;
-  issuer = first_number 1 126 fields;
-  issue = first_number 1 127 fields;
-  local = first_text 1 128 fields;
-  year = first_number 4 1 fields;
-  month = first_number 4 2 fields;
-  day = first_number 4 3 fields;
-  hour = first_number 4 4 fields;
-  minute = first_number 4 5 fields;
-  second = first_number 4 6 fields;
+  block = first_number BLOCK_NUMBER fields;
+  station = first_number STATION_NUMBER fields;
+  mobile = first_text MOBILE_IDENTIFIER fields;
+  series = first_number WIGOS_SERIES fields;
+  issuer = first_number WIGOS_ISSUER fields;
+  issue = first_number WIGOS_ISSUE_NUMBER fields;
+  local = first_text WIGOS_LOCAL_IDENTIFIER fields;
+  year = first_number YEAR fields;
+  month = first_number MONTH fields;
+  day = first_number DAY fields;
+  hour = first_number HOUR fields;
+  minute = first_number MINUTE fields;
+  second = first_number SECOND fields;
 }
 
--- ---- one field more
+-- ---- one more field
 
--- what is known of an element behind one more field, which is of that element or not and says this
+-- an element's value after one more field: the field is of the element or not, and has value `said`
 abbrev pub known : {A : Type 0} → Bool → Option A → Option A → Option A
 known true before said = option_or before said
 known false before said = before
 
--- its number, if it is of element 0 XX YYY
-abbrev pub known_number : ℕ → ℕ → Field → Option (Option ℤ) → Option (Option ℤ)
-known_number x y f before = known (f.fxy == descriptor 0 x y) before (Some (usable_number f))
+-- its number, if it is of this element
+abbrev pub known_number : ℕ → Field → Option (Option ℤ) → Option (Option ℤ)
+known_number d f before = known (f.fxy == d) before (Some (usable_number f))
 
--- its text
-abbrev pub known_text : ℕ → ℕ → Field → Option (Option (List ℕ)) → Option (Option (List ℕ))
-known_text x y f before = known (f.fxy == descriptor 0 x y) before (Some (usable_text f))
+-- an element's text after one more field
+abbrev pub known_text : ℕ → Field → Option (Option (List ℕ)) → Option (Option (List ℕ))
+known_text d f before = known (f.fxy == d) before (Some (usable_text f))
 
--- what is known of each element
+-- all values after one more field
 abbrev pub noted : Field → FirstValues → FirstValues
 noted f values = record {
-  block = known_number 1 1 f values.block;
-  station = known_number 1 2 f values.station;
-  mobile = known_text 1 11 f values.mobile;
-  series = known_number 1 125 f values.series;
-  issuer = known_number 1 126 f values.issuer;
-  issue = known_number 1 127 f values.issue;
-  local = known_text 1 128 f values.local;
-  year = known_number 4 1 f values.year;
-  month = known_number 4 2 f values.month;
-  day = known_number 4 3 f values.day;
-  hour = known_number 4 4 f values.hour;
-  minute = known_number 4 5 f values.minute;
-  second = known_number 4 6 f values.second;
+  block = known_number BLOCK_NUMBER f values.block;
+  station = known_number STATION_NUMBER f values.station;
+  mobile = known_text MOBILE_IDENTIFIER f values.mobile;
+  series = known_number WIGOS_SERIES f values.series;
+  issuer = known_number WIGOS_ISSUER f values.issuer;
+  issue = known_number WIGOS_ISSUE_NUMBER f values.issue;
+  local = known_text WIGOS_LOCAL_IDENTIFIER f values.local;
+  year = known_number YEAR f values.year;
+  month = known_number MONTH f values.month;
+  day = known_number DAY f values.day;
+  hour = known_number HOUR f values.hour;
+  minute = known_number MINUTE f values.minute;
+  second = known_number SECOND f values.second;
 }
 
--- the same where the field is of element d, which has no text, and says this
+-- all values after a field of element d, which has no text
 abbrev pub numbered : ℕ → Option (Option ℤ) → FirstValues → FirstValues
 numbered d said values = record values {
-  block = known (d == descriptor 0 1 1) values.block said;
-  station = known (d == descriptor 0 1 2) values.station said;
-  series = known (d == descriptor 0 1 125) values.series said;
-  issuer = known (d == descriptor 0 1 126) values.issuer said;
-  issue = known (d == descriptor 0 1 127) values.issue said;
-  year = known (d == descriptor 0 4 1) values.year said;
-  month = known (d == descriptor 0 4 2) values.month said;
-  day = known (d == descriptor 0 4 3) values.day said;
-  hour = known (d == descriptor 0 4 4) values.hour said;
-  minute = known (d == descriptor 0 4 5) values.minute said;
-  second = known (d == descriptor 0 4 6) values.second said;
+  block = known (d == BLOCK_NUMBER) values.block said;
+  station = known (d == STATION_NUMBER) values.station said;
+  series = known (d == WIGOS_SERIES) values.series said;
+  issuer = known (d == WIGOS_ISSUER) values.issuer said;
+  issue = known (d == WIGOS_ISSUE_NUMBER) values.issue said;
+  year = known (d == YEAR) values.year said;
+  month = known (d == MONTH) values.month said;
+  day = known (d == DAY) values.day said;
+  hour = known (d == HOUR) values.hour said;
+  minute = known (d == MINUTE) values.minute said;
+  second = known (d == SECOND) values.second said;
 }
 
--- ---- all fields, one after the other
+-- ---- all fields
 
--- what is known once they are noted
+-- all values after some fields
 unfoldable pub all_noted : List Field → FirstValues → FirstValues
 all_noted [] values = values
 all_noted (f ∷ fields) values = all_noted fields (noted f values)
 
--- ---- what they say
+-- ---- the key
 
 -- the WMO station of these numbers
 abbrev pub wmo_of : Option ℤ → Option ℤ → Option Station
@@ -105,7 +110,7 @@ wmo_of block station = do
   number ← station
   Some (Wmo block number)
 
--- the station of these parts of a WIGOS identifier
+-- the station of a WIGOS identifier
 abbrev pub wigos_of : Option ℤ → Option ℤ → Option ℤ → Option (List ℕ) → Option Station
 wigos_of series issuer issue local = do
   series ← series
@@ -114,11 +119,11 @@ wigos_of series issuer issue local = do
   name ← local
   Some (Wigos series issuer number name)
 
--- the ship or mobile land station of this name
+-- the station of a mobile name
 abbrev pub mobile_of : Option (List ℕ) → Option Station
 mobile_of name = name >>= λ name. Some (Mobile name)
 
--- the first that there is of these
+-- the station: WMO, else WIGOS, else mobile
 abbrev pub station_of : FirstValues → Option Station
 station_of values =
     or_else (wmo_of (option_flatten values.block) (option_flatten values.station))
@@ -127,7 +132,7 @@ station_of values =
     (option_flatten values.issue) (option_flatten values.local))
     (mobile_of (option_flatten values.mobile)))
 
--- the time
+-- the moment
 abbrev pub moment_of : FirstValues → Option Moment
 moment_of values = do
   year ← option_flatten values.year >>= from_to 1 greatest_year
@@ -145,7 +150,7 @@ moment_of values = do
     second = second;
   })
 
--- the key of a report whose fields say them
+-- the key of these values
 abbrev pub key_of : ReportHead → FirstValues → Option Key
 key_of head values = do
   station ← station_of values

@@ -1,26 +1,34 @@
-//! The fields that a key asks for, and what the first of each element says.
+//! The elements of keys, and the first values of their fields.
 ghost use Rattle.std.specs.Prelude.{◌≡◌, IfOk, OnOk};
 ghost use Rattle.bufr_report_keys.specs.Asked.{is_asked};
 ghost use Rattle.bufr_report_keys.specs.FirstValues.{all_noted};
 
+use crate::elements::{
+    BLOCK_NUMBER, MOBILE_IDENTIFIER, SECOND, STATION_NUMBER, WIGOS_LOCAL_IDENTIFIER, WIGOS_SERIES,
+    YEAR,
+};
 use crate::first_values::FirstValues;
-use bufr_answers::{Items, OutOfMemory};
+use bufr_base::{Items, OutOfMemory};
 use bufr_data::{Asks, Field, Fields, LaidFields, Raw};
 use bufr_tables::Fxy;
 use std::alloc::Global;
 
-/// Whether a descriptor is an element that a key asks for: one that says a station (001001, 001002,
-/// 001011 and 001125 to 001128) or a time (004001 to 004006).
+/// Whether an element belongs to keys: to stations (001001, 001002, 001011 and 001125 to 001128) or
+/// times (004001 to 004006).
 fn is_asked(fxy: Fxy) -> bool
     ensures { result ≡ is_asked fxy }
 {
     let bits = fxy.bits();
-    let is_station = bits == 257 || bits == 258 || bits == 267 || (381 <= bits && bits <= 384);
-    let is_time = 1025 <= bits && bits <= 1030;
+    let is_wigos = WIGOS_SERIES <= bits && bits <= WIGOS_LOCAL_IDENTIFIER;
+    let is_station = bits == BLOCK_NUMBER
+        || bits == STATION_NUMBER
+        || bits == MOBILE_IDENTIFIER
+        || is_wigos;
+    let is_time = YEAR <= bits && bits <= SECOND;
     is_station || is_time
 }
 
-/// The elements that a key asks for.
+/// A filter of the elements of keys.
 struct KeyElements;
 
 impl Asks for KeyElements {
@@ -31,8 +39,7 @@ impl Asks for KeyElements {
     }
 }
 
-/// Notes fields that are handed out one at a time. Those that are not asked for are let go one by
-/// one, and most are not built. It can only run out of memory.
+/// Notes fields that come one at a time. It skips fields of other elements, and builds few of them.
 #[inline(always)]
 pub(crate) fn note_handed(
     alloc: Global,
@@ -52,7 +59,7 @@ pub(crate) fn note_handed(
     }
 }
 
-/// Notes fields that are laid out, of which no number is built. It can only run out of memory.
+/// Notes the fields of a layout, and builds no numbers.
 fn note_laid(
     alloc: Global,
     mut fields: LaidFields<'_>,
@@ -71,7 +78,7 @@ fn note_laid(
     }
 }
 
-/// Notes the fields of a list. It can only run out of memory, where a text is copied.
+/// Notes the fields of a list, and copies texts.
 pub(crate) fn note_listed(
     alloc: Global,
     fields: &[Field],
@@ -87,7 +94,6 @@ pub(crate) fn note_listed(
     Ok(())
 }
 
-/// A field of its own like another.
 fn copied(alloc: Global, field: &Field) -> Result<Field, OutOfMemory>
     ensures { IfOk result (λ copy. copy ≡ field.now) }
 {

@@ -1,11 +1,9 @@
-//! What the first field of an element says whose value is a number.
+//! The number of an element's first field.
 ghost use Rattle.std.specs.Prelude.{◌≡◌, None, Some};
 ghost use Rattle.std.specs.Option.{option_flatten, option_or};
 
 use std::marker::Model;
 
-/// What the first field of an element says: no field of it was met, its number does not count, or
-/// its number.
 #[derive(Clone, Copy)]
 pub(crate) enum Said {
     Unmet,
@@ -13,8 +11,8 @@ pub(crate) enum Said {
     Number(i128),
 }
 
-/// The number of the first field of an element, which is none where it does not count, or none
-/// where no field of it was met: an option in an option, which takes less room.
+/// The number of an element's first field, as an option in an option in less room: the outer one is
+/// none if there is no field, the inner one if its number is unusable.
 #[derive(Drop)]
 pub(crate) struct FirstNumber {
     said: Said,
@@ -30,14 +28,12 @@ impl Model for FirstNumber {
 }
 
 impl FirstNumber {
-    /// Where no field was met.
     pub(crate) fn unmet() -> FirstNumber
         ensures { result ≡ None }
     {
         FirstNumber { said: Said::Unmet }
     }
 
-    /// What a field says whose number is this, or does not count.
     #[inline(always)]
     pub(crate) fn of(number: Option<i128>) -> FirstNumber
         ensures { result ≡ Some number }
@@ -52,7 +48,7 @@ impl FirstNumber {
         }
     }
 
-    /// Notes what a field says: it counts where none of its element was met before.
+    /// Notes a field, if it is the first of its element.
     #[inline(always)]
     pub(crate) fn note(&mut self, first: FirstNumber)
         ensures { self.new ≡ option_or self.old first }
@@ -62,7 +58,6 @@ impl FirstNumber {
         }
     }
 
-    /// The number, where there is one that counts.
     pub(crate) fn usable(&self) -> Option<i128>
         ensures { result ≡ option_flatten self.now }
     {

@@ -1,15 +1,19 @@
-//! What the first field of each element says that a key asks for.
+//! The first values of the elements of keys.
 ghost use Rattle.std.specs.Prelude.{◌≡◌, [], Some, None};
 ghost use Rattle.std.specs.Option.{option_or};
 ghost use Rattle.bufr_report_keys.specs.Usable.{usable_text};
 
+use crate::elements::{
+    BLOCK_NUMBER, DAY, HOUR, MINUTE, MOBILE_IDENTIFIER, MONTH, SECOND, STATION_NUMBER,
+    WIGOS_ISSUE_NUMBER, WIGOS_ISSUER, WIGOS_LOCAL_IDENTIFIER, WIGOS_SERIES, YEAR,
+};
 use crate::first_number::FirstNumber;
 use crate::usable::{number_of, usable_number, usable_text};
-use bufr_answers::Items;
+use bufr_base::Items;
 use bufr_data::{Field, NumberField, Raw};
 
-/// Of each element that a key asks for what its first field says: a usable number or text, or
-/// nothing that counts. An element of which no field was met has none.
+/// The value of the first field of each element of keys: a usable number or text, an unusable one,
+/// or none.
 #[derive(Drop)]
 pub(crate) struct FirstValues {
     /// WMO block number (001001).
@@ -44,7 +48,6 @@ impl FirstValues {
     ghost use Rattle.bufr_fields.specs.Values.{as_field};
     ghost use Rattle.bufr_report_keys.specs.FirstValues.{first_values, noted, numbered};
 
-    /// Where no field was met.
     pub(crate) fn none() -> FirstValues
         ensures { result ≡ first_values [] }
     {
@@ -65,8 +68,8 @@ impl FirstValues {
         }
     }
 
-    /// Notes one more field: it counts where it is the first of an element that is asked for.
-    // A call would move each field through memory.
+    /// Notes a field, if it is the first of an element of keys.
+    // Inline, since a call would move each field through memory.
     #[inline(always)]
     pub(crate) fn note(&mut self, field: Field)
         ensures { self.new ≡ noted field self.old }
@@ -78,52 +81,50 @@ impl FirstValues {
         }
     }
 
-    /// Notes one more field, whatever stands in it, in the same way.
     fn note_whole(&mut self, field: Field)
         ensures { self.new ≡ noted field self.old }
     {
         match field.fxy.bits() {
-            267 => note_text(&mut self.mobile, field),
-            384 => note_text(&mut self.local, field),
+            MOBILE_IDENTIFIER => note_text(&mut self.mobile, field),
+            WIGOS_LOCAL_IDENTIFIER => note_text(&mut self.local, field),
             bits => self.note_said(bits, FirstNumber::of(number_of(&field))),
         }
     }
 
-    /// Notes one more field, which is a number, in the same way.
     #[inline(always)]
     pub(crate) fn note_number(&mut self, field: NumberField)
         ensures { self.new ≡ noted (as_field field) self.old }
     {
         match field.fxy.bits() {
-            267 => note_no_text(&mut self.mobile),
-            384 => note_no_text(&mut self.local),
+            MOBILE_IDENTIFIER => note_no_text(&mut self.mobile),
+            WIGOS_LOCAL_IDENTIFIER => note_no_text(&mut self.local),
             bits => self.note_said(bits, FirstNumber::of(usable_number(field))),
         }
     }
 
-    /// Notes what one more field says whose element has no text.
+    /// Notes the value of a field without a text.
     #[inline(always)]
     fn note_said(&mut self, bits: u16, first: FirstNumber)
         ensures { self.new ≡ numbered bits first self.old }
     {
         match bits {
-            257 => self.block.note(first),
-            258 => self.station.note(first),
-            381 => self.series.note(first),
-            382 => self.issuer.note(first),
-            383 => self.issue.note(first),
-            1025 => self.year.note(first),
-            1026 => self.month.note(first),
-            1027 => self.day.note(first),
-            1028 => self.hour.note(first),
-            1029 => self.minute.note(first),
-            1030 => self.second.note(first),
+            BLOCK_NUMBER => self.block.note(first),
+            STATION_NUMBER => self.station.note(first),
+            WIGOS_SERIES => self.series.note(first),
+            WIGOS_ISSUER => self.issuer.note(first),
+            WIGOS_ISSUE_NUMBER => self.issue.note(first),
+            YEAR => self.year.note(first),
+            MONTH => self.month.note(first),
+            DAY => self.day.note(first),
+            HOUR => self.hour.note(first),
+            MINUTE => self.minute.note(first),
+            SECOND => self.second.note(first),
             _ => {}
         }
     }
 }
 
-/// Notes the text of a field, where none of its element was met before.
+/// Notes the text of a field, if it is the first of its element.
 fn note_text(value: &mut Option<Option<Items<u8>>>, field: Field)
     ensures { value.new ≡ option_or value.old (Some (usable_text field)) }
 {
@@ -132,7 +133,7 @@ fn note_text(value: &mut Option<Option<Items<u8>>>, field: Field)
     }
 }
 
-/// Notes that a field has no text, where none of its element was met before.
+/// Notes a field without a text, if it is the first of its element.
 fn note_no_text(value: &mut Option<Option<Items<u8>>>)
     ensures { value.new ≡ option_or value.old (Some None) }
 {

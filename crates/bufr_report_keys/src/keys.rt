@@ -1,4 +1,4 @@
-//! The key that a report's head and fields say.
+//! The key of a report, by its head and fields.
 ghost use Rattle.std.specs.Prelude.{◌≡◌, IfOk};
 ghost use Rattle.bufr_report_keys.specs.Keys.{key};
 ghost use Rattle.bufr_report_keys.specs.FirstValues.{key_of};
@@ -7,15 +7,14 @@ use crate::asked::{note_handed, note_listed};
 use crate::first_values::FirstValues;
 use crate::moments::moment_of;
 use crate::stations::station_of;
-use bufr_answers::OutOfMemory;
+use bufr_base::OutOfMemory;
 use bufr_data::{Field, Fields};
-use bufr_keys::Key;
+use bufr_entries::Key;
 use bufr_message::ReportHead;
 use std::alloc::Global;
 
-/// The key of a report with this head whose subset has these fields: originating centre, data
-/// category, international and local sub-category, station, moment and originating sub-centre.
-/// `None` where the fields do not say a station, or not a moment. It can only run out of memory.
+/// Makes the key of a report with this head and these fields. Returns none if the fields have no
+/// station or no moment.
 pub fn key_in(
     alloc: Global,
     head: &ReportHead,
@@ -28,8 +27,7 @@ pub fn key_in(
     Ok(key_of(head, &mut values))
 }
 
-/// What `key_in` answers of these fields, which are handed out one at a time: none is held longer
-/// than it takes to note what it says. It can only run out of memory, where a text is copied.
+/// Makes the key as `key_in` does, of fields that come one at a time.
 pub fn key_of_fields(
     alloc: Global,
     head: &ReportHead,
@@ -42,8 +40,6 @@ pub fn key_of_fields(
     Ok(key_of(head, &mut values))
 }
 
-/// The key of a report with this head where the first fields of its subset say this. Names are
-/// taken out.
 fn key_of(head: &ReportHead, values: &mut FirstValues) -> Option<Key>
     ensures { result ≡ key_of head.now values.old }
 {

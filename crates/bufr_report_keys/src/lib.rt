@@ -1,13 +1,14 @@
-//! The key of a report: which fields of its subset say its station and its time.
+//! The key of a report: its station and its time, by the fields of its subset.
 //!
-//! A number counts where it is not missing and has the scale 0 by the operators in force, a text
-//! where it is not missing and not blank; of the fields of one element only the first counts. The
-//! station is a WMO station, else a WIGOS identifier, else a ship or mobile land station. The time
-//! is a date of the civil calendar in the years 1 to 9999 with an hour, and a minute and second
-//! where they are said. A report that says both has a key.
+//! Only the first field of an element counts. A number counts if it is not missing and has scale 0
+//! by the operators in force, a text if it is neither missing nor blank. The station is a WMO
+//! station, else a WIGOS identifier, else a ship or mobile land station. The time is a date of the
+//! civil calendar in the years 1 to 9999 with an hour; minute and second are 0 if they are absent.
+//! A report with both has a key.
 #![tactic(auto)]
 
 mod asked;
+mod elements;
 mod first_number;
 mod first_values;
 mod keys;

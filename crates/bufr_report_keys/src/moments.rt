@@ -1,24 +1,22 @@
-//! The time that fields say.
+//! The time of a report.
 ghost use Rattle.std.specs.Prelude.{◌≡◌, ◌≤◌, pos};
 ghost use Rattle.jiff.specs.Words.{days_in_month};
 ghost use Rattle.bufr_report_keys.specs.Keys.{greatest_year, is_from_to, from_to, sixtieth};
 ghost use Rattle.bufr_report_keys.specs.FirstValues.{moment_of};
 
 use crate::first_values::FirstValues;
-use bufr_keys::Moment;
+use bufr_entries::Moment;
 use jiff::civil::Date;
 
-/// Whether a number lies from low to high.
 fn is_from_to(low: u16, high: u16, number: i128) -> bool
     ensures { result ≡ is_from_to low high number }
 {
     i128::from(low) <= number && number <= i128::from(high)
 }
 
-/// The last year of the civil calendar as it is used here.
-pub const GREATEST_YEAR: u16 = 9999;
+/// The last year of a moment.
+pub(crate) const GREATEST_YEAR: u16 = 9999;
 
-/// A year from 1 to the greatest.
 fn year_of(number: i128) -> Option<u16>
     ensures { result ≡ from_to 1 greatest_year number }
 {
@@ -29,7 +27,6 @@ fn year_of(number: i128) -> Option<u16>
     }
 }
 
-/// A number from low to high.
 fn from_to(low: u8, high: u8, number: i128) -> Option<u8>
     ensures { result ≡ from_to low high number }
 {
@@ -40,7 +37,7 @@ fn from_to(low: u8, high: u8, number: i128) -> Option<u8>
     }
 }
 
-/// A day that the civil calendar has in a month.
+/// Converts a day of this month in the civil calendar.
 fn day_of(year: u16, month: u8, number: i128) -> Option<u8>
     requires year { year ≤ greatest_year }
     requires month { (1 ≤ month) × (month ≤ 12) }
@@ -53,7 +50,7 @@ fn day_of(year: u16, month: u8, number: i128) -> Option<u8>
     }
 }
 
-/// A minute or second: 0 where none is said.
+/// Converts a minute or second; 0 if it is absent.
 fn sixtieth(number: Option<i128>) -> Option<u8>
     ensures { result ≡ sixtieth number }
 {
@@ -63,7 +60,6 @@ fn sixtieth(number: Option<i128>) -> Option<u8>
     }
 }
 
-/// The time that the first fields say.
 pub(crate) fn moment_of(values: &FirstValues) -> Option<Moment>
     ensures { result ≡ moment_of values.now }
 {

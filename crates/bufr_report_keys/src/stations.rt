@@ -1,12 +1,12 @@
-//! The station that fields say.
+//! The station of a report.
 ghost use Rattle.std.specs.Prelude.{◌≡◌};
 ghost use Rattle.bufr_report_keys.specs.FirstValues.{station_of};
 
 use crate::first_values::FirstValues;
-use bufr_keys::Station;
+use bufr_entries::Station;
 
-/// The station that the first fields say: the first that there is of WMO block and station number,
-/// WIGOS identifier, and ship or mobile land station identifier. Names are taken out.
+/// Makes the station of the first values, and takes its name out: a WMO station, else a WIGOS
+/// identifier, else a mobile name.
 pub(crate) fn station_of(values: &mut FirstValues) -> Option<Station>
     ensures { result ≡ station_of values.old }
 {

@@ -1,13 +1,13 @@
-//! Which numbers and texts of fields count for a key.
+//! The numbers and texts that keys use.
 ghost use Rattle.std.specs.Prelude.{◌≡◌};
 ghost use Rattle.bufr_fields.specs.Values.{as_field};
 ghost use Rattle.bufr_report_keys.specs.Usable.{usable_number, is_blank, without_last_blanks, some_octets, usable_text};
 
-use bufr_answers::Items;
+use bufr_base::Items;
 use bufr_data::{Field, NumberField, Raw};
 use bufr_tables::Kind;
 
-/// The number of a field that is not missing, is no text and has scale 0.
+/// Returns the number of a field, if it is not missing and has scale 0.
 #[inline(always)]
 pub(crate) fn usable_number(field: NumberField) -> Option<i128>
     ensures { result ≡ usable_number (as_field field) }
@@ -22,7 +22,7 @@ pub(crate) fn usable_number(field: NumberField) -> Option<i128>
     }
 }
 
-/// The same of any field.
+/// Returns the number of a field, if it is no text, not missing and has scale 0.
 #[inline(always)]
 pub(crate) fn number_of(field: &Field) -> Option<i128>
     ensures { result ≡ usable_number field.now }
@@ -37,14 +37,13 @@ pub(crate) fn number_of(field: &Field) -> Option<i128>
     }
 }
 
-/// Whether an octet is a space or NUL.
 fn is_blank(octet: u8) -> bool
     ensures { result ≡ is_blank octet }
 {
     octet == b' ' || octet == 0
 }
 
-/// The octets without the spaces and NULs that they end with.
+/// Cuts the spaces and NULs at the end.
 fn without_last_blanks(text: &[u8]) -> &[u8]
     ensures { result.now ≡ without_last_blanks text.now }
 {
@@ -58,7 +57,6 @@ fn without_last_blanks(text: &[u8]) -> &[u8]
     rest
 }
 
-/// The octets without those blanks, where some are left.
 fn octets_left(octets: Items<u8>) -> Option<Items<u8>>
     ensures { result ≡ some_octets (without_last_blanks octets) }
 {
@@ -72,8 +70,7 @@ fn octets_left(octets: Items<u8>) -> Option<Items<u8>>
     }
 }
 
-/// The text of a field whose kind is Text, that is not missing, and of which something is left
-/// without the blanks at its end.
+/// Returns the text of a field of kind Text, if it is neither missing nor blank.
 pub(crate) fn usable_text(field: Field) -> Option<Items<u8>>
     ensures { result ≡ usable_text field }
 {

@@ -1,13 +1,19 @@
 //! Worked examples of the definitions.
-ghost use Rattle.std.specs.Prelude.{◌≡◌, ◌++◌, ◌∷◌, [], Some, None, true, false, pos, negsuc, map, replicate, codes};
+ghost use Rattle.std.specs.Prelude.{◌≡◌, ◌++◌, ◌∷◌, [], Some, None, true, false, pos, negsuc, filter, map, replicate, codes};
+ghost use Rattle.std.specs.List.{range_with_len};
 ghost use Rattle.bufr_report_keys.specs.Usable.{is_blank, without_last_blanks};
 ghost use Rattle.bufr_report_keys.specs.Keys.{station, moment, key};
+ghost use Rattle.bufr_tables.specs.Descriptors.{descriptor};
 ghost use Rattle.bufr_tables.specs.declared.element.Kind.TheVariants as kinds;
 ghost use Rattle.bufr_report_keys.specs.Samples.{number_field, scaled_field, text_field, missing_field, date_fields, block_and_station, wigos_fields, wigos_station, minute_and_second, noon, time, head_98, key_at_noon, beside, wmo_10384, named, field_of, of_block, of_number, wigos_with, is_date, last_days, days_behind, is_time};
 
-use bufr_keys::Station;
+use crate::elements::{
+    BLOCK_NUMBER, DAY, HOUR, MINUTE, MOBILE_IDENTIFIER, MONTH, SECOND, STATION_NUMBER,
+    WIGOS_ISSUE_NUMBER, WIGOS_ISSUER, WIGOS_LOCAL_IDENTIFIER, WIGOS_SERIES, YEAR,
+};
+use bufr_entries::Station;
 
-/// Stations: block and station number, WIGOS identifier, ship or mobile land station identifier.
+/// Stations: WMO, WIGOS and mobile.
 pub fn stations()
     ensures wmo { station block_and_station ≡ Some (Station.Wmo (pos 10) (pos 384)) }
     ensures wigos { station wigos_fields ≡ Some wigos_station }
@@ -23,8 +29,8 @@ pub fn stations()
     ensures scaled { station (scaled_field 1 1 10 ∷ number_field 1 2 384 ∷ []) ≡ None }
 {}
 
-/// Stations beside each other, each usable or not: WMO before WIGOS before mobile, whatever order
-/// the fields have.
+/// Stations side by side, each usable or not: WMO before WIGOS before mobile, in any order of
+/// fields.
 pub fn kinds_of_stations()
     ensures all { station (beside true true true) ∷ station (beside true true false)
         ∷ station (beside true false true) ∷ station (beside true false false)
@@ -38,7 +44,7 @@ pub fn kinds_of_stations()
         ++ text_field 1 11 (codes "SHIP     ") ∷ []) ≡ Some wigos_station }
 {}
 
-/// Parts of stations: which fields count.
+/// Parts of stations: the fields that count.
 pub fn parts_of_stations()
     ensures blocks { map of_block (number_field 1 1 10 ∷ field_of kinds.Code (pos 0) 1 1 10
         ∷ field_of kinds.Flag (pos 0) 1 1 10 ∷ field_of kinds.Quantity (pos 4) 1 1 6
@@ -69,7 +75,7 @@ pub fn parts_of_stations()
         ∷ text_field 1 12 (codes "SHIP") ∷ []) ≡ None }
 {}
 
-/// Which last octets of a text are blank: spaces and NULs, and no others.
+/// Blanks at the end of a text: spaces and NULs only.
 pub fn blanks()
     ensures blank { map without_last_blanks ((65 ∷ 32 ∷ []) ∷ (65 ∷ 0 ∷ []) ∷ (65 ∷ 0 ∷ 32 ∷ [])
         ∷ (32 ∷ 0 ∷ []) ∷ []) ≡ (65 ∷ []) ∷ (65 ∷ []) ∷ (65 ∷ []) ∷ [] ∷ [] }
@@ -77,6 +83,7 @@ pub fn blanks()
     ensures others { map is_blank (0 ∷ 1 ∷ 9 ∷ 10 ∷ 13 ∷ 31 ∷ 32 ∷ 33 ∷ 48 ∷ 127 ∷ 160 ∷ 255 ∷ [])
         ≡ true ∷ false ∷ false ∷ false ∷ false ∷ false ∷ true ∷ false ∷ false ∷ false ∷ false
         ∷ false ∷ [] }
+    ensures of_all_octets { filter is_blank (range_with_len 0 256) ≡ 0 ∷ 32 ∷ [] }
     ensures first_and_inner { without_last_blanks (32 ∷ 65 ∷ 32 ∷ 66 ∷ 32 ∷ [])
         ≡ 32 ∷ 65 ∷ 32 ∷ 66 ∷ [] }
 {}
@@ -104,7 +111,7 @@ pub fn bounds()
         ++ field_of kinds.Quantity (negsuc 0) 4 5 0 ∷ []) ≡ None }
 {}
 
-/// Moments: a date that there is, an hour, and a minute and second or none.
+/// Moments: a real date, an hour, and a minute and second or none.
 pub fn moments()
     ensures noon { moment (date_fields 2024 1 15 12) ≡ Some noon }
     ensures leap_day { moment (date_fields 2024 2 29 0) ≡ Some (time 2024 2 29 0 0 0) }
@@ -123,9 +130,18 @@ pub fn moments()
         ≡ Some (time 2024 1 15 12 0 5) }
 {}
 
-/// Keys: a station and a moment, with the head's part each in its place.
+/// Keys: a station and a moment, and the parts of the head.
 pub fn keys()
     ensures both { key head_98 (block_and_station ++ date_fields 2024 1 15 12) ≡ Some key_at_noon }
     ensures no_station { key head_98 (date_fields 2024 1 15 12) ≡ None }
     ensures no_moment { key head_98 (block_and_station ++ date_fields 2024 13 15 12) ≡ None }
+{}
+
+/// The elements that say a station or a time, by X and Y.
+pub fn elements()
+    ensures stations { BLOCK_NUMBER ∷ STATION_NUMBER ∷ MOBILE_IDENTIFIER ∷ WIGOS_SERIES
+        ∷ WIGOS_ISSUER ∷ WIGOS_ISSUE_NUMBER ∷ WIGOS_LOCAL_IDENTIFIER ∷ []
+        ≡ map (descriptor 0 1) (1 ∷ 2 ∷ 11 ∷ 125 ∷ 126 ∷ 127 ∷ 128 ∷ []) }
+    ensures times { YEAR ∷ MONTH ∷ DAY ∷ HOUR ∷ MINUTE ∷ SECOND ∷ []
+        ≡ map (descriptor 0 4) (1 ∷ 2 ∷ 3 ∷ 4 ∷ 5 ∷ 6 ∷ []) }
 {}

@@ -1,10 +1,10 @@
--- Octets that were read and have nothing in what is free: for `are_bare`.
+-- When octets are what `spell` writes for their sections: for `are_bare`.
 use Rattle.std.proofs.Common.{◌≡◌, ℕ, ◌+◌, ◌-◌, ◌*◌, ◌%◌, ◌<◌, Bool, true, false, get_or, List, []}
 use Rattle.std.proofs.Common.{◌++◌, ◌∷◌, length, None, Ok, Err, refl, sym, ap, subst, ◌∙◌, arith}
 use Rattle.std.proofs.Common.{length-append, append_assoc}
 use Rattle.std.specs.Prelude.{◌||◌, nat_lt, codes, if◌then◌else◌}
-use Rattle.bufr_answers.specs.AnswerLaws.{ok_is}
-use Rattle.bufr_fields.specs.declared.fault.WriteFault.TheVariants.{TooLarge}
+use Rattle.bufr_base.specs.AnswerLaws.{ok_is}
+use Rattle.bufr_fields.specs.declared.fault.MisfitFault.TheVariants.{TooLarge}
 use Rattle.std.specs.List.{flat_map}
 use Rattle.std.specs.Int.{bytes_high_first}
 use Rattle.std.proofs.lemmas.Bool.{le-ltb}
@@ -19,9 +19,8 @@ use Rattle.bufr_sections.specs.Spelt.{bare, spelt_or, longest, most_subsets}
 use Rattle.bufr_sections.proofs.LengthFacts.{length_of_descriptors}
 use Rattle.bufr_sections.proofs.SpellingFacts.{envelope_of_takes}
 
--- ---- the places of what is free, with no octets for local use and no section 2
+-- ---- the places of what readers ignore, without octets for local use and section 2
 
--- in sections 1 and 3 they are fixed
 fixed_at : (e : Envelope) (i : Ignored) → e.head.local ≡ [] → e.section2 ≡ None
     → (get_or (spelling Edition4 e i) 17 0 ≡ i.bits1)
     × (get_or (spelling Edition4 e i) 33 0 ≡ i.octet3)
@@ -30,19 +29,17 @@ fixed_at : (e : Envelope) (i : Ignored) → e.head.local ≡ [] → e.section2 �
 unfolding spelling sections
 fixed_at e i local two = rw (local, two) (omega arith, refl, refl)
 
--- what stands before section 4
+-- the octets before section 4
 abbrev before4 : Layout → Envelope → Ignored → List ℕ
 before4 layout e i = codes "BUFR" ++ bytes_high_first 3 (12 + length (sections layout e i))
     ++ edition_number layout ∷ (section1 layout e.head (is_present e.section2) i
     ++ section2 e.section2 i.octet2 ++ section3 e i)
 
--- sections between section 0 and the end, parted behind the third
 regrouped : (front one two three four last : List ℕ)
     → front ++ (one ++ two ++ three ++ four) ++ last
     ≡ (front ++ (one ++ two ++ three)) ++ (four ++ last)
 regrouped front one two three four last = simp append_assoc
 
--- section 4 and the end stand behind it
 parted : (layout : Layout) (e : Envelope) (i : Ignored) → spelling layout e i
     ≡ before4 layout e i ++ (section4 e.contents i.octet4 ++ codes "7777")
 unfolding spelling sections
@@ -53,7 +50,6 @@ parted layout e i =
     (section1 layout e.head (is_present e.section2) i) (section2 e.section2 i.octet2)
     (section3 e i) (section4 e.contents i.octet4) (codes "7777")
 
--- it has the octets at fixed places, two for each descriptor and the odd octet
 length_before4 : (layout : Layout) (e : Envelope) (i : Ignored) → e.head.local ≡ []
     → e.section2 ≡ None
     → length (before4 layout e i) ≡ 15 + shortest1 layout + 2 * length e.descriptors + length i.odd
@@ -66,7 +62,6 @@ length_before4 Edition3 e i local two =
     let three = length-append (flat_map (bytes_high_first 2) e.descriptors) i.odd in
     rw (local, two) (omega arith)
 
--- the whole has eight octets more, and those behind the fourth of section 4
 length_is : (layout : Layout) (e : Envelope) (i : Ignored) → e.head.local ≡ []
     → e.section2 ≡ None → length (spelling layout e i)
     ≡ 23 + shortest1 layout + 2 * length e.descriptors + length i.odd + length e.contents
@@ -77,7 +72,6 @@ length_is layout e i local two =
     let end = length-append (section4 e.contents i.octet4) (codes "7777") in
     omega arith
 
--- with no odd octet, the fourth octet of section 4 has its place behind the descriptors
 fourth_at : (e : Envelope) (i : Ignored) → e.head.local ≡ [] → e.section2 ≡ None → i.odd ≡ []
     → get_or (spelling Edition4 e i) (37 + 2 * length e.descriptors + 3) 0 ≡ i.octet4
 fourth_at e i local two none =
@@ -90,16 +84,14 @@ fourth_at e i local two none =
     (p + 3) 0 front (omega arith)
     ∙ ap (λ k. get_or (section4 e.contents i.octet4 ++ codes "7777") k 0) three
 
--- ---- nothing in what is free
+-- ---- zeros in all that readers ignore
 
--- with all that is free zero, and no odd octet, the octets are those that are written
 nothing_free : (e : Envelope) (i : Ignored) → e.section2 ≡ None → i.bits1 ≡ 0 → i.octet3 ≡ 0
     → i.bits3 ≡ 0 → i.odd ≡ [] → i.octet4 ≡ 0 → spelling Edition4 e i ≡ bare e
 unfolding spelling sections
 nothing_free e i two bits1 octet3 bits3 odd octet4 =
     rw (two, bits1, octet3, bits3, odd, octet4) refl
 
--- the flags of section 3 leave its low bits as they are
 low_bits : (observed compressed : Bool) (bits3 : ℕ) → bits3 < 64
     → (flag observed 128 + flag compressed 64 + bits3) % 64 ≡ 0 → bits3 ≡ 0
 low_bits true true bits3 small none = omega arith
@@ -107,8 +99,7 @@ low_bits true false bits3 small none = omega arith
 low_bits false true bits3 small none = omega arith
 low_bits false false bits3 small none = omega arith
 
--- so it is where the length, and the octets at the places of what is free, say so: edition 3 is
--- shorter, also with an odd octet
+-- the length shows edition 4 and no odd octet: edition 3 is shorter, even with one
 written : (layout : Layout) (e : Envelope) (i : Ignored) → EnvelopeFits layout e i
     → e.head.local ≡ [] → e.section2 ≡ None
     → length (spelling layout e i) ≡ 45 + 2 * length e.descriptors + length e.contents
@@ -126,7 +117,7 @@ written Edition4 e i fits local two long one three flags four =
     (low_bits e.observed e.compressed i.bits3 fits.ignored.3 (rw fixed.2 at flags)) odd
     (sym (fourth_at e i local two odd) ∙ four)
 
--- octets of which sections were read are what is written for these
+-- octets that pass the tests are what `spell` writes
 pub read_bare : (octets : List ℕ) (e : Envelope) → AreOctets octets → envelope_of octets ≡ Ok e
     → e.head.local ≡ [] → e.section2 ≡ None
     → length octets ≡ 45 + 2 * length e.descriptors + length e.contents
@@ -143,9 +134,8 @@ read_bare octets e all read local two long one three flags four =
     le-ltb _ _ (omega (arith, h.3.total, ap length same)) in
     rw (few, short, sym (h.2 ∙ same)) refl
 
--- ---- and the other way round
+-- ---- the converse
 
--- what is written where there is something
 bare_is : (e : Envelope) (octets : List ℕ) → spelt_or e ≡ Ok octets → bare e ≡ octets
 unfolding spelt_or
 bare_is e octets spelt = by_test (nat_lt most_subsets e.count || nat_lt longest (length (bare e))) spelt
@@ -155,8 +145,7 @@ bare_is e octets spelt = by_test (nat_lt most_subsets e.count || nat_lt longest 
     by_test true is = absurd cc
     by_test false is = ok_is _ _ is
 
--- octets that are what is written for sections have this length, and zero at the places of what is
--- free
+-- what `spell` writes has this length, and zeros in all that readers ignore
 pub record IsZero (octets : List ℕ) (e : Envelope) : Type 0 where
   pub long : length octets ≡ 45 + 2 * length e.descriptors + length e.contents
   pub one : get_or octets 17 0 ≡ 0
@@ -164,7 +153,6 @@ pub record IsZero (octets : List ℕ) (e : Envelope) : Type 0 where
   pub flags : get_or octets 36 0 % 64 ≡ 0
   pub four : get_or octets (37 + 2 * length e.descriptors + 3) 0 ≡ 0
 
--- the flags alone have no low bits
 no_low_bits : (observed compressed : Bool)
     → (flag observed 128 + flag compressed 64 + 0) % 64 ≡ 0
 no_low_bits true true = refl
@@ -172,7 +160,6 @@ no_low_bits true false = refl
 no_low_bits false true = refl
 no_low_bits false false = refl
 
--- so have octets that are written
 pub bare_is_zero : (octets : List ℕ) (e : Envelope) → e.section2 ≡ None → e.head.local ≡ []
     → spelt_or e ≡ Ok octets → IsZero octets e
 bare_is_zero octets e two local spelt =

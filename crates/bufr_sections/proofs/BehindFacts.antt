@@ -1,4 +1,4 @@
--- Octets that are put behind others, piece by piece: for `spell_behind` and what it calls.
+-- Octets put after others, piece by piece: for `spell_behind` and its parts.
 use Rattle.std.proofs.Common.{◌≡◌, ℕ, ◌≤◌, true, false, Option, Some, None, List, [], ◌∷◌, ◌++◌, ◌+◌, codes}
 use Rattle.std.proofs.Common.{length, take, drop, Result, Ok, Err, refl, sym, ap, ◌∙◌, arith, length-append}
 use Rattle.std.specs.Prelude.{◌==◌, OnOk, OnErr, is_ok, is_some, if◌then◌else◌}
@@ -13,12 +13,11 @@ use Rattle.bufr_sections.specs.Sections.{sections, spelling, is_present, nothing
 use Rattle.bufr_sections.specs.Spelt.{bare, bare_section3}
 use Rattle.bufr_sections.proofs.LengthFacts.{length_of_enclosed}
 
--- what holds in any case holds after an error
 pub on_err : {T E P : Type 0} (r : Result T E) → P → OnErr r P
 on_err (Ok x) p = tt
 on_err (Err e) p = p
 
--- with some piece put behind them and what stood then still in front, they are
+-- what a failed call left after a first piece still begins with the old octets
 pub still_in_front : (old piece put new : List ℕ) → put ≡ old ++ piece
     → take (length put) new ≡ put → take (length old) new ≡ old
 still_in_front old piece put new is kept =
@@ -26,13 +25,12 @@ still_in_front old piece put new is kept =
     sym (take-take (length old) (length put) new short) ∙ ap (take (length old)) (kept ∙ is)
     ∙ take-append_seam old piece
 
--- what was put where memory was not refused
 pub when_ok : {T E : Type 0} (r : Result T E) (put old new : List ℕ)
     → new ≡ (if is_ok r then put else old) → OnOk r (new ≡ put)
 when_ok (Ok x) put old new is = is
 when_ok (Err e) put old new is = tt
 
--- with no octets for local use and no section 2, the two parts of what stands at fixed places meet
+-- without octets for local use and section 2, the two parts of the fixed octets meet
 pub nothing_between : (old fixed local : List ℕ) (two : Option (List ℕ)) → is_some two ≡ false
     → (length local == 0) ≡ true
     → old ++ fixed ≡ old ++ take 30 fixed ++ local ++ section2 two 0 ++ drop 30 fixed
@@ -44,25 +42,21 @@ nothing_between old fixed (x ∷ xs) None none empty = absurd (omega (arith, eqb
 
 -- ---- the pieces of a message
 
--- section 3 has no odd octet
 bare3 : (e : Envelope)
     → section3 e nothing_ignored ≡ bare_section3 e.count e.observed e.compressed e.descriptors
 bare3 e = rw (append-nil (flat_map (bytes_high_first 2) e.descriptors)) refl
 
--- pieces that are put in turn
 in_turn : (old start local two end listed four last : List ℕ)
     → old ++ start ++ local ++ two ++ end ++ listed ++ four ++ last
     ≡ old ++ ((start ++ local) ++ (two ++ ((end ++ listed) ++ (four ++ last))))
 in_turn old start local two end listed four last = simp append_assoc
 
--- the sections between section 0 and the end
 between : (old front one two three four last : List ℕ)
     → old ++ ((front ++ one) ++ (two ++ (three ++ (four ++ last))))
     ≡ old ++ (front ++ (one ++ two ++ three ++ four) ++ last)
 between old front one two three four last = simp append_assoc
 
--- what stands at fixed places, the octets for local use and section 2 between, the descriptors,
--- section 4 and the end are the message
+-- the pieces in turn are the message
 pub message_put : (e : Envelope) (old fixed front listed all new : List ℕ) (total : ℕ)
     → take 30 fixed ++ e.head.local ≡ codes "BUFR" ++ bytes_high_first 3 total
     ++ 4 ∷ section1 Edition4 e.head (is_present e.section2) nothing_ignored

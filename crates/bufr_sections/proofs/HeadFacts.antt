@@ -1,4 +1,4 @@
--- What section 1 says, by the places of its octets behind its length: for the law on refusals.
+-- Section 1 by the places of its octets: if there are enough, only the master table decides.
 use Rattle.std.proofs.Common.{◌≡◌, ℕ, ◌≤◌, cond, get_or, List, ◌∷◌, length, drop, Ok, Err}
 use Rattle.std.proofs.Common.{refl, arith}
 use Rattle.std.specs.Prelude.{◌==◌, nat_le}
@@ -6,7 +6,6 @@ use Rattle.bufr_sections.specs.declared.fault.Refused.TheVariants.{MasterTable}
 use Rattle.bufr_sections.specs.Sections.{head4_of, head3_of}
 use Rattle.bufr_sections.specs.SectionsRead.{head4_with, head3_with}
 
--- where there are enough octets, the master table decides
 pub head_is : (xs : List ℕ) → 19 ≤ length xs
     → head4_of xs ≡ cond (get_or xs 0 0 == 0) (Ok
     (head4_with xs (drop 19 xs), nat_le 128 (get_or xs 6 0))) (Err (MasterTable (get_or xs 0 0)))
@@ -17,7 +16,6 @@ head_is
     ∷ local) long = refl
 head_is _ long = absurd (omega arith)
 
--- the same of edition 3
 pub head3_is : (xs : List ℕ) → 14 ≤ length xs
     → head3_of xs ≡ cond (get_or xs 0 0 == 0) (Ok
     (head3_with xs (drop 14 xs), nat_le 128 (get_or xs 4 0))) (Err (MasterTable (get_or xs 0 0)))

@@ -1,4 +1,4 @@
--- How long the octets of a message are: for `spell`, and for the law on the shortest spelling.
+-- How long a message is: for `spell`, and for the law on the shortest spelling.
 use Rattle.std.proofs.Common.{◌≡◌, ℕ, ◌+◌, ◌*◌, ◌≤◌, Option, Some, None, List, [], ◌∷◌, ◌++◌}
 use Rattle.std.proofs.Common.{length, codes, refl, arith}
 use Rattle.std.specs.List.{flat_map}
@@ -12,18 +12,15 @@ use Rattle.bufr_sections.specs.Sections.{is_present}
 use Rattle.bufr_sections.specs.Sections.{nothing_ignored, section1, section2, section3}
 use Rattle.bufr_sections.specs.Sections.{section4}
 
--- two octets a descriptor
 pub length_of_descriptors : (ds : List ℕ)
     → length (flat_map (bytes_high_first 2) ds) ≡ 2 * length ds
 length_of_descriptors [] = refl
 length_of_descriptors (d ∷ ds) = let more = length_of_descriptors ds in omega arith
 
--- section 0 and `7777`
 pub length_of_enclosed : (layout : Layout) (middle : List ℕ)
     → length (enclosed layout middle) ≡ 12 + length middle
 length_of_enclosed layout middle = let both = length-append middle (codes "7777") in omega arith
 
--- section 3 without what is free
 length_of_section3 : (e : Envelope)
     → length (section3 e nothing_ignored) ≡ 7 + 2 * length e.descriptors
 length_of_section3 e =
@@ -31,12 +28,10 @@ length_of_section3 e =
     let both = length-append (flat_map (bytes_high_first 2) e.descriptors) [] in
     omega arith
 
--- four lists joined
 pub four_parts : (a b c d : List ℕ)
     → length (a ++ b ++ c ++ d) ≡ length a + length b + length c + length d
 four_parts a b c d = simp length-append
 
--- sections 1 to 4 without what is free
 pub length_of_sections : (e : Envelope)
     → length (sections Edition4 e nothing_ignored) ≡ 33 + length e.head.local
     + length (section2 e.section2 0) + 2 * length e.descriptors + length e.contents
@@ -48,7 +43,6 @@ length_of_sections e =
     let third = length_of_section3 e in
     omega arith
 
--- a message without what is free
 pub length_of_spelling : (e : Envelope)
     → length (spelling Edition4 e nothing_ignored) ≡ 45 + length e.head.local
     + length (section2 e.section2 0) + 2 * length e.descriptors + length e.contents
@@ -58,13 +52,12 @@ length_of_spelling e =
     length_of_sections e in let whole =
     length_of_enclosed Edition4 (sections Edition4 e nothing_ignored) in omega arith
 
--- what is ignored in section 2 adds nothing
 length_of_section2 : (local : Option (List ℕ)) (i : ℕ)
     → length (section2 local i) ≡ length (section2 local 0)
 length_of_section2 None i = refl
 length_of_section2 (Some local) i = refl
 
--- no spelling is shorter than the one without what is ignored
+-- what readers ignore only adds octets
 spelling_is_long : (e : Envelope) (i : Ignored)
     → 45 + length e.head.local + length (section2 e.section2 0) + 2 * length e.descriptors
     + length e.contents ≤ length (spelling Edition4 e i)
@@ -82,7 +75,6 @@ spelling_is_long e i =
     ++ section3 e i ++ section4 e.contents i.octet4) in
     omega arith
 
--- with no more octets in any part and nothing in what is free, a message is no longer
 pub bare_is_shortest : (e small : Envelope) (i : Ignored)
     → length small.head.local ≤ length e.head.local
     → length (section2 small.section2 0) ≤ length (section2 e.section2 0)

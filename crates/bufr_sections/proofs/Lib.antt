@@ -1,4 +1,4 @@
--- The lemmas behind the contracts and laws of this crate: sections read, spelt and refused.
+-- Lemmas on sections: reading, spelling and refusals.
 pub mod OnLiterals
 pub mod ListFacts
 pub mod SectionFacts

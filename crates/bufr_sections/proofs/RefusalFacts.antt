@@ -1,5 +1,5 @@
--- The sections of octets are refused for the first cause that the octets give: for the laws on
--- refusals of sections.
+-- Reading refuses for the first cause that the octets give: each step of reading is one test, so
+-- its fault is the first cause of the list.
 use Rattle.std.proofs.Common.{◌≡◌, ℕ, ◌+◌, ◌-◌, ◌/◌, ◌%◌, ◌<◌, ◌≤◌, Bool, true, false, not, cond}
 use Rattle.std.proofs.Common.{get_or, List, [], ◌∷◌, ◌++◌, length, take, drop, Option, Some, None}
 use Rattle.std.proofs.Common.{Result, Ok, Err, refl, sym, ap, ◌∙◌, arith, inl, inr, length-drop}
@@ -10,7 +10,7 @@ use Rattle.std.proofs.lemmas.Bool.{cases_lt, ltb-true, ltb-false, lt-ltb, le-ltb
 use Rattle.std.proofs.lemmas.Bool.{eqb-false, eq-eqb, ne_eqb}
 use Rattle.std.proofs.lemmas.List.{drop_more, drop-drop, drop-take}
 use Rattle.std.proofs.lemmas.List.Elements.{All-nil, All-cons, All-head, All-tail}
-use Rattle.bufr_answers.specs.Answers.{◌>>=◌}
+use Rattle.bufr_base.specs.Answers.{◌>>=◌}
 use Rattle.bufr_sections.specs.declared.fault.Refused.{Refused}
 use Rattle.bufr_sections.specs.declared.message.Head.{Head}
 use Rattle.bufr_sections.specs.declared.layout.Layout.{Layout}
@@ -25,25 +25,24 @@ use Rattle.bufr_sections.specs.Sections.{Description, descriptors_of, descriptio
 use Rattle.bufr_sections.specs.Sections.{sections_of, envelope_of}
 use Rattle.bufr_sections.specs.SectionsRead.{head4_with, head3_with}
 use Rattle.bufr_sections.proofs.HeadFacts.{head_is, head3_is}
-use Rattle.bufr_answers.specs.AnswerLaws.{or_first, not_false}
+use Rattle.bufr_base.specs.AnswerLaws.{or_first, not_false}
 use Rattle.bufr_sections.specs.Causes.{octet_at, length_at, room_end, announces_section2, place2}
 use Rattle.bufr_sections.specs.Causes.{place3, place4, no_section, Cause, causes_in, causes}
 use Rattle.bufr_sections.specs.Causes.{IsFirstRefusal, is_of_sections}
 
 -- ---- the first of causes
 
--- the first cause that is given, if any
+-- the first cause that octets give, if any
 abbrev first : List Cause → Option Refused
 first [] = None
 first (c ∷ cs) = cond c.1 (Some c.0) (first cs)
 
--- causes before the one that is given are not
+-- the causes before this one don't hold
 abbrev Split : List Cause → Refused → Type 0
 Split cs fault =
     (before : List Cause) × (after : List Cause) × (cs ≡ before ++ (fault, true) ∷ after)
     × All (λ c. c.1 ≡ false) before
 
--- one cause more in front
 split_more : (g : Refused) (b : Bool) (cs : List Cause) (f : Refused)
     → cond b (Some g) (first cs) ≡ Some f → (first cs ≡ Some f → Split cs f) → Split ((g, b) ∷ cs) f
 split_more g true cs f e more =
@@ -57,12 +56,10 @@ split_more g false cs f e more =
       All-cons (λ c. c.1 ≡ false) (g, false) s.0 refl s.3,
     )
 
--- the first cause has none given before it
 first_takes : (cs : List Cause) (f : Refused) → first cs ≡ Some f → Split cs f
 first_takes [] f e = absurd cc
 first_takes (c ∷ cs) f e = split_more c.0 c.1 cs f e (first_takes cs f)
 
--- a cause with none given before it is the first
 first_gives : (before after : List Cause) (f : Refused) → All (λ c. c.1 ≡ false) before
     → first (before ++ (f, true) ∷ after) ≡ Some f
 first_gives [] after f all = refl
@@ -70,14 +67,14 @@ first_gives (c ∷ before) after f all =
     rw (All-head (λ c. c.1 ≡ false) c before all)
     (first_gives before after f (All-tail (λ c. c.1 ≡ false) c before all))
 
--- ---- the fault of an answer
+-- ---- the fault of a result
 
 -- the fault, if any
 abbrev fault_of : {A : Type 0} → Result A Refused → Option Refused
 fault_of (Ok x) = None
 fault_of (Err fault) = Some fault
 
--- a test that is made before what follows
+-- a test, and the steps after it
 tested_bind : {A B : Type 0} (b c : Bool) (fault : Refused) (x : Result A Refused)
     (f : A → Result B Refused) (cs : List Cause) → b ≡ c
     → (b ≡ false → fault_of (x >>= f) ≡ first cs)
@@ -85,19 +82,19 @@ tested_bind : {A B : Type 0} (b c : Bool) (fault : Refused) (x : Result A Refuse
 tested_bind true c fault x f cs same more = rw (← same) refl
 tested_bind false c fault x f cs same more = rw (← same) (more refl)
 
--- a step that answers, and what follows
+-- a step that succeeds, and the steps after it
 found_then : {A B : Type 0} (x : Result A Refused) (f : A → Result B Refused) (v : A)
     (cs : List Cause) → x ≡ Ok v → fault_of (f v) ≡ first cs → fault_of (x >>= f) ≡ first cs
 found_then x f v cs is more = rw is more
 
--- a step that a test may refuse, and what follows
+-- a step that a test may refuse, and the steps after it
 tested_then : {A B : Type 0} (x : Result A Refused) (f : A → Result B Refused) (b : Bool)
     (fault : Refused) (v : A) (cs : List Cause) → x ≡ cond b (Err fault) (Ok v)
     → (b ≡ false → fault_of (f v) ≡ first cs) → fault_of (x >>= f) ≡ cond b (Some fault) (first cs)
 tested_then x f true fault v cs is more = rw is refl
 tested_then x f false fault v cs is more = rw is (more refl)
 
--- the same where the test has to be passed
+-- a step that a test has to allow, and the steps after it
 passed_then : {A B : Type 0} (x : Result A Refused) (f : A → Result B Refused) (b : Bool)
     (fault : Refused) (v : A) (cs : List Cause) → x ≡ cond b (Ok v) (Err fault)
     → (b ≡ true → fault_of (f v) ≡ first cs)
@@ -105,26 +102,22 @@ passed_then : {A B : Type 0} (x : Result A Refused) (f : A → Result B Refused)
 passed_then x f true fault v cs is more = rw is (more refl)
 passed_then x f false fault v cs is more = rw is refl
 
--- two comparisons that agree
 same_lt : (a b c d : ℕ) → (a < b → c < d) → (b ≤ a → d ≤ c) → nat_lt a b ≡ nat_lt c d
 same_lt a b c d below above = elim (cases_lt a b) [
   | inl lt ↦ lt-ltb a b lt ∙ sym (lt-ltb c d (below lt))
   | inr le ↦ le-ltb a b le ∙ sym (le-ltb c d (above le))
 ]
 
--- three tests that all failed
 none_of : (a b c : Bool) → (a || b || c) ≡ false → (a ≡ false) × (b ≡ false) × (c ≡ false)
 none_of true b c e = absurd cc
 none_of false true c e = absurd cc
 none_of false false true e = absurd cc
 none_of false false false e = (refl, refl, refl)
 
--- two pairs of tests that agree
 same_or : (a a2 b b2 : Bool) → a ≡ a2 → (a ≡ false → b ≡ b2) → (a || b) ≡ (a2 || b2)
 same_or true a2 b b2 e more = rw (← e) refl
 same_or false a2 b b2 e more = rw (← e) (more refl)
 
--- two equations that agree
 same_eq : (a b c d : ℕ) → (a ≡ b → c ≡ d) → (c ≡ d → a ≡ b) → (a == b) ≡ (c == d)
 same_eq a b c d there back = by_test (a == b) refl
   where
@@ -134,14 +127,12 @@ same_eq a b c d there back = by_test (a == b) refl
 
 -- ---- a section at a place
 
--- no length stands in fewer than three octets
 short_room : (shortest : ℕ) (fault : Refused) (room : List ℕ) → length room < 3
     → section_at shortest fault room ≡ Err fault
 unfolding section_at
 short_room shortest fault (a ∷ b ∷ c ∷ rest) h = absurd (omega arith)
 short_room shortest fault _ h = refl
 
--- a section whose length stands in the room
 long_room : (shortest : ℕ) (fault : Refused) (a b c : ℕ) (more rest : List ℕ) (past : Bool)
     → nat_lt (3 + length more) (three a b c) ≡ past
     → (shortest ≤ three a b c → drop (three a b c - 3) more ≡ rest)
@@ -159,19 +150,17 @@ long_room shortest fault a b c more rest past is left =
     by_length true e = refl
     by_length false e = rw (left (ltb-false _ _ e)) refl
 
--- the room from a place on
+-- the octets before `7777` from a place on
 abbrev from : List ℕ → ℕ → List ℕ
 from octets p = drop p (take (room_end octets) octets)
 
--- what stands behind the length of the section at a place
+-- the octets after the length of the section at a place
 abbrev behind : List ℕ → ℕ → List ℕ
 behind octets p = take (length_at octets p - 3) (from octets (p + 3))
 
--- the room is the octets but for the last four
 room_length : (octets : List ℕ) → length (take (room_end octets) octets) ≡ room_end octets
 room_length octets = omega (arith, length-take (room_end octets) octets)
 
--- a length at a place of the room
 room_three : (octets : List ℕ) (p : ℕ) → p + 3 ≤ room_end octets
     → from octets p
     ≡ octet_at octets p ∷ octet_at octets (p + 1) ∷ octet_at octets (p + 2) ∷ from octets (p + 3)
@@ -221,9 +210,8 @@ section_is octets shortest p fault least = by_room (nat_lt (room_end octets) (p 
         (λ enough. drop-drop (length_at octets p - 3) (p + 3) (take (room_end octets) octets)
         ∙ ap (λ n. drop n (take (room_end octets) octets)) (omega arith)))
 
--- ---- what stands in the sections
+-- ---- each section
 
--- section 3 of enough octets says something
 description_is : (xs : List ℕ) → 4 ≤ length xs → (d : Description) × (description_of xs ≡ Ok d)
 unfolding description_of
 description_is (ignored ∷ n1 ∷ n2 ∷ flags ∷ list) long = (
@@ -237,7 +225,6 @@ description_is (ignored ∷ n1 ∷ n2 ∷ flags ∷ list) long = (
 )
 description_is _ long = absurd (omega arith)
 
--- section 2, where it is announced
 local_is : (announced : Bool) (octets : List ℕ) (p : ℕ)
     → (local : Option (List ℕ)) × (section2_at announced (from octets p)
     ≡ cond (announced && no_section octets 4 p) (Err Section2Length)
@@ -258,7 +245,6 @@ local_is true octets p = (
     by_test true = refl
     by_test false = refl
 
--- a section that is there: how long it is, and the octets behind its length
 behind_length : (octets : List ℕ) (shortest p : ℕ) → no_section octets shortest p ≡ false
     → (shortest ≤ 3 + length (behind octets p)) × (p + length_at octets p ≤ room_end octets)
     × (shortest ≤ length_at octets p)
@@ -279,7 +265,6 @@ behind_length octets shortest p there =
       long,
     )
 
--- an octet behind the length of a section
 behind_at : (octets : List ℕ) (p i : ℕ) → p + length_at octets p ≤ room_end octets
     → i + 3 < length_at octets p → get_or (behind octets p) i 0 ≡ octet_at octets (p + 3 + i)
 behind_at octets p i inside h =
@@ -287,7 +272,6 @@ behind_at octets p i inside h =
     ∙ get_or-drop (p + 3) (take (room_end octets) octets) i 0
     ∙ get_or-take (room_end octets) octets (p + 3 + i) 0 (omega arith)
 
--- what the head is, where section 1 is there: the master table decides
 head_here : (layout : Layout) (octets : List ℕ) → no_section octets (shortest1 layout) 8 ≡ false
     → (h : Head) × (head_of layout (behind octets 8)
     ≡ cond (octet_at octets 11 == 0) (Ok (h, announces_section2 layout octets))
@@ -311,12 +295,10 @@ head_here Edition3 octets there =
       head3_is (behind octets 8) (omega (arith, l.0)) ∙ rw (master, flags) refl,
     )
 
--- each layout has room for the length
 least_is : (layout : Layout) → 3 ≤ shortest1 layout
 least_is Edition4 = omega arith
 least_is Edition3 = omega arith
 
--- section 4, which fills the room
 last_then : {B : Type 0} (octets : List ℕ) (p : ℕ) (f : List ℕ → Result B Refused)
     → ((c : List ℕ) → fault_of (f c) ≡ None)
     → fault_of (section_at 4 Section4Length (from octets p) >>= λ four. contents_of four >>= f)
@@ -357,11 +339,11 @@ last_then {B} octets p f ends =
 
 -- ---- the sections together
 
--- the causes that sections 1 to 4 give
+-- the causes of sections 1 to 4
 abbrev later : Layout → List ℕ → List Cause
 later layout octets = drop 2 (causes_in (Some layout) octets)
 
--- the fault of the sections is the first cause after the end
+-- the fault of the sections is the first cause after M4
 sections_fault : (layout : Layout) (octets : List ℕ)
     → fault_of (sections_of layout (from octets 8)) ≡ first (later layout octets)
 unfolding sections_of
@@ -392,7 +374,6 @@ sections_fault layout octets =
     (drop 4 (later layout octets)) d.1
     (last_then octets (place4 layout octets) _ (λ c. refl))))))
 
--- what is read by a layout, in one step or in two
 with_layout : {A B : Type 0} (layout : Layout) (x : Result A Refused)
     (f : Layout × A → Result B Refused)
     → ((x >>= λ a. Ok (layout, a)) >>= f) ≡ (x >>= λ a. f (layout, a))
@@ -403,7 +384,6 @@ with_layout layout (Err fault) f = refl
 abbrev by_layout : Layout × List ℕ → Result Envelope Refused
 by_layout found = sections_of found.0 found.1
 
--- the room and what stands in it
 room_fault : (b u f r l1 l2 l3 edition : ℕ) (rest : List ℕ) (layout : Layout)
     → fault_of (room_in (three l1 l2 l3) rest >>= λ room. sections_of layout room)
     ≡ first (causes_in (Some layout) (b ∷ u ∷ f ∷ r ∷ l1 ∷ l2 ∷ l3 ∷ edition ∷ rest))
@@ -431,7 +411,6 @@ room_fault b u f r l1 l2 l3 edition rest layout =
     sym (drop-take 8 (length rest - 4) octets) ∙ ap (λ n. drop 8 (take n octets)) before_end in
     ap (λ (xs : List ℕ). fault_of (sections_of layout xs)) room ∙ sections_fault layout octets))
 
--- by the layout that octet 8 names
 edition_fault : (b u f r l1 l2 l3 edition : ℕ) (rest : List ℕ) (layout : Option Layout)
     → fault_of ((layout_or edition layout >>= λ layout. room_in (three l1 l2 l3) rest >>= λ room. Ok
     (layout, room)) >>= by_layout) ≡ first (causes_in layout
@@ -441,7 +420,6 @@ edition_fault b u f r l1 l2 l3 edition rest (Some layout) =
     ap fault_of (with_layout layout (room_in (three l1 l2 l3) rest) by_layout)
     ∙ room_fault b u f r l1 l2 l3 edition rest layout
 
--- section 0
 start_fault : (b u f r l1 l2 l3 edition : ℕ) (rest : List ℕ)
     → fault_of (envelope_of (b ∷ u ∷ f ∷ r ∷ l1 ∷ l2 ∷ l3 ∷ edition ∷ rest))
     ≡ first (causes (b ∷ u ∷ f ∷ r ∷ l1 ∷ l2 ∷ l3 ∷ edition ∷ rest))
@@ -453,48 +431,42 @@ start_fault b u f r l1 l2 l3 edition rest =
     (causes_in (layout_of edition) octets) (rw long refl)
     (λ bufr. edition_fault b u f r l1 l2 l3 edition rest (layout_of edition))
 
--- the fault of octets is the first cause
+-- the fault of reading is the first cause
 envelope_fault : (octets : List ℕ) → fault_of (envelope_of octets) ≡ first (causes octets)
 unfolding envelope_of causes room_of
 envelope_fault (b ∷ u ∷ f ∷ r ∷ l1 ∷ l2 ∷ l3 ∷ edition ∷ rest) =
     start_fault b u f r l1 l2 l3 edition rest
 envelope_fault _ = refl
 
--- the fault of a refusal is its own
 is_refused : {A : Type 0} (x : Result A Refused) (fault : Refused) → fault_of x ≡ Some fault
     → x ≡ Err fault
 is_refused (Ok v) fault e = absurd cc
 is_refused (Err other) fault e = let same : other ≡ fault = cc in ap (λ f. Err f) same
 
--- octets are refused for their first cause
 pub refused_gives_first : (octets : List ℕ) (fault : Refused) → envelope_of octets ≡ Err fault
     → IsFirstRefusal octets fault
 refused_gives_first octets fault e =
     first_takes (causes octets) fault (sym (envelope_fault octets) ∙ ap fault_of e)
 
--- the first cause is answered
 pub first_is_answered : (octets : List ℕ) (fault : Refused) → IsFirstRefusal octets fault
     → envelope_of octets ≡ Err fault
 first_is_answered octets fault s =
     is_refused (envelope_of octets) fault
     (envelope_fault octets ∙ ap first s.2 ∙ first_gives s.0 s.1 fault s.3)
 
--- ---- which faults the sections have
+-- ---- the faults of sections are M1 to M9
 
--- one cause more that is of the sections
 among : (g : Refused) (b : Bool) (cs : List Cause) (f : Refused) → is_of_sections g ≡ true
     → cond b (Some g) (first cs) ≡ Some f → (first cs ≡ Some f → is_of_sections f ≡ true)
     → is_of_sections f ≡ true
 among g true cs f of e more = let same : g ≡ f = cc in ap is_of_sections (sym same) ∙ of
 among g false cs f of e more = more e
 
--- the first of causes of the sections is one
 first_among : (cs : List Cause) (f : Refused) → AllByRecursion (λ c. is_of_sections c.0 ≡ true) cs
     → first cs ≡ Some f → is_of_sections f ≡ true
 first_among [] f all e = absurd cc
 first_among (c ∷ cs) f all e = among c.0 c.1 cs f all.0 e (first_among cs f all.1)
 
--- sections are refused for M1 to M9 alone
 pub of_sections : (octets : List ℕ) (fault : Refused) → envelope_of octets ≡ Err fault
     → is_of_sections fault ≡ true
 unfolding causes

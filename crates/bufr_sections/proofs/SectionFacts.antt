@@ -1,4 +1,4 @@
--- What the sections spell is read again: for the law `SectionsSpeltAreRead`.
+-- Reading returns what octets spell, section by section: for the law `SectionsSpeltAreRead`.
 use Rattle.std.proofs.Common.{◌≡◌, ℕ, ◌+◌, ◌-◌, ◌/◌, ◌%◌, ◌^◌, ◌<◌, ◌≤◌, Bool, true, false, ltb}
 use Rattle.std.proofs.Common.{List, [], ◌∷◌, ◌++◌, length, drop, Option, Some, None, Ok, refl, ap}
 use Rattle.std.proofs.Common.{◌∙◌, arith, append_assoc, length-append, eq-eqb}
@@ -24,11 +24,9 @@ use Rattle.bufr_sections.specs.Sections.{Description, descriptors_of, descriptio
 use Rattle.bufr_sections.specs.Sections.{envelope_of}
 use Rattle.bufr_sections.proofs.LengthFacts.{four_parts}
 
--- a number of three octets, and of two, is what they were
 three_is : (n : ℕ) → n < 2 ^ 24 → three (n / 2 ^ 16 % 256) (n / 2 ^ 8 % 256) (n % 256) ≡ n
 three_is n h = omega arith
 
--- a section that is spelt is read, and what stands behind it
 pub section_at-section : (shortest : ℕ) (fault : Refused) (contents rest : List ℕ)
     → shortest ≤ 3 + length contents → 3 + length contents < 2 ^ 24
     → section_at shortest fault (section contents ++ rest) ≡ Ok (contents, rest)
@@ -48,7 +46,6 @@ section_at-section shortest fault contents rest long small =
       drop_at contents rest (length contents) refl,
     ) refl
 
--- the room before `7777`
 pub room_in-whole : (middle : List ℕ) → 12 + length middle < 2 ^ 24
     → room_in (three ((12 + length middle) / 2 ^ 16 % 256) ((12 + length middle) / 2 ^ 8 % 256)
     ((12 + length middle) % 256)) (middle ++ codes "7777") ≡ Ok middle
@@ -70,12 +67,10 @@ room_in-whole middle small =
       take_at middle (codes "7777") (length middle) refl,
     ) refl
 
--- the edition's number names its layout
 pub layout_of-number : (layout : Layout) → layout_of (edition_number layout) ≡ Some layout
 layout_of-number Edition4 = refl
 layout_of-number Edition3 = refl
 
--- the room of a whole message, and its layout
 pub room_of-enclosed : (layout : Layout) (middle : List ℕ) → 12 + length middle < 2 ^ 24
     → room_of (enclosed layout middle) ≡ Ok (layout, middle)
 unfolding room_of
@@ -83,17 +78,16 @@ room_of-enclosed layout middle small = rw (layout_of-number layout, room_in-whol
 
 -- ---- section 1
 
--- a number of two octets is what it was
 two_is : (n : ℕ) → n < 2 ^ 16 → two (n / 2 ^ 8 % 256) (n % 256) ≡ n
 two_is n h = omega arith
 
--- the first bit announces, whatever the others are
+-- the other bits don't change the flag of section 2
 announced_is : (announced : Bool) (ignored : ℕ) → ignored < 128
     → nat_le 128 (flag announced 128 + ignored) ≡ announced
 announced_is true ignored h = le-leb _ _ (omega arith)
 announced_is false ignored h = lt-leb _ _ (omega arith)
 
--- the head that a layout spells is read again
+-- reading returns the head that a layout spells
 pub head_of-section1 : (layout : Layout) (h : Head) (announced : Bool) (i : Ignored)
     → HasSection1 layout h i → i.bits1 < 128
     → head_of layout (head_octets layout h announced i) ≡ Ok (h, announced)
@@ -108,7 +102,6 @@ head_of-section1 Edition4 h announced i fits small =
 head_of-section1 Edition3 h announced i fits small =
     rw (announced_is announced i.bits1 small, ← fits.year, ← fits.international, ← fits.second) refl
 
--- and is no shorter than the layout says
 pub head_is_long : (layout : Layout) (h : Head) (announced : Bool) (i : Ignored)
     → (3 ≤ shortest1 layout) × (shortest1 layout ≤ 3 + length (head_octets layout h announced i))
 head_is_long Edition4 h announced i = (omega arith, omega arith)
@@ -116,7 +109,7 @@ head_is_long Edition3 h announced i = (omega arith, omega arith)
 
 -- ---- section 3
 
--- descriptors that are spelt are read, and an odd octet is none
+-- reading returns descriptors as spelt, and drops an odd octet
 pub descriptors_of-flat_map : (ds odd : List ℕ) → AllByRecursion (λ d. d < 2 ^ 16) ds
     → length odd ≤ 1 → descriptors_of (flat_map (bytes_high_first 2) ds ++ odd) ≡ ds
 unfolding descriptors_of
@@ -126,14 +119,12 @@ descriptors_of-flat_map [] (x ∷ y ∷ zs) all short = absurd (omega arith)
 descriptors_of-flat_map (d ∷ ds) odd all short =
     rw (two_is d all.0, descriptors_of-flat_map ds odd all.1 short) refl
 
--- the first flag of section 3
 observed_is : (o c : Bool) (b : ℕ) → b < 64 → nat_le 128 (flag o 128 + flag c 64 + b) ≡ o
 observed_is true true b h = le-leb _ _ (omega arith)
 observed_is true false b h = le-leb _ _ (omega arith)
 observed_is false true b h = lt-leb _ _ (omega arith)
 observed_is false false b h = lt-leb _ _ (omega arith)
 
--- the second flag of section 3
 compressed_is : (o c : Bool) (b : ℕ) → b < 64 → ((flag o 128 + flag c 64 + b) / 64 % 2 == 1) ≡ c
 compressed_is true true b h = eq-eqb _ _ (omega arith)
 compressed_is true false b h = let e : (128 + 0 + b) / 64 % 2 ≡ 0 = omega arith in rw e refl
@@ -142,7 +133,7 @@ compressed_is false false b h = let e : (0 + 0 + b) / 64 % 2 ≡ 0 = omega arith
 
 -- ---- the sections together
 
--- what each part of the room is, in turn
+-- if each step returns its part, all together return the envelope
 steps : (layout : Layout) (room c1 room2 room3 c3 room4 c4 : List ℕ) (h : Head × Bool)
     (local : Option (List ℕ)) (d : Description)
     → section_at (shortest1 layout) Section1Length room ≡ Ok (c1, room2) → head_of layout c1 ≡ Ok h
@@ -161,7 +152,6 @@ unfolding sections_of
 steps layout room c1 room2 room3 c3 room4 c4 h local d e1 e2 e3 e4 e5 e6 =
     rw (e1, e2, e3, e4, e5, e6) refl
 
--- section 2 that is spelt is read
 section2_at-section2 : (local : Option (List ℕ)) (ignored : ℕ) (rest : List ℕ)
     → length (section2 local ignored) < 2 ^ 24
     → section2_at (is_present local) (section2 local ignored ++ rest) ≡ Ok (local, rest)
@@ -169,13 +159,13 @@ section2_at-section2 None ignored rest small = refl
 section2_at-section2 (Some local) ignored rest small =
     rw (section_at-section 4 Section2Length (ignored ∷ local) rest (omega arith) (omega arith)) refl
 
--- section 3 behind its length
+-- section 3 after its length
 abbrev contents3 : Envelope → Ignored → List ℕ
 contents3 e i =
     i.octet3 ∷ bytes_high_first 2 e.count ++ (flag e.observed 128 + flag e.compressed 64 + i.bits3)
     ∷ flat_map (bytes_high_first 2) e.descriptors ++ i.odd
 
--- what section 3 of an envelope says
+-- the section 3 of an envelope
 abbrev described : Envelope → Description
 described e =
     record {
@@ -185,7 +175,6 @@ described e =
       descriptors = e.descriptors;
     }
 
--- section 3 that is spelt is read
 description_of-section3 : (layout : Layout) (e : Envelope) (i : Ignored) → EnvelopeFits layout e i
     → description_of (contents3 e i) ≡ Ok (described e)
 unfolding description_of
@@ -198,16 +187,13 @@ description_of-section3 layout e i fits =
           (recursion_from_All (λ d. d < 2 ^ 16) e.descriptors fits.descriptors) fits.ignored.4,
     ) refl
 
--- a descriptor takes two octets
 some_octets : (ds : List ℕ) → 0 < length ds → 2 ≤ length (flat_map (bytes_high_first 2) ds)
 some_octets [] h = absurd (omega arith)
 some_octets (d ∷ ds) h = omega arith
 
--- four lists joined from the right
 pub regrouped : (a b c d : List ℕ) → a ++ b ++ c ++ d ≡ a ++ (b ++ (c ++ (d ++ [])))
 regrouped a b c d = rw (append-nil d) (simp append_assoc)
 
--- the sections that are spelt are read
 sections_of-sections : (layout : Layout) (e : Envelope) (i : Ignored) → EnvelopeFits layout e i
     → length (sections layout e i) < 2 ^ 24 → sections_of layout (sections layout e i) ≡ Ok e
 unfolding sections
@@ -235,7 +221,7 @@ sections_of-sections layout e i fits small =
     (description_of-section3 layout e i fits)
     (section_at-section 4 Section4Length c4 [] (omega arith) (omega arith))
 
--- what the sections spell is read again
+-- reading returns the sections that octets spell
 pub envelope_of-spelling : (layout : Layout) (e : Envelope) (i : Ignored) → EnvelopeFits layout e i
     → envelope_of (spelling layout e i) ≡ Ok e
 unfolding envelope_of spelling

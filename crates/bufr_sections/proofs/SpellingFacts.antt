@@ -1,4 +1,4 @@
--- What is read as sections is spelt so: for the law `SectionsReadAreSpelt`.
+-- Octets spell what reading returns, section by section: for the law `SectionsReadAreSpelt`.
 use Rattle.std.proofs.Common.{◌≡◌, ℕ, ◌+◌, ◌-◌, ◌*◌, ◌/◌, ◌%◌, ◌^◌, ◌<◌, ◌≤◌, Bool, true, false}
 use Rattle.std.proofs.Common.{not, List, [], ◌∷◌, ◌++◌, length, take, drop, Option, Some, None, Ok}
 use Rattle.std.proofs.Common.{refl, sym, ap, subst, ◌∙◌, arith, length-append, inl, inr}
@@ -29,12 +29,11 @@ use Rattle.bufr_sections.specs.Sections.{Description, descriptors_of, descriptio
 use Rattle.bufr_sections.specs.Sections.{sections_of, envelope_of}
 use Rattle.bufr_sections.specs.Causes.{HasSections}
 use Rattle.bufr_sections.proofs.SectionFacts.{regrouped, head_is_long}
-use Rattle.bufr_answers.specs.AnswerLaws.{bind_ok, guard_ok, passed_ok, ok_is, or_first, or_second}
-use Rattle.bufr_answers.specs.AnswerLaws.{not_false}
+use Rattle.bufr_base.specs.AnswerLaws.{bind_ok, guard_ok, passed_ok, ok_is, or_first, or_second}
+use Rattle.bufr_base.specs.AnswerLaws.{not_false}
 
 -- ---- numbers of octets
 
--- a number of three octets is spelt by them
 three_spelt : (n a b c : ℕ) → n ≡ three a b c → a < 256 → b < 256 → c < 256
     → bytes_high_first 3 n ≡ a ∷ b ∷ c ∷ []
 three_spelt n a b c e la lb lc =
@@ -43,14 +42,12 @@ three_spelt n a b c e la lb lc =
     let l : n % 256 ≡ c = omega arith in
     rw (h, m, l) refl
 
--- a number of two octets has them for its octets
 two_cells : (a b : ℕ) → a < 256 → b < 256
     → (two a b / 256 % 256 ≡ a) × (two a b % 256 ≡ b) × (two a b < 2 ^ 16)
 two_cells a b la lb = (omega arith, omega arith, omega arith)
 
 -- ---- section 0 and the end
 
--- the room is spelt with its length and its end
 room_spelt : (layout : Layout) (l1 l2 l3 : ℕ) (rest : List ℕ) → l1 < 256 → l2 < 256 → l3 < 256
     → three l1 l2 l3 ≡ 8 + length rest → 4 ≤ length rest
     → drop (length rest - 4) rest ≡ codes "7777"
@@ -69,7 +66,6 @@ room_spelt layout l1 l2 l3 rest h1 h2 h3 total long end =
       omega arith,
     )
 
--- the room is there and before `7777`
 room_in_takes : (total : ℕ) (rest room : List ℕ) → room_in total rest ≡ Ok room
     → (total ≡ 8 + length rest) × (4 ≤ length rest) × (drop (length rest - 4) rest ≡ codes "7777")
     × (take (length rest - 4) rest ≡ room)
@@ -91,7 +87,6 @@ room_in_takes total rest room e =
       ok_is _ _ g4.1,
     )
 
--- a layout is that of its edition's number
 layout_takes : (edition : ℕ) (layout : Layout) → layout_or edition (layout_of edition) ≡ Ok layout
     → edition ≡ edition_number layout
 layout_takes edition layout e = by_test (edition == 4) refl (edition == 3) refl e
@@ -103,7 +98,7 @@ layout_takes edition layout e = by_test (edition == 4) refl (edition == 3) refl 
     by_test false not_four true is e = eqb-true _ _ is ∙ ap edition_number (ok_is _ _ e)
     by_test false not_four false not_three e = absurd cc
 
--- the room that is read is spelt so
+-- octets spell the room as read
 pub room_of_takes : (octets : List ℕ) (found : Layout × List ℕ) → AreOctets octets
     → room_of octets ≡ Ok found
     → (octets ≡ enclosed found.0 found.1) × (12 + length found.1 < 2 ^ 24) × AreOctets found.1
@@ -134,7 +129,7 @@ room_of_takes _ found octets e = absurd cc
 
 -- ---- a section
 
--- a section that is read is spelt so
+-- octets spell a section as read
 pub section_at_takes : (shortest : ℕ) (fault : Refused) (room contents rest : List ℕ) → 3 ≤ shortest
     → AreOctets room → section_at shortest fault room ≡ Ok (contents, rest)
     → (room ≡ section contents ++ rest) × (shortest ≤ 3 + length contents) × AreOctets contents
@@ -170,26 +165,23 @@ section_at_takes shortest fault _ contents rest least octets e = absurd cc
 
 -- ---- section 1
 
--- the first bit of an octet
 first_bit : (flags : ℕ) → flags < 256 → flag (nat_le 128 flags) 128 ≡ flags / 128 * 128
 first_bit flags h = elim (cases_lt flags 128) [
   | inl lt ↦ let e : nat_le 128 flags ≡ false = lt-leb _ _ lt in rw e (omega arith)
   | inr le ↦ let e : nat_le 128 flags ≡ true = le-leb _ _ le in rw e (omega arith)
 ]
 
--- the octet that announces section 2, in its two parts
 flags1 : (flags : ℕ) → flags < 256
     → (flags ≡ flag (nat_le 128 flags) 128 + flags % 128) × (flags % 128 < 128)
 flags1 flags h = (omega (arith, first_bit flags h), omega arith)
 
--- the head of a layout that is read is spelt so, by what is ignored in section 1: these bits and
--- this octet for the year, whatever is ignored elsewhere
+-- octets spell a head with some reserved bits and some octet for the year, whatever else readers
+-- ignore
 abbrev pub SpeltHead : Layout → List ℕ → Head × Bool → Type 0
 SpeltHead layout octets h = (bits1 : ℕ) × (year_octet : ℕ) × (bits1 < 128)
     × ((i : Ignored) → i.bits1 ≡ bits1 → i.year_octet ≡ year_octet
     → (octets ≡ head_octets layout h.0 h.1 i) × HasSection1 layout h.0 i)
 
--- a head of edition 4 that is read is spelt so
 head4_of_takes : (octets : List ℕ) (h : Head × Bool) → AreOctets octets → head4_of octets ≡ Ok h
     → SpeltHead Edition4 octets h
 unfolding head4_of
@@ -234,7 +226,6 @@ head4_of_takes
     )
 head4_of_takes _ h octets e = absurd cc
 
--- a head of edition 3 that is read is spelt so
 head3_of_takes : (octets : List ℕ) (h : Head × Bool) → AreOctets octets → head3_of octets ≡ Ok h
     → SpeltHead Edition3 octets h
 unfolding head3_of
@@ -274,7 +265,6 @@ head3_of_takes
     )
 head3_of_takes _ h octets e = absurd cc
 
--- a head that is read is spelt so
 pub head_of_takes : (layout : Layout) (octets : List ℕ) (h : Head × Bool) → AreOctets octets
     → head_of layout octets ≡ Ok h → SpeltHead layout octets h
 head_of_takes Edition4 octets h all e = head4_of_takes octets h all e
@@ -282,7 +272,6 @@ head_of_takes Edition3 octets h all e = head3_of_takes octets h all e
 
 -- ---- section 2
 
--- section 2 that is read is spelt so
 pub local_at_takes : (announced : Bool) (room rest : List ℕ) (local : Option (List ℕ))
     → AreOctets room → section2_at announced room ≡ Ok (local, rest)
     → (ignored : ℕ) × IsOctet ignored × (room ≡ section2 local ignored ++ rest)
@@ -311,7 +300,6 @@ local_at_takes true room rest local octets e =
 
 -- ---- section 3
 
--- descriptors that are read are spelt so, and an odd octet
 pub list_spelt : (list : List ℕ) → AreOctets list
     → (odd : List ℕ) × (list ≡ flat_map (bytes_high_first 2) (descriptors_of list) ++ odd)
     × (length odd ≤ 1) × AreOctets odd × All (λ d. d < 2 ^ 16) (descriptors_of list)
@@ -328,7 +316,6 @@ list_spelt (a ∷ b ∷ rest) octets =
       All-cons (λ d. d < 2 ^ 16) (two a b) (descriptors_of rest) cells.2 more.4,
     )
 
--- the second bit of an octet
 second_bit : (flags : ℕ) → flag (flags / 64 % 2 == 1) 64 ≡ flags / 64 % 2 * 64
 second_bit flags = elim (cases_lt (flags / 64 % 2) 1) [
   | inl none ↦
@@ -337,13 +324,13 @@ second_bit flags = elim (cases_lt (flags / 64 % 2) 1) [
       let e : (flags / 64 % 2 == 1) ≡ true = eq-eqb _ _ (omega arith) in rw e (omega arith)
 ]
 
--- the octet of the flags, in its three parts
+-- the flags and the reserved bits make up their octet
 flags3 : (flags : ℕ) → flags < 256
     → (flags ≡ flag (nat_le 128 flags) 128 + flag (flags / 64 % 2 == 1) 64 + flags % 64)
     × (flags % 64 < 64)
 flags3 flags h = (omega (arith, first_bit flags h, second_bit flags), omega arith)
 
--- what section 3 says is spelt so behind its length
+-- octets spell section 3 after its length
 pub record Described (octets : List ℕ) (d : Description) : Type 0 where
   pub octet3 : ℕ
   pub bits3 : ℕ
@@ -359,13 +346,11 @@ pub record Described (octets : List ℕ) (d : Description) : Type 0 where
   pub descriptors : All (λ d. d < 2 ^ 16) d.descriptors
   pub count : d.count < 2 ^ 16
 
--- two octets are a descriptor
 some_listed : (list : List ℕ) → 2 ≤ length list → 0 < length (descriptors_of list)
 unfolding descriptors_of
 some_listed (a ∷ b ∷ rest) h = omega arith
 some_listed _ h = absurd (omega arith)
 
--- section 3 that is read is spelt so
 pub description_of_takes : (octets : List ℕ) (d : Description) → AreOctets octets
     → 6 ≤ length octets → description_of octets ≡ Ok d → Described octets d
 unfolding description_of
@@ -391,7 +376,6 @@ description_of_takes _ d octets long e = absurd cc
 
 -- ---- section 4
 
--- section 4 of any octets is spelt so
 contents_spelt : (octets : List ℕ) → 4 ≤ 3 + length octets → AreOctets octets
     → (ignored : ℕ) × IsOctet ignored × (section octets ≡ section4 (drop 1 octets) ignored)
     × AreOctets (drop 1 octets)
@@ -399,7 +383,6 @@ contents_spelt [] long octets = absurd (omega arith)
 contents_spelt (x ∷ xs) long octets =
     (x, All-head IsOctet x xs octets, refl, All-tail IsOctet x xs octets)
 
--- section 4 that is read is spelt so
 pub contents_of_takes : (octets rest contents : List ℕ) → 4 ≤ 3 + length octets → AreOctets octets
     → contents_of (octets, rest) ≡ Ok contents
     → (ignored : ℕ) × IsOctet ignored × (section octets ++ rest ≡ section4 contents ignored ++ [])
@@ -415,7 +398,7 @@ contents_of_takes octets (x ∷ rest) contents long all e =
 
 -- ---- the sections together
 
--- the parts that are read, together
+-- the parts as one envelope
 abbrev enveloped : Head → Option (List ℕ) → Description → List ℕ → Envelope
 enveloped h local d contents =
     record {
@@ -429,7 +412,7 @@ enveloped h local d contents =
       contents = contents;
     }
 
--- sections that are each spelt are spelt together
+-- sections that octets spell each are spelt together
 together : (layout : Layout) (room room2 room3 room4 : List ℕ) (h : Head) (announced : Bool)
     (local : Option (List ℕ)) (d : Description) (contents : List ℕ) (i : Ignored)
     → room ≡ section1 layout h announced i ++ room2 → is_present local ≡ announced
@@ -447,7 +430,7 @@ together layout room room2 room3 room4 h announced local d contents i e1 present
     ∙ ap (λ xs. s1 ++ xs) (e2 ∙ ap (λ xs. s2 ++ xs) (e3 ∙ ap (λ xs. s3 ++ xs) e4))
     ∙ sym (regrouped s1 s2 s3 s4)
 
--- what was read fits its envelope
+-- each part as read fits its field
 fits_together : (layout : Layout) (room : List ℕ) (h : Head) (local : Option (List ℕ))
     (d : Description) (contents : List ℕ) (i : Ignored) (octets3 : List ℕ)
     (said : Described octets3 d) → 12 + length room < 2 ^ 24
@@ -483,7 +466,6 @@ fits_together layout room h local d contents i octets3 said small is head sectio
       );
     }
 
--- the sections that are read of a room are spelt so
 pub sections_of_takes : (layout : Layout) (room : List ℕ) (e : Envelope) → AreOctets room
     → 12 + length room < 2 ^ 24 → sections_of layout room ≡ Ok e
     → (i : Ignored) × (room ≡ sections layout e i) × EnvelopeFits layout e i
@@ -530,7 +512,7 @@ sections_of_takes layout room e octets small ok =
           h.1 t2.4 tc.3 th.2 t2.1 tc.1 refl refl refl,
     )
 
--- the sections that are read of octets are spelt so
+-- octets spell the sections that reading returns
 pub envelope_of_takes : (octets : List ℕ) (e : Envelope) → AreOctets octets
     → envelope_of octets ≡ Ok e → HasSections octets e
 unfolding envelope_of spelling

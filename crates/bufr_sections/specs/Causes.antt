@@ -1,6 +1,6 @@
--- Why octets are not the sections of a message: the causes are tests of the octets at their places,
--- in the order in which they are looked for (FM 94 BUFR, WMO-No. 306 Volume I.2: regulations 94.1
--- and 94.2 and the specifications of sections 0 to 5).
+-- The causes M1 to M9 for which octets are not the sections of a message: tests of the octets at
+-- their places, in order (FM 94 BUFR, WMO-No. 306 Volume I.2: regulations 94.1 and 94.2 and the
+-- specifications of sections 0 to 5).
 use Rattle.std.specs.Prelude.{◌≡◌, ℕ, ◌+◌, ◌-◌, ◌==◌, ◌||◌, ◌&&◌, not, Bool, true, false, Option}
 use Rattle.std.specs.Prelude.{Some, None, List, [], ◌∷◌, ◌++◌, length, take, drop, get_or, All}
 use Rattle.std.specs.Prelude.{codes, bytes_eq, nat_lt, nat_le, if◌then◌else◌}
@@ -14,43 +14,42 @@ use Rattle.bufr_sections.specs.declared.fault.Refused.TheVariants.{Template, Dat
 use Rattle.bufr_sections.specs.Sections.{three, layout_of, shortest1, announcing, Envelope, Ignored}
 use Rattle.bufr_sections.specs.Sections.{EnvelopeFits, spelling}
 
--- ---- places, counted from 0: octet 8 stands at place 7
+-- ---- places, counted from 0: octet 8 is at place 7
 
 -- the octet at a place
 abbrev pub octet_at : List ℕ → ℕ → ℕ
 octet_at octets p = get_or octets p 0
 
--- the length that is declared in the three octets at a place
+-- the length in the three octets at a place
 abbrev pub length_at : List ℕ → ℕ → ℕ
 length_at octets p = three (octet_at octets p) (octet_at octets (p + 1)) (octet_at octets (p + 2))
 
--- where the room before `7777` ends
+-- the place of `7777`
 abbrev pub room_end : List ℕ → ℕ
 room_end octets = length octets - 4
 
--- whether section 2 is announced: by the first bit of an octet of section 1, which stands behind
--- the 8 octets of section 0
+-- whether an octet of section 1 announces section 2 by its first bit; section 0 has 8 octets
 abbrev pub announces_section2 : Layout → List ℕ → Bool
 announces_section2 layout octets = nat_le 128 (octet_at octets (7 + announcing layout))
 
--- where section 2 begins: where section 1 ends
+-- the place of section 2: the end of section 1
 abbrev pub place2 : List ℕ → ℕ
 place2 octets = 8 + length_at octets 8
 
--- where section 3 begins: where section 2 ends, if it is announced, else where section 1 ends
+-- the place of section 3: the end of section 2 if there is one, else of section 1
 abbrev pub place3 : Layout → List ℕ → ℕ
 place3 layout octets =
     if announces_section2 layout octets then place2 octets + length_at octets (place2 octets)
     else place2 octets
 
--- where section 4 begins: where section 3 ends
+-- the place of section 4: the end of section 3
 abbrev pub place4 : Layout → List ℕ → ℕ
 place4 layout octets = place3 layout octets + length_at octets (place3 layout octets)
 
 -- ---- causes
 
--- no section of so many octets or more stands at a place: its length doesn't stand in the room, is
--- below that, or goes past the room
+-- whether no section of `shortest` octets or more is at a place: its length is past the room before
+-- `7777`, too small, or leads past the room
 abbrev pub no_section : List ℕ → ℕ → ℕ → Bool
 no_section octets shortest p =
     nat_lt (room_end octets) (p + 3) || nat_lt (length_at octets p) shortest
@@ -60,7 +59,7 @@ no_section octets shortest p =
 abbrev pub Cause : Type 0
 Cause = Refused × Bool
 
--- the causes that follow the edition: it is not one that is read, or by its layout, in their order
+-- the causes after M1 in order: for an edition with no layout M2, else M3 to M9
 abbrev pub causes_in : Option Layout → List ℕ → List Cause
 causes_in None octets = (Edition (octet_at octets 7), true) ∷ []
 causes_in (Some layout) octets =
@@ -82,28 +81,28 @@ causes_in (Some layout) octets =
     )
     ∷ []
 
--- the causes in their order, each of them a test that stands for itself
+-- all causes in order, each a test of its own
 unfoldable pub causes : List ℕ → List Cause
 causes octets =
     (NotBufr, nat_lt (length octets) 8 || not (bytes_eq (take 4 octets) (codes "BUFR")))
     ∷ causes_in (layout_of (octet_at octets 7)) octets
 
--- the octets give this cause, and none of those that are looked for before it
+-- the octets give this cause, and none before it
 abbrev pub IsFirstRefusal : List ℕ → Refused → Type 0
 IsFirstRefusal octets fault =
     (before : List Cause) × (after : List Cause) × (causes octets ≡ before ++ (fault, true) ∷ after)
     × All (λ c. c.1 ≡ false) before
 
--- ---- sections that are there
+-- ---- sections that octets spell
 
--- the octets are the sections of an envelope, with anything in what is ignored
+-- the octets spell the sections of an envelope, with anything in what readers ignore
 abbrev pub HasSections : List ℕ → Envelope → Type 0
 HasSections octets e =
     (layout : Layout) × (i : Ignored) × (octets ≡ spelling layout e i) × EnvelopeFits layout e i
 
--- ---- which causes are those of the sections: M1 to M9
+-- ---- the faults of sections
 
--- whether a fault is one of the sections, before the template and the data
+-- whether a fault is one of M1 to M9, before the template and the data
 abbrev pub is_of_sections : Refused → Bool
 is_of_sections (Template why) = false
 is_of_sections (Data why) = false

@@ -1,4 +1,4 @@
--- What is printed of a refusal: its number, its name and its values.
+-- The text of a refusal: its number, its name and its values.
 use Rattle.std.specs.Prelude.{ℕ, List, ◌++◌, codes, decimal}
 use Rattle.bufr_expand.specs.Reasons.{template_reason}
 use Rattle.bufr_fields.specs.Reasons.{read_reason}
@@ -9,7 +9,7 @@ use Rattle.bufr_sections.specs.declared.fault.Refused.TheVariants.{MasterTable, 
 use Rattle.bufr_sections.specs.declared.fault.Refused.TheVariants.{Section3Length, Section4Length}
 use Rattle.bufr_sections.specs.declared.fault.Refused.TheVariants.{Template, Data}
 
--- the reason that octets spell no message
+-- the text that a refusal prints
 unfoldable pub reason : Refused → List ℕ
 reason NotBufr = codes "M1 NotBufr"
 reason (Edition n) = codes "M2 Edition " ++ decimal n

@@ -1,4 +1,4 @@
--- What the sections that are read have to do with those that are spelt, and how long spellings are.
+-- Laws on reading and spelling sections, and on the length of spellings.
 use Rattle.std.specs.Prelude.{◌≡◌, ℕ, ◌≤◌, true, List, length, Ok, Err}
 use Rattle.bufr_sections.specs.declared.layout.Layout.{Layout}
 use Rattle.bufr_sections.specs.declared.layout.Layout.TheVariants.{Edition4}
@@ -8,37 +8,37 @@ use Rattle.bufr_sections.specs.Sections.{Envelope, Ignored, AreOctets, EnvelopeF
 use Rattle.bufr_sections.specs.Sections.{spelling, envelope_of}
 use Rattle.bufr_sections.specs.Spelt.{bare}
 
--- the sections that are read of octets are spelt so
+-- octets spell the sections that reading returns
 abbrev pub SectionsReadAreSpelt : Type 0
 SectionsReadAreSpelt =
     (octets : List ℕ) (e : Envelope) → AreOctets octets → envelope_of octets ≡ Ok e
     → HasSections octets e
 
--- the sections that are spelt are read, and no others
+-- reading returns the sections that octets spell
 abbrev pub SectionsSpeltAreRead : Type 0
 SectionsSpeltAreRead = (layout : Layout) (e : Envelope) (i : Ignored)
     → EnvelopeFits layout e i → envelope_of (spelling layout e i) ≡ Ok e
 
--- octets whose sections are refused give that cause, and none of those before it
+-- a refusal is a cause in the octets, with none before it
 abbrev pub SectionsRefusedGiveFirst : Type 0
 SectionsRefusedGiveFirst =
     (octets : List ℕ) (fault : Refused)
     → envelope_of octets ≡ Err fault → IsFirstRefusal octets fault
 
--- the sections of octets that give a cause are refused for the first of those that they give
+-- reading refuses octets for the first cause in them
 abbrev pub FirstGivenIsAnswered : Type 0
 FirstGivenIsAnswered =
     (octets : List ℕ) (fault : Refused)
     → IsFirstRefusal octets fault → envelope_of octets ≡ Err fault
 
--- sections are refused for the causes of sections alone
+-- reading sections refuses only for M1 to M9
 abbrev pub SectionsRefusedForTheirs : Type 0
 SectionsRefusedForTheirs =
     (octets : List ℕ) (fault : Refused)
     → envelope_of octets ≡ Err fault → is_of_sections fault ≡ true
 
--- sections that have no more octets in any part are, with nothing in what is free, no longer than
--- any spelling of the others in edition 4
+-- sections with no more octets in any part are, as `spell` writes them, no longer than any spelling
+-- of the others in edition 4
 abbrev pub BareSpellingsAreShortest : Type 0
 BareSpellingsAreShortest = (e small : Envelope) (ignored : Ignored)
     → length small.head.local ≤ length e.head.local

@@ -1,6 +1,6 @@
--- The sections of a message, with no regard to what the data bits mean (FM 94 BUFR, WMO-No. 306
--- Volume I.2: regulations 94.1 and 94.2 and the specifications of sections 0 to 5).
-use Rattle.bufr_answers.specs.Answers.{◌>>=◌}
+-- The sections of a message, whatever the data bits mean (FM 94 BUFR, WMO-No. 306 Volume I.2:
+-- regulations 94.1 and 94.2 and the specifications of sections 0 to 5).
+use Rattle.bufr_base.specs.Answers.{◌>>=◌}
 use Rattle.std.specs.Prelude.{◌≡◌, ℕ, ◌+◌, ◌-◌, ◌*◌, ◌/◌, ◌%◌, ◌^◌, ◌<◌, ◌≤◌, ◌==◌, ◌||◌, not, Bool}
 use Rattle.std.specs.Prelude.{true, false, List, [], ◌∷◌, ◌++◌, length, take, drop, All, codes}
 use Rattle.std.specs.Prelude.{bytes_eq, Option, Some, None, IfSome, Result, Ok, Err, nat_lt, nat_le}
@@ -16,21 +16,21 @@ use Rattle.bufr_sections.specs.declared.fault.Refused.TheVariants.{NoEnd, Sectio
 use Rattle.bufr_sections.specs.declared.fault.Refused.TheVariants.{MasterTable, Section2Length}
 use Rattle.bufr_sections.specs.declared.fault.Refused.TheVariants.{Section3Length, Section4Length}
 
--- what the sections say
+-- the contents of the sections
 pub record Envelope : Type 0 where
   pub head : Head
   pub section2 : Option (List ℕ)
   pub observed : Bool
   pub compressed : Bool
   pub descriptors : List ℕ
-  -- how many subsets are announced
+  -- the number of subsets
   pub count : ℕ
-  -- the octets of section 4 after its fourth
+  -- the octets of section 4 from the fifth on
   pub contents : List ℕ
 
--- what readers ignore: the reserved bits of the octet of section 1 that announces section 2 and of
--- section 3's octet 7, octet 4 of sections 2, 3 and 4, and one odd octet at section 3's end or
--- none; and in edition 3 which octet it was that gave the year (0 and 100 give 2000)
+-- what readers ignore: the reserved bits beside the flag of section 2 in section 1 and in section
+-- 3's octet 7; octet 4 of sections 2, 3 and 4; an odd octet or none at the end of section 3; in
+-- edition 3 which octet gave the year (0 and 100 give 2000)
 pub record Ignored : Type 0 where
   pub bits1 : ℕ
   pub octet2 : ℕ
@@ -40,19 +40,19 @@ pub record Ignored : Type 0 where
   pub octet4 : ℕ
   pub year_octet : ℕ
 
--- all that is ignored is zero, and there is no odd octet
+-- zeros in all that readers ignore, and no odd octet
 abbrev pub nothing_ignored : Ignored
 nothing_ignored =
     record { bits1 = 0; octet2 = 0; octet3 = 0; bits3 = 0; odd = []; octet4 = 0; year_octet = 0 }
 
--- ---- editions: how they lay section 1 out. The other sections are the same in all that are read
+-- ---- editions: they differ in section 1 alone
 
--- the number of an edition, which stands in octet 8 of section 0
+-- the number of an edition, in octet 8 of section 0
 abbrev pub edition_number : Layout → ℕ
 edition_number Edition4 = 4
 edition_number Edition3 = 3
 
--- the layout of the edition of a number, where it is read
+-- the layout of an edition's number, if readers know it
 abbrev pub layout_of : ℕ → Option Layout
 layout_of n = if n == 4 then Some Edition4 else if n == 3 then Some Edition3 else None
 
@@ -61,22 +61,22 @@ abbrev pub shortest1 : Layout → ℕ
 shortest1 Edition4 = 22
 shortest1 Edition3 = 17
 
--- the octet of section 1 whose first bit announces section 2
+-- the octet of section 1 with the flag of section 2 in its first bit
 abbrev pub announcing : Layout → ℕ
 announcing Edition4 = 10
 announcing Edition3 = 8
 
--- the year of an octet that has the year of the century: below 70 it is of this century
+-- the year of a year of the century: 0 to 69 are 2000 to 2069, others count from 1900
 abbrev pub year_of_century : ℕ → ℕ
 year_of_century n = if nat_lt n 70 then 2000 + n else 1900 + n
 
 -- ---- the spelling
 
--- a section with its true length in its first three octets
+-- a section: its length in three octets, and its contents
 abbrev pub section : List ℕ → List ℕ
 section contents = bytes_high_first 3 (3 + length contents) ++ contents
 
--- a bit of an octet, where a flag is set
+-- the weight of a flag if it is up, else 0
 abbrev pub flag : Bool → ℕ → ℕ
 flag true weight = weight
 flag false weight = 0
@@ -86,7 +86,7 @@ abbrev pub is_present : Option (List ℕ) → Bool
 is_present None = false
 is_present (Some local) = true
 
--- section 1 behind its length: the head from octet 4 on
+-- section 1 after its length: from octet 4 on
 abbrev pub head_octets : Layout → Head → Bool → Ignored → List ℕ
 head_octets Edition4 h announced i =
     0 ∷ bytes_high_first 2 h.centre ++ bytes_high_first 2 h.sub_centre
@@ -102,7 +102,7 @@ head_octets Edition3 h announced i =
 abbrev pub section1 : Layout → Head → Bool → Ignored → List ℕ
 section1 layout h announced i = section (head_octets layout h announced i)
 
--- section 2, where there is one
+-- section 2, if there is one
 abbrev pub section2 : Option (List ℕ) → ℕ → List ℕ
 section2 None ignored = []
 section2 (Some local) ignored = section (ignored ∷ local)
@@ -124,13 +124,13 @@ sections layout e i =
     section1 layout e.head (is_present e.section2) i ++ section2 e.section2 i.octet2
     ++ section3 e i ++ section4 e.contents i.octet4
 
--- a whole message: its total length counts section 0, the sections and `7777`
+-- a whole message: section 0 with the total length, the sections, and `7777`
 abbrev pub enclosed : Layout → List ℕ → List ℕ
 enclosed layout middle =
     codes "BUFR" ++ bytes_high_first 3 (12 + length middle)
     ++ edition_number layout ∷ middle ++ codes "7777"
 
--- the octets of sections, from section 0 to section 5
+-- the octets of a message, from section 0 to section 5
 unfoldable pub spelling : Layout → Envelope → Ignored → List ℕ
 spelling layout e i = enclosed layout (sections layout e i)
 
@@ -144,7 +144,7 @@ IsOctet n = n < 2 ^ 8
 abbrev pub AreOctets : List ℕ → Type 0
 AreOctets octets = All IsOctet octets
 
--- the numbers of section 1 in the ranges of their fields
+-- the numbers of section 1 are in the ranges of their fields
 pub record HeadFits (h : Head) : Type 0 where
   pub centre : h.centre < 2 ^ 16
   pub sub_centre : h.sub_centre < 2 ^ 16
@@ -162,8 +162,8 @@ pub record HeadFits (h : Head) : Type 0 where
   pub second : IsOctet h.second
   pub local : AreOctets h.local
 
--- the numbers of section 1 of edition 3 in the ranges of their fields; those that it does not have,
--- as readers set them
+-- the numbers of section 1 of edition 3 are in the ranges of their fields, and the others as
+-- readers set them
 pub record HeadFits3 (h : Head) (i : Ignored) : Type 0 where
   pub centre : IsOctet h.centre
   pub sub_centre : IsOctet h.sub_centre
@@ -182,12 +182,12 @@ pub record HeadFits3 (h : Head) (i : Ignored) : Type 0 where
   pub second : h.second ≡ 0
   pub local : AreOctets h.local
 
--- the head has a section 1 in this layout
+-- the head fits section 1 of this layout
 abbrev pub HasSection1 : Layout → Head → Ignored → Type 0
 HasSection1 Edition4 h i = HeadFits h
 HasSection1 Edition3 h i = HeadFits3 h i
 
--- no section and no message is longer than 16,777,215 octets: the total bounds the sections
+-- each part fits its field, and the message has at most 16,777,215 octets
 pub record EnvelopeFits (layout : Layout) (e : Envelope) (i : Ignored) : Type 0 where
   pub head : HasSection1 layout e.head i
   pub section2 : IfSome e.section2 AreOctets
@@ -199,9 +199,9 @@ pub record EnvelopeFits (layout : Layout) (e : Envelope) (i : Ignored) : Type 0 
   pub ignored : (i.bits1 < 128) × IsOctet i.octet2 × IsOctet i.octet3 × (i.bits3 < 64)
       × (length i.odd ≤ 1) × AreOctets i.odd × IsOctet i.octet4
 
--- ---- reading from the left, with the first fault
+-- ---- reading from the left, to the first fault
 
--- the number of three octets, and of two
+-- a number of three octets, the high one first
 abbrev pub three : ℕ → ℕ → ℕ → ℕ
 three a b c = 65536 * a + 256 * b + c
 
@@ -209,13 +209,12 @@ three a b c = 65536 * a + 256 * b + c
 abbrev pub two : ℕ → ℕ → ℕ
 two a b = 256 * a + b
 
--- an edition that is not read is refused
+-- the layout, or the refusal of the edition
 abbrev pub layout_or : ℕ → Option Layout → Result Layout Refused
 layout_or edition None = Err (Edition edition)
 layout_or edition (Some layout) = Ok layout
 
--- the room before `7777`, of the octets behind section 0, where the message is declared to have so
--- many octets
+-- the octets before `7777`, from those after section 0 and the total length
 unfoldable pub room_in : ℕ → List ℕ → Result (List ℕ) Refused
 room_in total rest =
     if not (total == 8 + length rest) then Err TotalLength
@@ -223,7 +222,7 @@ room_in total rest =
     then Err NoEnd
     else Ok (take (length rest - 4) rest)
 
--- the layout of the edition, and the room between section 0 and `7777`
+-- the layout, and the octets between section 0 and `7777`
 unfoldable pub room_of : List ℕ → Result (Layout × List ℕ) Refused
 room_of (b ∷ u ∷ f ∷ r ∷ l1 ∷ l2 ∷ l3 ∷ edition ∷ rest) =
     if not (bytes_eq (b ∷ u ∷ f ∷ r ∷ []) (codes "BUFR")) then Err NotBufr
@@ -231,15 +230,15 @@ room_of (b ∷ u ∷ f ∷ r ∷ l1 ∷ l2 ∷ l3 ∷ edition ∷ rest) =
     >>= λ layout. room_in (three l1 l2 l3) rest >>= λ room. Ok (layout, room))
 room_of _ = Err NotBufr
 
--- a section of at least so many octets at the front of the room: what stands behind its length, and
--- the room that is left
+-- the section at the start of `room`, of at least `shortest` octets: its octets after the length,
+-- and the octets after it
 unfoldable pub section_at : ℕ → Refused → List ℕ → Result (List ℕ × List ℕ) Refused
 section_at shortest fault (a ∷ b ∷ c ∷ rest) =
     if nat_lt (three a b c) shortest || nat_lt (3 + length rest) (three a b c) then Err fault
     else Ok (take (three a b c - 3) rest, drop (three a b c - 3) rest)
 section_at shortest fault _ = Err fault
 
--- section 1 of edition 4 behind its length: the head, and whether section 2 is announced
+-- section 1 of edition 4 after its length: the head, and whether section 2 follows
 unfoldable pub head4_of : List ℕ → Result (Head × Bool) Refused
 head4_of (master ∷ c1 ∷ c2 ∷ s1 ∷ s2 ∷ update ∷ flags ∷ category ∷ international ∷ local_category
     ∷ master_version ∷ local_version ∷ y1 ∷ y2 ∷ month ∷ day ∷ hour ∷ minute ∷ second ∷ local) =
@@ -267,7 +266,7 @@ head4_of (master ∷ c1 ∷ c2 ∷ s1 ∷ s2 ∷ update ∷ flags ∷ category �
     else Err (MasterTable master)
 head4_of _ = Err Section1Length
 
--- section 1 of edition 3 behind its length
+-- section 1 of edition 3 after its length
 unfoldable pub head3_of : List ℕ → Result (Head × Bool) Refused
 head3_of (master ∷ sub_centre ∷ centre ∷ update ∷ flags ∷ category ∷ local_category ∷ master_version
     ∷ local_version ∷ year ∷ month ∷ day ∷ hour ∷ minute ∷ local) =
@@ -295,30 +294,30 @@ head3_of (master ∷ sub_centre ∷ centre ∷ update ∷ flags ∷ category ∷
     else Err (MasterTable master)
 head3_of _ = Err Section1Length
 
--- section 1 behind its length
+-- section 1 after its length
 abbrev pub head_of : Layout → List ℕ → Result (Head × Bool) Refused
 head_of Edition4 octets = head4_of octets
 head_of Edition3 octets = head3_of octets
 
--- section 2, where it is announced
+-- section 2 if section 1 announces it, and the octets after it
 abbrev pub section2_at : Bool → List ℕ → Result (Option (List ℕ) × List ℕ) Refused
 section2_at true room =
     section_at 4 Section2Length room >>= λ found. Ok (Some (drop 1 found.0), found.1)
 section2_at false room = Ok (None, room)
 
--- descriptors of two octets each; an odd octet is none
+-- descriptors of two octets each, without an odd octet
 unfoldable pub descriptors_of : List ℕ → List ℕ
 descriptors_of (a ∷ b ∷ rest) = two a b ∷ descriptors_of rest
 descriptors_of _ = []
 
--- what section 3 says
+-- the contents of section 3
 pub record Description : Type 0 where
   pub count : ℕ
   pub observed : Bool
   pub compressed : Bool
   pub descriptors : List ℕ
 
--- what section 3 says
+-- section 3 after its length
 unfoldable pub description_of : List ℕ → Result Description Refused
 description_of (ignored ∷ n1 ∷ n2 ∷ flags ∷ list) =
     Ok (
@@ -331,11 +330,11 @@ description_of (ignored ∷ n1 ∷ n2 ∷ flags ∷ list) =
     )
 description_of _ = Err Section3Length
 
--- section 4 fills the room
+-- the octets of section 4 from the fifth on, if the section fills the room
 abbrev pub contents_of : List ℕ × List ℕ → Result (List ℕ) Refused
 contents_of found = if length found.1 == 0 then Ok (drop 1 found.0) else Err Section4Length
 
--- the sections of an edition, or the first fault
+-- the sections of this layout, or the first fault
 unfoldable pub sections_of : Layout → List ℕ → Result Envelope Refused
 sections_of layout room = do
   one ← section_at (shortest1 layout) Section1Length room
@@ -357,6 +356,6 @@ sections_of layout room = do
       }
       )
 
--- what octets say that are the sections of a message, or the first fault
+-- the sections that octets spell, or the first fault
 unfoldable pub envelope_of : List ℕ → Result Envelope Refused
 envelope_of octets = room_of octets >>= λ found. sections_of found.0 found.1

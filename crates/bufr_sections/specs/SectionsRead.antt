@@ -1,7 +1,6 @@
--- What the sections that the program holds say, and the places of what section 1 says behind its
--- length.
+-- Sections of the program as the definitions see them, and heads by the places of their octets.
 use Rattle.std.specs.Prelude.{ℕ, List, Option, Result, Ok, get_or}
-use Rattle.bufr_answers.specs.Answers.{◌>>=◌}
+use Rattle.bufr_base.specs.Answers.{◌>>=◌}
 use Rattle.bufr_fields.specs.declared.field.Subset.{Subset}
 use Rattle.bufr_sections.specs.declared.message.Head.{Head}
 use Rattle.bufr_sections.specs.declared.message.Message.{Message}
@@ -12,7 +11,7 @@ use Rattle.bufr_sections.specs.declared.fault.Refused.{Refused}
 use Rattle.bufr_sections.specs.declared.fault.Refused.TheVariants.{Section3Length, Section4Length}
 use Rattle.bufr_sections.specs.Sections as said
 
--- the sections as the definitions see them
+-- the sections as read
 abbrev pub envelope : Envelope → said.Envelope
 envelope e =
     record {
@@ -25,8 +24,8 @@ envelope e =
       contents = e.contents.now;
     }
 
--- the sections that are lent, of a message of so many subsets that has these octets behind the
--- fourth of section 4
+-- lent sections, of a message of `count` subsets with `contents` in section 4 from its fifth octet
+-- on
 abbrev pub envelope_lent : LentSections → ℕ → List ℕ → said.Envelope
 envelope_lent s count contents =
     record {
@@ -39,7 +38,7 @@ envelope_lent s count contents =
       contents = contents;
     }
 
--- the message of the sections that are lent and these subsets
+-- the message of lent sections and subsets
 abbrev pub message_lent : LentSections → List Subset → Message
 message_lent s subsets =
     record {
@@ -51,7 +50,7 @@ message_lent s subsets =
       subsets = subsets;
     }
 
--- what section 3 says
+-- section 3 as read
 abbrev pub description : Description → said.Description
 description s =
     record {
@@ -61,7 +60,7 @@ description s =
       descriptors = said.descriptors_of s.listed.now;
     }
 
--- the sections of what sections 1 to 3 say and of the octets of section 4 after its fourth
+-- the sections of a head, sections 2 and 3, and section 4 from its fifth octet on
 abbrev pub envelope_said : Head → Option (List ℕ) → said.Description → List ℕ → said.Envelope
 envelope_said head section2 description contents =
     record {
@@ -74,7 +73,7 @@ envelope_said head section2 description contents =
       contents = contents;
     }
 
--- the sections of what sections 1 and 2 say and of the room behind them, or the first fault
+-- the sections of a head, section 2 and the octets after it, or the first fault
 unfoldable pub envelope_behind : Head → Option (List ℕ) → List ℕ → Result said.Envelope Refused
 envelope_behind head section2 room = do
   three ← said.section_at 9 Section3Length room
@@ -83,8 +82,8 @@ envelope_behind head section2 room = do
   contents ← said.contents_of four
   Ok (envelope_said head section2 description contents)
 
--- the numbers of section 1 of edition 3 at their places behind its length, with these octets for
--- local use (octets 5 to 17)
+-- the head of edition 3 from section 1 after its length: octets 5 to 17, with these octets for
+-- local use
 abbrev pub head3_with : List ℕ → List ℕ → Head
 head3_with octets local =
     record {
@@ -105,8 +104,8 @@ head3_with octets local =
       local = local;
     }
 
--- the numbers of section 1 at their places behind its length, with these octets for local use (FM
--- 94 BUFR, section 1: octets 5 to 22)
+-- the head of edition 4 from section 1 after its length: octets 5 to 22, with these octets for
+-- local use
 abbrev pub head4_with : List ℕ → List ℕ → Head
 head4_with octets local =
     record {

@@ -1,4 +1,4 @@
-//! Whether octets that were read are those that are written for their sections.
+//! Compares octets with what `spell` writes for their sections.
 
 ghost use Rattle.std.specs.Prelude.{◌≡◌, ◌≢◌, ℕ, Ok, None, []};
 ghost use Rattle.std.specs.Bool.{OnTrue, OnFalse};
@@ -8,9 +8,8 @@ ghost use Rattle.bufr_sections.specs.Spelt.{spelt_or};
 
 use crate::lent_sections::LentSections;
 
-/// Whether octets of which these sections were read, with these octets in section 4 after its
-/// fourth, are what `spell` answers of them: edition 4, with nothing in what is free. It is asked of
-/// sections with no octets for local use and no section 2; of others it says no. It takes no memory.
+/// Whether `spell` writes exactly `octets` for the sections read from them. False if the message
+/// has a section 2, or octets for local use in section 1.
 pub fn are_bare(octets: &[u8], sections: &LentSections<'_>, contents: &[u8]) -> bool
     ensures spelt { (count : ℕ)
         → envelope_of octets.now ≡ Ok (envelope_lent sections.now count contents.now)
@@ -25,8 +24,8 @@ pub fn are_bare(octets: &[u8], sections: &LentSections<'_>, contents: &[u8]) -> 
     if sections.section2.is_some() || !sections.head.local.is_empty() {
         return false;
     }
-    // Sections 0 and 1 have 30 octets, and section 3 has 7 before its descriptors. In edition 3, or
-    // with an odd octet, the whole has another length.
+    // Sections 0 and 1 have 30 octets, section 3 has 7 and its descriptors. Edition 3 and an odd
+    // octet change the length.
     let place4 = 37 + 2 * sections.descriptors.len();
     if octets.len() <= place4 || octets.len() - place4 != contents.len() + 8 {
         return false;

@@ -1,24 +1,23 @@
-//! What the sections that were read say.
+//! The sections of a message, as read.
 
 use crate::message::Head;
-use bufr_answers::Items;
+use bufr_base::Items;
 
-/// What the sections that were read say. The octets of the descriptors, and those of section 4 after
-/// its fourth, are lent.
+/// A message's sections as read. Lends the octets of the descriptors and of section 4.
 #[derive(Debug, Drop)]
 pub struct Envelope<'a> {
     /// Section 1.
     pub head: Head,
-    /// The octets for local use of section 2, where there is one.
+    /// The octets for local use of section 2, if there is one.
     pub section2: Option<Items<u8>>,
-    /// Whether the data are observed.
+    /// The flag for observed data.
     pub observed: bool,
-    /// Whether the data are compressed.
+    /// The flag for compressed data.
     pub compressed: bool,
-    /// The octets of section 3 after its seventh: two a descriptor, and an odd last one is none.
+    /// The octets of section 3 from the eighth on: two for each descriptor, perhaps one more.
     pub listed: &'a [u8],
-    /// How many subsets are announced.
+    /// The number of subsets.
     pub count: u16,
-    /// The octets of section 4 after its fourth.
+    /// The octets of section 4 from the fifth on.
     pub contents: &'a [u8],
 }

@@ -1,41 +1,39 @@
-//! Why octets are refused, and why a message has none.
+//! Faults of messages. Each prints its number, its name and its values.
 
 ghost use Rattle.std.specs.Prelude.{Some};
 ghost use Rattle.bufr_sections.specs.EncodeReasons.{encode_reason};
 ghost use Rattle.bufr_sections.specs.Reasons.{reason};
 
 use bufr_expand::TemplateFault;
-use bufr_fields::{ReadFault, WriteFault};
+use bufr_fields::{DataFault, MisfitFault};
 use std::error::Error;
 use std::fmt;
 
-/// The first fault of octets that spell no message. Its text is the fault's number, its name and
-/// its values.
+/// A refusal: the first fault of octets that are no message.
 #[derive(Clone, Copy, Debug, PartialEq, Eq)]
 pub enum Refused {
-    /// There are fewer than 8 octets, or they don't begin with `BUFR`.
+    /// Fewer than 8 octets, or another start than `BUFR`.
     NotBufr,
-    /// The edition is this number, neither 3 nor 4.
+    /// An edition other than 3 and 4.
     Edition(u8),
-    /// The total length that is declared is not that of the octets.
+    /// A total length other than the number of octets.
     TotalLength,
-    /// The total length is below 12, or the last four octets are not `7777`.
+    /// A total length below 12, or another end than `7777`.
     NoEnd,
-    /// Section 1 is shorter than 22 octets (17 in edition 3), or longer than the room before
-    /// `7777`.
+    /// A section 1 of fewer than 22 octets (17 in edition 3), or past `7777`.
     Section1Length,
-    /// The master table is this one, not that of meteorology, 0.
+    /// A master table other than 0, meteorology.
     MasterTable(u8),
-    /// Section 2 is announced, and shorter than 4 octets or longer than the room that is left.
+    /// A section 2 of fewer than 4 octets, or past `7777`.
     Section2Length,
-    /// Section 3 is shorter than 9 octets, or longer than the room that is left.
+    /// A section 3 of fewer than 9 octets, or past `7777`.
     Section3Length,
-    /// Section 4 is shorter than 4 octets, or is not exactly the room that is left.
+    /// A section 4 of fewer than 4 octets, or with another end than `7777`.
     Section4Length,
-    /// The descriptors have no template.
+    /// Descriptors without a template.
     Template(TemplateFault),
-    /// The data bits are not those of the descriptors' fields.
-    Data(ReadFault),
+    /// Data bits other than those of the descriptors' fields.
+    Data(DataFault),
 }
 
 impl fmt::Display for Refused {
@@ -61,16 +59,15 @@ impl fmt::Display for Refused {
 
 impl Error for Refused {}
 
-/// The first fault of a message that has no octets. Its text is the fault's number, its name and
-/// its values.
+/// A fault of encoding: the first fault of a message that has no octets.
 #[derive(Clone, Copy, Debug, PartialEq, Eq)]
 pub enum EncodeFault {
-    /// There is no descriptor.
+    /// No descriptor.
     NoDescriptors,
-    /// The descriptors have no template.
+    /// Descriptors without a template.
     Template(TemplateFault),
-    /// The subsets don't fit the descriptors, or are too large.
-    Data(WriteFault),
+    /// Subsets that don't fit the descriptors, or are too large.
+    Data(MisfitFault),
 }
 
 impl fmt::Display for EncodeFault {

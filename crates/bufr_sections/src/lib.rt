@@ -1,5 +1,5 @@
-//! The sections of BUFR messages: what they say, and the octets that they stand in, with no regard
-//! to what the data bits mean.
+//! Reads and writes the sections of BUFR messages, whatever the data bits mean. A refused call
+//! changes nothing.
 #![tactic(auto)]
 
 mod bare;

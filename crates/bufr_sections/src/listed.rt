@@ -1,22 +1,20 @@
-//! The descriptors that the octets of section 3 list.
+//! The list of descriptors in section 3.
 
 ghost use Rattle.std.specs.Prelude.{◌≡◌, ◌≢◌, IfOk};
 ghost use Rattle.std.specs.Bool.{OnTrue, OnFalse};
 ghost use Rattle.bufr_sections.specs.Sections.{two, descriptors_of};
 
-use bufr_answers::{Items, OutOfMemory};
+use bufr_base::{Items, OutOfMemory};
 use bufr_tables::Fxy;
 use std::alloc::Global;
 
-/// The number of two octets.
 pub(crate) fn number_of_two(high: u8, low: u8) -> u16
     ensures { result ≡ two high low }
 {
     256 * high as u16 + low as u16
 }
 
-/// The descriptors of two octets each; an odd octet is none. `OutOfMemory` where a growth was
-/// refused.
+/// Reads descriptors of two octets each, without an odd octet.
 pub fn descriptors_of(alloc: Global, octets: &[u8]) -> Result<Items<Fxy>, OutOfMemory>
     ensures { IfOk result (λ list. list ≡ descriptors_of octets.now) }
 {
@@ -29,8 +27,7 @@ pub fn descriptors_of(alloc: Global, octets: &[u8]) -> Result<Items<Fxy>, OutOfM
     Ok(Items::from_vec(list))
 }
 
-/// Whether the descriptors of two octets each, where an odd octet is none, are these. Takes no
-/// memory.
+/// Whether octets list exactly these descriptors, an odd octet aside. Takes no memory.
 pub fn are_listed(octets: &[u8], descriptors: &[Fxy]) -> bool
     ensures same { OnTrue result (descriptors_of octets.now ≡ descriptors.now) }
     ensures others { OnFalse result (descriptors_of octets.now ≢ descriptors.now) }

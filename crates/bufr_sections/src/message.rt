@@ -1,17 +1,17 @@
 //! Messages.
 
-use bufr_answers::Items;
+use bufr_base::Items;
 use bufr_fields::Subset;
 use bufr_tables::Fxy;
 
-/// What section 1 says: where a message comes from, which tables it uses and when it was made.
+/// A section 1: where a message comes from, its tables and its time.
 #[derive(Debug, Drop, PartialEq)]
 pub struct Head {
     /// The originating centre.
     pub centre: u16,
     /// The originating sub-centre.
     pub sub_centre: u16,
-    /// The update sequence number, 0 for an original message.
+    /// The update sequence number; 0 for an original message.
     pub update: u8,
     /// The data category (Table A).
     pub category: u8,
@@ -25,7 +25,7 @@ pub struct Head {
     pub local_version: u8,
     /// The year.
     pub year: u16,
-    /// The month. None of the parts of the time is tested.
+    /// The month. No call tests the parts of the time.
     pub month: u8,
     /// The day of the month.
     pub day: u8,
@@ -35,20 +35,20 @@ pub struct Head {
     pub minute: u8,
     /// The second.
     pub second: u8,
-    /// The octets for local use, from the 23rd of the section on.
+    /// The octets for local use: from octet 23 on, in edition 3 from octet 18 on.
     pub local: Items<u8>,
 }
 
-/// A message: its sections 1 to 3, and its subsets.
+/// A message: sections 1 to 3, and the subsets.
 #[derive(Debug, Drop, PartialEq)]
 pub struct Message {
     /// Section 1.
     pub head: Head,
-    /// The octets for local use of section 2, where there is one.
+    /// The octets for local use of section 2, if there is one.
     pub section2: Option<Items<u8>>,
-    /// Whether the data are observed.
+    /// The flag for observed data.
     pub observed: bool,
-    /// Whether the data are compressed.
+    /// The flag for compressed data.
     pub compressed: bool,
     /// The descriptors of section 3.
     pub descriptors: Items<Fxy>,
@@ -56,12 +56,12 @@ pub struct Message {
     pub subsets: Items<Subset>,
 }
 
-/// A message that was read.
+/// A message as read.
 #[derive(Debug, Drop, PartialEq)]
 pub struct Decoded {
     /// The message.
     pub message: Message,
-    /// How many octets of section 4 stand after the one that holds the last data bit; all after its
-    /// fourth where there is no data bit.
+    /// How many octets of section 4 follow the last with a data bit. Without data bits, all from
+    /// the fifth on.
     pub slack_octets: u64,
 }

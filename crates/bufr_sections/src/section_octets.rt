@@ -1,4 +1,5 @@
-//! The octets of the sections.
+//! The octets of the sections. After a refused growth, `out` still begins with the octets that it
+//! had.
 
 ghost use Rattle.std.specs.Prelude.{◌≡◌, ◌+◌, ◌*◌, ◌<◌, ◌^◌, ◌++◌, ◌∷◌, length, take, drop, codes};
 ghost use Rattle.std.specs.Prelude.{OnOk, OnErr};
@@ -10,57 +11,49 @@ ghost use Rattle.bufr_sections.specs.Spelt.{bare_section3};
 ghost use Rattle.bufr_sections.specs.declared.layout.Layout.TheVariants.{Edition4};
 
 use crate::lent_sections::LentSections;
-use bufr_answers::{Items, OutOfMemory};
+use bufr_base::{Items, OutOfMemory};
 use bufr_tables::Fxy;
 
-/// The first of the two octets of a number.
 fn high(number: u16) -> u8
     ensures { result ≡ byte_at 1 number }
 {
     (number / 256) as u8
 }
 
-/// The second of the two octets of a number.
 fn low(number: u16) -> u8
     ensures { result ≡ byte_at 0 number }
 {
     (number % 256) as u8
 }
 
-/// The first of the three octets of a length.
 fn high_of_three(length: u64) -> u8
     ensures { result ≡ byte_at 2 length }
 {
     (length / 65536 % 256) as u8
 }
 
-/// The second of the three octets of a length.
 fn middle_of_three(length: u64) -> u8
     ensures { result ≡ byte_at 1 length }
 {
     (length / 256 % 256) as u8
 }
 
-/// The third of the three octets of a length.
 fn low_of_three(length: u64) -> u8
     ensures { result ≡ byte_at 0 length }
 {
     (length % 256) as u8
 }
 
-/// The weight of a flag that is up, else 0.
 fn flag(up: bool, weight: u8) -> u8
     ensures { result ≡ flag up weight }
 {
     if up { weight } else { 0 }
 }
 
-/// How many octets stand at fixed places before those for local use: section 0 and the first 22 of
-/// section 1.
+/// The number of octets before those for local use: section 0, and 22 of section 1.
 const BEFORE_LOCAL: usize = 30;
 
-/// The octets at fixed places: section 0, section 1 but for its octets for local use, and section 3
-/// but for its descriptors.
+/// Returns the octets at fixed places: sections 0, 1 and 3 without those of variable number.
 pub(crate) fn fixed_octets(sections: &LentSections<'_>, count: u16, total: u64) -> [u8; 37]
     requires local { 22 + length sections.now.head.now.local < 2 ^ 24 }
     requires listed { 7 + 2 * length sections.now.descriptors.now < 2 ^ 24 }
@@ -115,8 +108,7 @@ pub(crate) fn fixed_octets(sections: &LentSections<'_>, count: u16, total: u64) 
     ]
 }
 
-/// Adds the octets at fixed places, and between them the octets for local use and section 2: all
-/// before the descriptors. Where memory was refused, those that were there are still in front.
+/// Adds all octets before the descriptors.
 pub(crate) fn push_front(
     out: &mut Vec<u8>,
     sections: &LentSections<'_>,
@@ -139,8 +131,6 @@ pub(crate) fn push_front(
     out.extend_from_slice(end)
 }
 
-/// Adds section 2, where there is one. Where memory was refused, those that were there are still in
-/// front.
 fn push_section2(out: &mut Vec<u8>, local: &Option<Items<u8>>) -> Result<(), OutOfMemory>
     requires { length (section2 local.now 0) < 2 ^ 24 }
     ensures ok { OnOk result (out.new.items ≡ out.old.items ++ section2 local.now 0) }
@@ -152,8 +142,7 @@ fn push_section2(out: &mut Vec<u8>, local: &Option<Items<u8>>) -> Result<(), Out
     }
 }
 
-/// Adds a section whose fourth octet is reserved, section 2 or section 4, with these octets behind
-/// it. Where memory was refused, those that were there are still in front.
+/// Adds section 2 or section 4: its length, a reserved octet, and `contents`.
 pub(crate) fn push_section(out: &mut Vec<u8>, contents: &[u8]) -> Result<(), OutOfMemory>
     requires { 4 + length contents.now < 2 ^ 24 }
     ensures ok { OnOk result (out.new.items ≡ out.old.items ++ section (0 ∷ contents.now)) }
@@ -170,8 +159,6 @@ pub(crate) fn push_section(out: &mut Vec<u8>, contents: &[u8]) -> Result<(), Out
     out.extend_from_slice(contents)
 }
 
-/// Adds descriptors of two octets each. Where memory was refused, the octets that were there are
-/// still in front.
 pub(crate) fn push_descriptors(out: &mut Vec<u8>, descriptors: &[Fxy]) -> Result<(), OutOfMemory>
     ensures ok { OnOk result
         (out.new.items ≡ out.old.items ++ flat_map (bytes_high_first 2) descriptors.now) }

@@ -1,7 +1,7 @@
-//! The sections of a message, with no regard to what the data bits mean.
+//! Reads the sections from the left, to the first fault.
 
 ghost use Rattle.std.specs.Prelude.{◌≡◌, List, ℕ, Bool, Option, ◌≤◌, drop, IfOk, IfErr};
-ghost use Rattle.bufr_answers.specs.Answers.{Gives, Fails};
+ghost use Rattle.bufr_base.specs.Answers.{Gives, Fails};
 ghost use Rattle.bufr_sections.specs.declared.message.Head.{Head};
 ghost use Rattle.bufr_sections.specs.Sections.{three, section_at, room_of, head4_of, head3_of};
 ghost use Rattle.bufr_sections.specs.Sections.{head_of, year_of_century, section2_at};
@@ -14,10 +14,10 @@ use crate::fault::Refused;
 use crate::layout::Layout;
 use crate::listed::number_of_two;
 use crate::message::Head;
-use bufr_answers::{Failure, Items};
+use bufr_base::{Failure, Items};
 use std::alloc::Global;
 
-/// What section 3 says.
+/// A section 3 without its reserved octet.
 #[derive(Debug, Drop)]
 struct Description<'a> {
     count: u16,
@@ -26,14 +26,13 @@ struct Description<'a> {
     listed: &'a [u8],
 }
 
-/// The number of three octets.
 fn number_of_three(high: u8, middle: u8, low: u8) -> usize
     ensures { result ≡ three high middle low }
 {
     65536 * high as usize + 256 * middle as usize + low as usize
 }
 
-/// The layout of the edition, and the room between section 0 and `7777`.
+/// Reads section 0 and the end. Returns the layout, and the octets between them.
 #[tactic(auto, unfolding(crate::specs::Sections::room_of, crate::specs::Sections::room_in))]
 fn room_of(octets: &[u8]) -> Result<(Layout, &[u8]), Failure<Refused>>
     ensures { Gives {Y = Layout × List ℕ} (λ x. (x.0, x.1.now)) result (room_of octets.now) }
@@ -62,8 +61,8 @@ fn room_of(octets: &[u8]) -> Result<(Layout, &[u8]), Failure<Refused>>
     Ok((layout, room))
 }
 
-/// A section of at least so many octets at the front of the room: what stands behind its length,
-/// and the room that is left.
+/// Splits off a section of at least `shortest` octets. Returns its octets after the length, and the
+/// octets after it.
 #[tactic(auto, unfolding(crate::specs::Sections::section_at))]
 fn section_at(
     shortest: usize,
@@ -86,7 +85,6 @@ fn section_at(
     }
 }
 
-/// What stands behind the first octet, which is reserved.
 fn behind_first(octets: &[u8]) -> &[u8]
     ensures { result.now ≡ drop 1 octets.now }
 {
@@ -96,7 +94,7 @@ fn behind_first(octets: &[u8]) -> &[u8]
     }
 }
 
-/// The year of an octet that has the year of the century: below 70 it is of this century.
+/// Completes a year of the century: 0 to 69 become 2000 to 2069, others count from 1900.
 fn year_of_century(octet: u8) -> u16
     ensures { result ≡ year_of_century octet }
 {
@@ -107,7 +105,7 @@ fn year_of_century(octet: u8) -> u16
     }
 }
 
-/// Section 1 of edition 3 behind its length: what it says, and whether section 2 is announced.
+/// Reads section 1 of edition 3 after its length, and whether section 2 follows.
 #[tactic(auto, unfolding(crate::specs::Sections::head3_of))]
 fn head3_of(alloc: Global, octets: &[u8]) -> Result<(Head, bool), Failure<Refused>>
     ensures { Gives {Y = Head × Bool} (λ x. (x.0, x.1)) result (head3_of octets.now) }
@@ -156,7 +154,7 @@ fn head3_of(alloc: Global, octets: &[u8]) -> Result<(Head, bool), Failure<Refuse
     Ok((head, *flags >= 128))
 }
 
-/// Section 1 of edition 4 behind its length: what it says, and whether section 2 is announced.
+/// Reads section 1 of edition 4 after its length, and whether section 2 follows.
 #[tactic(auto, unfolding(crate::specs::Sections::head4_of))]
 fn head4_of(alloc: Global, octets: &[u8]) -> Result<(Head, bool), Failure<Refused>>
     ensures { Gives {Y = Head × Bool} (λ x. (x.0, x.1)) result (head4_of octets.now) }
@@ -210,7 +208,6 @@ fn head4_of(alloc: Global, octets: &[u8]) -> Result<(Head, bool), Failure<Refuse
     Ok((head, *flags >= 128))
 }
 
-/// Section 1 behind its length: what it says, and whether section 2 is announced.
 fn head_of(alloc: Global, layout: Layout, octets: &[u8]) -> Result<(Head, bool), Failure<Refused>>
     ensures { Gives {Y = Head × Bool} (λ x. (x.0, x.1)) result (head_of layout octets.now) }
 {
@@ -220,7 +217,7 @@ fn head_of(alloc: Global, layout: Layout, octets: &[u8]) -> Result<(Head, bool),
     }
 }
 
-/// The octets for local use of section 2, where it is announced, and the room that is left.
+/// Reads section 2, if section 1 announces it. Returns also the octets after it.
 fn section2_at(
     alloc: Global,
     announced: bool,
@@ -237,7 +234,6 @@ fn section2_at(
     Ok((Some(local), left))
 }
 
-/// Section 3 behind its length.
 #[tactic(auto, unfolding(crate::specs::Sections::description_of))]
 fn description_of(octets: &[u8]) -> Result<Description<'_>, Failure<Refused>>
     ensures { Gives description result (description_of octets.now) }
@@ -253,8 +249,8 @@ fn description_of(octets: &[u8]) -> Result<Description<'_>, Failure<Refused>>
     })
 }
 
-/// What sections 1 and 2 say, and the room behind them.
-// A call would move the head through memory once more.
+/// Reads sections 0 to 2. Returns also the octets between section 2 and `7777`.
+// A call would copy the head once more.
 #[inline(always)]
 #[tactic(auto, unfolding(crate::specs::Sections::envelope_of, crate::specs::Sections::sections_of, crate::specs::SectionsRead::envelope_behind))]
 fn front_of(
@@ -271,7 +267,7 @@ fn front_of(
     Ok((head, section2, room))
 }
 
-/// What section 3 says, and the octets of section 4 after its fourth: the two fill the room.
+/// Reads sections 3 and 4, which have to fill `room`. Returns section 4 from its fifth octet on.
 #[inline(always)]
 #[tactic(auto, unfolding(crate::specs::SectionsRead::envelope_behind))]
 fn described_of(room: &[u8]) -> Result<(Description<'_>, &[u8]), Failure<Refused>>
@@ -288,8 +284,7 @@ fn described_of(room: &[u8]) -> Result<(Description<'_>, &[u8]), Failure<Refused
     Ok((description, behind_first(four)))
 }
 
-/// What octets say that are the sections of a message, or the first cause, of M1 to M9, for which
-/// they are refused; memory may run out.
+/// Reads the sections of a message. Returns what they hold, or the first fault of M1 to M9.
 pub fn read_sections(alloc: Global, octets: &[u8]) -> Result<Envelope<'_>, Failure<Refused>>
     ensures { Gives envelope result (envelope_of octets.now) }
 {

@@ -1,24 +1,23 @@
-//! The octets of a whole message: section 0, its sections, and `7777`.
+//! Writes a whole message, from `BUFR` to `7777`.
 
 ghost use Rattle.std.specs.Prelude.{◌≡◌, ℕ, ◌<◌, ◌^◌, ◌++◌, length, take, OnOk, OnErr};
-ghost use Rattle.bufr_answers.specs.Answers.{Gives, result_map};
+ghost use Rattle.bufr_base.specs.Answers.{Gives, result_map};
 ghost use Rattle.bufr_sections.specs.Sections.{section2};
 ghost use Rattle.bufr_sections.specs.SectionsRead.{envelope_lent};
 ghost use Rattle.bufr_sections.specs.Spelt.{bare, spelt_or};
 
 use crate::lent_sections::LentSections;
 use crate::section_octets::{fixed_octets, push_descriptors, push_front, push_section};
-use bufr_answers::{Failure, Items, OutOfMemory};
-use bufr_fields::WriteFault;
+use bufr_base::{Failure, Items, OutOfMemory};
+use bufr_fields::MisfitFault;
 use std::alloc::Global;
 
-/// The greatest number of octets of a message: it stands in three octets of section 0.
+/// The most octets of a message; section 0 has three octets for their number.
 pub const LONGEST: u128 = 16_777_215;
 
-/// The greatest number of subsets of a message: it stands in two octets of section 3.
+/// The most subsets of a message; section 3 has two octets for their number.
 pub const MOST_SUBSETS: usize = 65_535;
 
-/// How many octets section 2 has: none where there is none.
 fn section2_length(local: &Option<Items<u8>>) -> u128
     ensures value { result ≡ length (section2 local.now 0) }
     ensures small { result < 2 ^ 65 }
@@ -29,7 +28,6 @@ fn section2_length(local: &Option<Items<u8>>) -> u128
     }
 }
 
-/// How many octets a message of these sections has, whatever the number of its subsets.
 #[tactic(auto, using(crate::proofs::LengthFacts::length_of_spelling))]
 fn total_length(sections: &LentSections<'_>, contents: &[u8]) -> u128
     ensures { (count : ℕ)
@@ -41,15 +39,15 @@ fn total_length(sections: &LentSections<'_>, contents: &[u8]) -> u128
         + contents.len() as u128
 }
 
-/// The octets of a message of these sections and so many subsets, with these octets in section 4
-/// after its fourth, in edition 4 with nothing in what is free. `TooLarge` where it has more than
-/// 65,535 subsets or 16,777,215 octets; memory may run out.
+/// Returns the octets of a message of `count` subsets in edition 4, with zeros in all that readers
+/// ignore. `contents` are section 4 from its fifth octet on. `TooLarge` for more than 65,535
+/// subsets or 16,777,215 octets.
 pub fn spell(
     alloc: Global,
     sections: &LentSections<'_>,
     count: usize,
     contents: &[u8],
-) -> Result<Vec<u8>, Failure<WriteFault>>
+) -> Result<Vec<u8>, Failure<MisfitFault>>
     ensures { Gives (λ v. v.items) result
         (spelt_or (envelope_lent sections.now count contents.now)) }
 {
@@ -58,22 +56,21 @@ pub fn spell(
     Ok(out)
 }
 
-/// Puts the octets that `spell` answers behind others. `TooLarge` as there; memory may run out. The
-/// others are then as they were.
+/// Adds the octets that `spell` returns, with its faults.
 #[tactic(auto, unfolding(crate::specs::Spelt::spelt_or))]
 pub fn spell_behind(
     out: &mut Vec<u8>,
     sections: &LentSections<'_>,
     count: usize,
     contents: &[u8],
-) -> Result<(), Failure<WriteFault>>
+) -> Result<(), Failure<MisfitFault>>
     ensures exact { Gives (λ _. out.new.items) result (result_map (λ o. out.old.items ++ o)
         (spelt_or (envelope_lent sections.now count contents.now))) }
     ensures err { OnErr result (out.new.items ≡ out.old.items) }
 {
     let length = total_length(sections, contents);
     if count > MOST_SUBSETS || length > LONGEST {
-        return Err(Failure::Fault(WriteFault::TooLarge));
+        return Err(Failure::Fault(MisfitFault::TooLarge));
     }
     out.reserve(length as usize)?;
     let held = out.len();
@@ -85,8 +82,6 @@ pub fn spell_behind(
     Ok(())
 }
 
-/// Adds all of a message of these sections, which has so many octets. Where memory was refused,
-/// those that were there are still in front.
 fn push_sections(
     out: &mut Vec<u8>,
     sections: &LentSections<'_>,

@@ -1,9 +1,8 @@
-//! Worked examples of the definitions: the place of each octet, and each length at both sides of
-//! its threshold.
+//! Worked examples of sections.
 
 ghost use Rattle.std.specs.Prelude.{◌≡◌, ◌++◌, Ok, Err, IsOk, Some, None, true, false, [], ◌∷◌};
 ghost use Rattle.std.specs.Prelude.{take, codes, map};
-ghost use Rattle.bufr_fields.specs.declared.fault.WriteFault.TheVariants.{TooLarge};
+ghost use Rattle.bufr_fields.specs.declared.fault.MisfitFault.TheVariants.{TooLarge};
 ghost use Rattle.bufr_sections.specs.Sections.{three, two, layout_of, year_of_century, envelope_of};
 ghost use Rattle.bufr_sections.specs.Sections.{descriptors_of};
 ghost use Rattle.bufr_sections.specs.Spelt.{bare, spelt_or, longest};
@@ -16,7 +15,7 @@ ghost use Rattle.bufr_sections.specs.Samples.{octets3_local};
 
 use crate::fault::Refused;
 
-/// Numbers of two and of three octets, the high octet first (94.1).
+/// Numbers of two and of three octets (94.1).
 #[tactic(auto, unfolding(crate::specs::Sections::descriptors_of))]
 pub fn numbers()
     ensures of_three { three 1 2 3 ≡ 66051 }
@@ -25,7 +24,7 @@ pub fn numbers()
     ensures longest { longest ≡ three 255 255 255 }
 {}
 
-/// Sections of edition 4 that are read: what stands at each place, each flag, and what is ignored.
+/// Reads edition 4: each place, each flag, and what readers ignore.
 #[tactic(auto, unfolding(crate::proofs::OnLiterals::sections_on_literals))]
 pub fn sections_read()
     ensures observed { envelope_of (octets4 (codes "80")) ≡ Ok (said4 true false) }
@@ -35,7 +34,7 @@ pub fn sections_read()
     ensures ignored { envelope_of octets4_filled ≡ Ok (said4 true false) }
 {}
 
-/// Sections that are written.
+/// Writes edition 4.
 #[tactic(auto, unfolding(crate::proofs::OnLiterals::sections_on_literals))]
 pub fn sections_written()
     ensures observed { bare (said4 true false) ≡ octets4 (codes "80") }
@@ -44,7 +43,7 @@ pub fn sections_written()
     ensures many { spelt_or (many_subsets 65536) ≡ Err TooLarge }
 {}
 
-/// Sections of edition 3 that are read.
+/// Reads edition 3, and years of the century.
 #[tactic(auto, unfolding(crate::proofs::OnLiterals::sections_on_literals))]
 pub fn edition_3_read()
     ensures read { envelope_of octets3 ≡ Ok (said3 None) }
@@ -53,12 +52,13 @@ pub fn edition_3_read()
     ensures year_70 { year_of_century 70 ≡ 1970 }
     ensures year_99 { year_of_century 99 ≡ 1999 }
     ensures year_100 { year_of_century 100 ≡ 2000 }
+    ensures year_101 { year_of_century 101 ≡ 2001 }
+    ensures year_255 { year_of_century 255 ≡ 2155 }
     ensures edition_2 { layout_of 2 ≡ None }
     ensures edition_5 { layout_of 5 ≡ None }
 {}
 
-/// Each edition with and without section 2, and with each pair of flags. Of the octet of section 1
-/// that announces section 2 the first bit alone is asked, and of section 3's octet 7 the first two.
+/// Each edition with and without section 2, and with each pair of flags.
 #[tactic(auto, unfolding(crate::proofs::OnLiterals::sections_on_literals))]
 pub fn editions_and_flags()
     ensures edition_4 { said_by octets4 ≡ says_each said4 }
@@ -72,7 +72,7 @@ pub fn editions_and_flags()
         ≡ map (octets4_without (codes "00")) flag_pairs }
 {}
 
-/// Where octets give two causes, the first in their order is answered: each beside the next.
+/// Of two causes, reading returns the first.
 #[tactic(auto, unfolding(crate::proofs::OnLiterals::sections_on_literals))]
 pub fn order_of_refusals()
     ensures start_before_edition { envelope_of (hex (codes "42554653 00000C 05 37373737"))
@@ -106,7 +106,7 @@ pub fn order_of_refusals()
         ≡ Err Refused.Section3Length }
 {}
 
-/// Sections 0 that are refused, and the end.
+/// Refusals of section 0 and the end.
 #[tactic(auto, unfolding(crate::proofs::OnLiterals::sections_on_literals))]
 pub fn starts_refused()
     ensures seven_octets { envelope_of (hex (codes "42554652 000007")) ≡ Err Refused.NotBufr }
@@ -121,7 +121,7 @@ pub fn starts_refused()
         ≡ Err Refused.Section1Length }
 {}
 
-/// Sections 1 that are refused: an octet too few in each edition, and another master table.
+/// Refusals of section 1: its length, and another master table.
 #[tactic(auto, unfolding(crate::proofs::OnLiterals::sections_on_literals))]
 pub fn sections_1_refused()
     ensures short { envelope_of (framed (codes "000021 04")
@@ -142,8 +142,7 @@ pub fn sections_1_refused()
         ≡ Err (Refused.MasterTable 10) }
 {}
 
-/// Sections 2, 3 and 4 that are refused: an octet too few in each, and one too many behind the
-/// last.
+/// Refusals of sections 2, 3 and 4: one octet too few, and one after the last.
 #[tactic(auto, unfolding(crate::proofs::OnLiterals::sections_on_literals))]
 pub fn later_sections_refused()
     ensures short2 { envelope_of (framed (codes "000025 04") (announcing1 ++ hex (codes "000003")))

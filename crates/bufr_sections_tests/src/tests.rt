@@ -1,6 +1,6 @@
-//! Sections that are read and written. Octets and answers are typed from the rules of the format.
+//! Reads and writes sections.
 
-use bufr_answers::Items;
+use bufr_base::Items;
 use bufr_sections::{
     Envelope, Head, LentSections, are_listed, descriptors_of, read_sections, spell, spell_behind,
 };
@@ -9,7 +9,7 @@ use std::alloc::Global;
 use std::fmt::Debug;
 use std::process::Abort;
 
-/// Sections of edition 4 in which all numbers differ, and a section 2.
+/// Sections of edition 4 with different numbers and a section 2.
 const EDITION_4: &str = "\
 42554652 00003B 04
 000018 00 0102 0304 05 80 06 07 08 09 0A 0B0C 0D 0E 0F 10 11 1213
@@ -18,7 +18,7 @@ const EDITION_4: &str = "\
 000007 00 1B1C1D
 37373737";
 
-/// The same without section 2.
+/// `EDITION_4` without section 2.
 const WITHOUT_SECTION_2: &str = "\
 42554652 000036 04
 000018 00 0102 0304 05 00 06 07 08 09 0A 0B0C 0D 0E 0F 10 11 1213
@@ -26,7 +26,7 @@ const WITHOUT_SECTION_2: &str = "\
 000007 00 1B1C1D
 37373737";
 
-/// The same with section 2, and no octets for local use in section 1.
+/// `EDITION_4` without octets for local use in section 1.
 const WITHOUT_LOCAL: &str = "\
 42554652 000039 04
 000016 00 0102 0304 05 80 06 07 08 09 0A 0B0C 0D 0E 0F 10 11
@@ -35,7 +35,7 @@ const WITHOUT_LOCAL: &str = "\
 000007 00 1B1C1D
 37373737";
 
-/// The same with neither.
+/// `EDITION_4` with neither.
 const WITH_NEITHER: &str = "\
 42554652 000034 04
 000016 00 0102 0304 05 00 06 07 08 09 0A 0B0C 0D 0E 0F 10 11
@@ -43,7 +43,7 @@ const WITH_NEITHER: &str = "\
 000007 00 1B1C1D
 37373737";
 
-/// The sections of edition 4 with ones in all that is ignored, and an odd octet in section 3.
+/// `EDITION_4` with ones in all that readers ignore, and an odd octet in section 3.
 const EDITION_4_FILLED: &str = "\
 42554652 00003C 04
 000018 00 0102 0304 05 FF 06 07 08 09 0A 0B0C 0D 0E 0F 10 11 1213
@@ -52,8 +52,8 @@ const EDITION_4_FILLED: &str = "\
 000007 FF 1B1C1D
 37373737";
 
-/// The octets that hexadecimal digits are, spaces between them. `S1` stands for the usual section
-/// 1, and `NONE` for no octets.
+/// Decodes hexadecimal digits with spaces between them. `S1` is the usual section 1, `NONE` no
+/// octets.
 fn octets(rt: &impl Abort, alloc: Global, text: &str) -> Vec<u8> {
     let mut digits = String::new(alloc);
     for word in text.split_whitespace() {
@@ -67,7 +67,6 @@ fn octets(rt: &impl Abort, alloc: Global, text: &str) -> Vec<u8> {
     hex::decode(alloc, digits.as_str()).expect(rt, "an answer")
 }
 
-/// The head of the sections of edition 4.
 fn head_4(rt: &impl Abort, alloc: Global) -> Head {
     Head {
         centre: 258,
@@ -88,18 +87,15 @@ fn head_4(rt: &impl Abort, alloc: Global) -> Head {
     }
 }
 
-/// Section 2 of the sections of edition 4.
 fn section2_4(rt: &impl Abort, alloc: Global) -> Option<Items<u8>> {
     Some(Items::from_vec(octets(rt, alloc, "14")))
 }
 
-/// The descriptors of the sections of edition 4.
 fn descriptors_4() -> [Fxy; 2] {
     [Fxy::from_bits(0x1718), Fxy::from_bits(0x191A)]
 }
 
-/// What the sections of a message say, with the number of its subsets and the octets of section 4
-/// after its fourth.
+/// A message's sections, with the number of subsets and the octets of section 4.
 #[derive(Clone, Copy)]
 struct Said<'a> {
     sections: LentSections<'a>,
@@ -107,7 +103,6 @@ struct Said<'a> {
     contents: &'a [u8],
 }
 
-/// What the sections of edition 4 say, with these sections 1 and 2, and these descriptors.
 fn said_4<'a>(head: &'a Head, section2: &'a Option<Items<u8>>, descriptors: &'a [Fxy]) -> Said<'a> {
     let sections = LentSections {
         head,
@@ -123,20 +118,17 @@ fn said_4<'a>(head: &'a Head, section2: &'a Option<Items<u8>>, descriptors: &'a 
     }
 }
 
-/// Stops the test where the two differ. It is a function, since a comparison written out in a test
-/// makes the proof of that test more than twice as long.
+/// Stops the test if the two differ. Inline it would lengthen the proof.
 fn same<T: PartialEq + Debug + Drop>(rt: &impl Abort, found: T, wanted: T) {
     assert_eq!(rt; found, wanted);
 }
 
-/// The octets list these descriptors.
 fn assert_listed(rt: &impl Abort, alloc: Global, octets: &[u8], wanted: &[Fxy]) {
     let list = descriptors_of(alloc, octets).expect(rt, "an answer");
     same(rt, list.as_slice(), wanted);
     same(rt, are_listed(octets, wanted), true);
 }
 
-/// The sections that were read say this.
 fn assert_found(rt: &impl Abort, alloc: Global, found: &Envelope<'_>, wanted: &Said<'_>) {
     let sections = &wanted.sections;
     same(rt, &found.head, sections.head);
@@ -148,7 +140,6 @@ fn assert_found(rt: &impl Abort, alloc: Global, found: &Envelope<'_>, wanted: &S
     assert_listed(rt, alloc, found.listed, sections.descriptors);
 }
 
-/// The sections of the octets that hexadecimal digits are say this.
 fn assert_read(rt: &impl Abort, alloc: Global, text: &str, wanted: &Said<'_>) {
     let all = octets(rt, alloc, text);
     let found = read_sections(alloc, all.as_slice()).expect(rt, "an answer");
@@ -165,7 +156,6 @@ fn each_octet_at_its_place(rt: HostRuntime) {
     assert_read(&rt, alloc, EDITION_4_FILLED, &said);
 }
 
-/// What is written so is the octets that hexadecimal digits are.
 fn assert_spelt(rt: &impl Abort, alloc: Global, said: &Said<'_>, text: &str) {
     let written = spell(alloc, &said.sections, said.count, said.contents).expect(rt, "an answer");
     let wanted = octets(rt, alloc, text);
@@ -173,7 +163,7 @@ fn assert_spelt(rt: &impl Abort, alloc: Global, said: &Said<'_>, text: &str) {
     assert_behind(rt, alloc, said, wanted.as_slice());
 }
 
-/// What is written so behind two other octets is these, and the two stay.
+/// `spell_behind` adds `wanted`, and keeps two octets before it.
 fn assert_behind(rt: &impl Abort, alloc: Global, said: &Said<'_>, wanted: &[u8]) {
     let mut out = octets(rt, alloc, "1C1D");
     spell_behind(&mut out, &said.sections, said.count, said.contents).expect(rt, "an answer");
@@ -182,8 +172,7 @@ fn assert_behind(rt: &impl Abort, alloc: Global, said: &Said<'_>, wanted: &[u8])
     same(rt, out.as_slice().get(2..), Some(wanted));
 }
 
-/// Octets for local use, whether there is a section 2, and the sections that are written with
-/// these.
+/// Octets for local use, whether there is a section 2, and the message.
 const WRITTEN: &[(&str, bool, &str)] = &[
     ("1213", true, EDITION_4),
     ("1213", false, WITHOUT_SECTION_2),
@@ -191,7 +180,7 @@ const WRITTEN: &[(&str, bool, &str)] = &[
     ("NONE", false, WITH_NEITHER),
 ];
 
-/// The sections with these octets for local use, and with section 2 or without, are written so.
+/// `spell` writes `wanted` for sections with these octets for local use, with or without section 2.
 fn assert_row(rt: &impl Abort, alloc: Global, local: &str, has_section2: bool, wanted: &str) {
     let mut head = head_4(rt, alloc);
     head.local = Items::from_vec(octets(rt, alloc, local));

@@ -1,6 +1,5 @@
--- The lemmas behind the contracts and laws of this crate: keys, pairs in order, and both shelves.
-pub mod AheadLemmas
-pub mod PageLemmas
+-- The lemmas behind both shelves: keys, and pairs in order.
+pub mod GatheredFacts
 pub mod PairLemmas
 pub mod PutLemmas
 pub mod ShelvedLemmas

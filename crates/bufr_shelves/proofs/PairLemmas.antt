@@ -1,5 +1,4 @@
--- Pairs of key and value in order of keys: what is put in and found among them. For the functions
--- of ordered maps below `MapShelf`.
+-- Pairs in order of keys, put in and found: for the maps of `MapShelf`.
 use Rattle.std.proofs.Common.{◌≡◌, Bool, true, false, cond, not, ◌&&◌, ◌||◌, Option, Some, None}
 use Rattle.std.proofs.Common.{Result, Ok, Err, OnOk, OnErr, IfOk, IfNone, MatchResult, List, []}
 use Rattle.std.proofs.Common.{◌∷◌, ◌++◌, map, find, filter, refl, sym, ap, ◌∙◌, subst}
@@ -16,25 +15,22 @@ use Rattle.std.proofs.lemmas.Map.Entries.{none_below_head}
 use Rattle.std.proofs.lemmas.Map.Keys.{sorted_head, sorted_tail}
 use Rattle.std.specs.declared.cmp.Ordering.{Ordering}
 use Rattle.std.specs.declared.cmp.Ordering.TheVariants.{Less, Equal, Greater}
-use Rattle.bufr_shelves.specs.Keeping.{put_by, put_all, changes_by, first_of}
-use Rattle.bufr_shelves.specs.KeepingLaws.{put_less, put_equal, put_greater}
+use Rattle.bufr_entries.specs.Keeping.{put_by, put_all, changes_by, first_of}
+use Rattle.bufr_entries.specs.KeepingLaws.{put_less, put_equal, put_greater}
 use Rattle.bufr_shelves.specs.Pairs.{by_key, by_value}
 
 module _ {K V : Type 0} (c : K → K → Ordering) (d : V → V → Ordering) where
-  -- one more pair put in at the end
   pub put_all-push : (es fs : List (K × V)) (p : K × V)
       → put_all (by_key c) (by_value d) es (fs ++ p ∷ [])
       ≡ put_by (by_key c) (by_value d) p (put_all (by_key c) (by_value d) es fs)
   put_all-push es [] p = refl
   put_all-push es (f ∷ fs) p = put_all-push (put_by (by_key c) (by_value d) f es) fs p
 
-  -- a key that is not the first is looked up further on
   lookup_past : (k : K) (e : K × V) (es : List (K × V)) → is_eq (c k e.0) ≡ false
       → lookup (is_at (c k)) (e ∷ es) ≡ lookup (is_at (c k)) es
   lookup_past k e es h = rw h refl
 
   module _ (exact : (x y : K) → c x y ≡ Equal → x ≡ y) where
-    -- a value that is greater than the one there goes in as into a map
     pub put-insert : (k : K) (v : V) (es : List (K × V))
         → ((w : V) → lookup (is_at (c k)) es ≡ Some w → d v w ≡ Greater) →
         put_by (by_key c) (by_value d) (k, v) es ≡ insert_entry c es k v
@@ -62,7 +58,6 @@ module _ {K V : Type 0} (c : K → K → Ordering) (d : V → V → Ordering) wh
         ] refl
 
   module _ (o : IsTotalOrder c) where
-    -- one that is not leaves the list
     pub put-same : (k : K) (v w : V) (es : List (K × V)) → IsStrictlySortedBy c (keys_of es)
         → lookup (is_at (c k)) es ≡ Some w → is_gt (d v w) ≡ false →
         put_by (by_key c) (by_value d) (k, v) es ≡ es
@@ -125,13 +120,11 @@ module _ {K V : Type 0} (c : K → K → Ordering) (d : V → V → Ordering) wh
               (λ w l. h w (lookup_past k e es (ap is_eq q) ∙ l))
         ] refl
 
-    -- one that is greater changes the list
     pub changes_new : (k : K) (v : V) (es : List (K × V)) → IsStrictlySortedBy c (keys_of es)
         → ((w : V) → lookup (is_at (c k)) es ≡ Some w → d v w ≡ Greater) →
         true ≡ changes_by (by_key c) (by_value d) es (k, v)
     changes_new k v es s h = sym (ap not (any_new k v es s h))
 
-  -- a value that is not greater than the one at its key is passed by that
   any_old : (k : K) (v w : V) (es : List (K × V)) → lookup (is_at (c k)) es ≡ Some w → is_gt (d v w)
       ≡ false →
       list_any (λ f. is_eq (by_key c (k, v) f) && not (is_gt (by_value d (k, v) f))) es ≡ true
@@ -153,14 +146,12 @@ module _ {K V : Type 0} (c : K → K → Ordering) (d : V → V → Ordering) wh
             ∙ any_old k v w es (sym (lookup_past k e es q) ∙ l) h
       ] refl
 
-  -- one that is not greater changes nothing
   pub changes_old : (k : K) (v w : V) (es : List (K × V)) → lookup (is_at (c k)) es ≡ Some w
       → is_gt (d v w) ≡ false → false ≡ changes_by (by_key c) (by_value d) es (k, v)
   changes_old k v w es l h = sym (ap not (any_old k v w es l h))
 
 -- ---- the first that passes a test
 
--- the first of those that pass a test is the first that passes
 pub find-filter : {A : Type 0} (p q : A → Bool) → ((x : A) → q x ≡ p x) → (xs : List A)
     → first_of (filter q xs) ≡ find p xs
 find-filter p q same [] = refl
@@ -169,7 +160,6 @@ find-filter p q same (x ∷ xs) =
     (elim (p x) as (λ b. first_of (cond b (x ∷ filter q xs) (filter q xs))
     ≡ cond b (Some x) (find p xs)) [ true ↦ refl | false ↦ find-filter p q same xs ])
 
--- what a look-up finds is the first pair that passes
 pub find-lookup : {A K V : Type 0} (c : K → Ordering) (f : A → K) (h : A → V) (es : List (K × V))
     (r : Option A) →
     option_map f r ≡ lookup_key (is_at c) es → option_map h r ≡ lookup (is_at c) es
@@ -189,63 +179,52 @@ find-lookup {A} {K} {V} c f h (e ∷ es) r a b =
       | false ↦ λ a b. find-lookup c f h es r a b
     ] a b
 
--- the first pair that an iterator yields
 pub first-taken : {A X : Type 0} (shows : A → X) (s t : List X) (r : Option A)
     → TakesFirst shows s r t → option_map shows r ≡ first_of s
 first-taken shows s t None h = sym (ap first_of h.0)
 first-taken shows s t (Some x) h = sym (ap first_of h)
 
--- a test that is followed by one that is true
 pub and-true : (b : Bool) → (b && true) ≡ b
 and-true true = refl
 and-true false = refl
 
--- a greater value as its order
 pub gt-is : (o : Ordering) → is_gt o ≡ true → o ≡ Greater
 gt-is Less h = cc
 gt-is Equal h = cc
 gt-is Greater h = refl
 
--- what follows from either answer
 pub from_result : {A E : Type 0} (r : Result A E) (P Q R : Type 0) → (P → R) → (Q → R) → OnOk r P
     → OnErr r Q → R
 from_result (Ok a) P Q R f g p q = f p
 from_result (Err e) P Q R f g p q = g q
 
--- what follows where the answer is `Ok`
 pub on_ok : {A E : Type 0} (r : Result A E) (P Q : Type 0) → (P → Q) → OnOk r P → OnOk r Q
 on_ok (Ok a) P Q f p = f p
 on_ok (Err e) P Q f p = p
 
--- the same of its value
 pub if_ok : {A E : Type 0} (r : Result A E) (P Q : A → Type 0) → ((a : A) → P a → Q a) → IfOk r P
     → IfOk r Q
 if_ok (Ok a) P Q f p = f a p
 if_ok (Err e) P Q f p = p
 
--- what follows from a match on the answer
 pub from_match : {A E : Type 0} (r : Result A E) (P Q : A → Type 0) (F : E → Type 0)
     → ((a : A) → P a → Q a) → MatchResult r P F → IfOk r Q
 from_match (Ok a) P Q F f p = f a p
 from_match (Err e) P Q F f p = tt
 
--- a list mapped with one more at its end
 pub map-push : {A B : Type 0} (f : A → B) (xs : List A) (x : A) → map f (xs ++ x ∷ [])
     ≡ map f xs ++ f x ∷ []
 map-push f [] x = refl
 map-push f (y ∷ xs) x = ap (λ z. f y ∷ z) (map-push f xs x)
 
--- what a look-up may find where one value is all that it finds
 pub only-value : {V : Type 0} (r : Option V) (old : V) (P : V → Type 0) → Some old ≡ r → P old
     → (w : V) → r ≡ Some w → P w
 only-value r old P is p w h = let same : Some old ≡ Some w = is ∙ h in let e : old ≡ w = cc in
     subst P e p
 
--- a key that is not there has no value
 pub no-value : {V : Type 0} (r : Option V) (P : V → Type 0) → None ≡ r → (w : V) → r ≡ Some w → P w
 no-value r P is w h = let same : None ≡ Some w = is ∙ h in cc
 
--- what holds where there is none
 pub if-none : {A : Type 0} (r : Option A) (P : Type 0) → r ≡ None → IfNone r P → P
 if-none None P is p = p
 if-none (Some x) P is p = cc

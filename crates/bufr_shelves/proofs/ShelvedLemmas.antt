@@ -1,5 +1,4 @@
--- Entries that stand as pairs with a key and pairs without: what is put in, looked up and kept
--- among them. For `put`, `join`, `get`, `first` and `after` of both shelves.
+-- Entries as pairs with and without a key, put in, found and kept: for both shelves.
 use Rattle.std.proofs.Common.{◌≡◌, ℕ, true, false, cond, not, ◌&&◌, ◌||◌, Some, None, List, [], ◌∷◌}
 use Rattle.std.proofs.Common.{◌++◌, map, find, refl, sym, ap, ◌∙◌, subst, append_assoc}
 use Rattle.std.proofs.lemmas.List.{append-nil}
@@ -11,32 +10,31 @@ use Rattle.std.specs.Ordering.{nat_cmp, ordering_then, is_gt, is_eq, is_lt}
 use Rattle.std.specs.Cmp.Lexicographic.{slice_cmp}
 use Rattle.std.specs.declared.cmp.Ordering.{Ordering}
 use Rattle.std.specs.declared.cmp.Ordering.TheVariants.{Less, Equal, Greater}
-use Rattle.bufr_shelves.specs.Keeping.{put_by, put_all, changes_by, first_of}
-use Rattle.bufr_shelves.specs.KeepingLaws.{put_less, put_equal, put_greater}
-use Rattle.bufr_keys.specs.KeyOrders.{octets_cmp, key_cmp}
-use Rattle.bufr_shelves.specs.Entries.{slot_by, slot_cmp, rank_cmp, kept}
-use Rattle.bufr_shelves.specs.Entries.{changes, entry_at, entry_after}
-use Rattle.bufr_shelves.specs.Orders.{kept-swap, kept-early, kept-late, kept-kept, kept-are}
-use Rattle.bufr_shelves.specs.Orders.{then-Equal}
-use Rattle.bufr_keys.specs.DerivedOrders.{key_order}
+use Rattle.bufr_entries.specs.Keeping.{put_by, put_all, changes_by, first_of}
+use Rattle.bufr_entries.specs.KeepingLaws.{put_less, put_equal, put_greater}
+use Rattle.bufr_entries.specs.KeyOrders.{octets_cmp, key_cmp}
+use Rattle.bufr_entries.specs.Entries.{slot_by, slot_cmp, rank_cmp, kept}
+use Rattle.bufr_entries.specs.Entries.{changes, entry_at, entry_after}
+use Rattle.bufr_entries.specs.Orders.{kept-swap, kept-early, kept-late, kept-kept, kept-are}
+use Rattle.bufr_entries.specs.Orders.{then-Equal}
+use Rattle.bufr_entries.specs.DerivedOrders.{key_order}
 use Rattle.bufr_shelves.specs.Ranks.{rank_order}
-use Rattle.bufr_keys.specs.DerivedOrders.{keys_are}
+use Rattle.bufr_entries.specs.DerivedOrders.{keys_are}
 use Rattle.bufr_shelves.specs.Pairs.{by_key, by_value, with_key, without_key, shelved}
-use Rattle.bufr_keys.specs.declared.key.Key.{Key}
+use Rattle.bufr_entries.specs.declared.key.Key.{Key}
 use Rattle.bufr_shelves.specs.declared.rank.Rank.{Rank}
-use Rattle.bufr_shelves.specs.declared.entry.Entry.{Entry}
+use Rattle.bufr_entries.specs.declared.entry.Entry.{Entry}
 
--- a pair put among those with a key
+-- puts a pair among those with a key
 abbrev pub put_keyed : Key × Rank → List (Key × Rank) → List (Key × Rank)
 put_keyed p ks = put_by (by_key key_order) (by_value rank_order) p ks
 
--- and one among those without
+-- puts a pair among those without a key
 abbrev pub put_unkeyed : List ℕ × ℕ → List (List ℕ × ℕ) → List (List ℕ × ℕ)
 put_unkeyed q us = put_by (by_key (slice_cmp nat_cmp)) (by_value nat_cmp) q us
 
 -- ---- one entry put in
 
--- an entry with a key goes among the pairs with a key
 pub put-keyed : (p : Key × Rank) (ks : List (Key × Rank)) (us : List (List ℕ × ℕ)) →
     put_by slot_cmp rank_cmp (with_key p) (shelved ks us) ≡ shelved (put_keyed p ks) us
 put-keyed p [] [] = refl
@@ -62,12 +60,10 @@ put-keyed p (k ∷ ks) us =
           k ks h))
     ] refl
 
--- entries without key of one slot differ in their update number alone
 same_rank : (q u : List ℕ × ℕ) → octets_cmp q.0 u.0 ≡ Equal
     → rank_cmp (without_key q) (without_key u) ≡ nat_cmp q.1 u.1
 same_rank q u h = ap (ordering_then (nat_cmp q.1 u.1)) h ∙ then-Equal (nat_cmp q.1 u.1)
 
--- an entry without key goes among those without
 put-octets : (q : List ℕ × ℕ) (us : List (List ℕ × ℕ)) →
     put_by slot_cmp rank_cmp (without_key q) (map without_key us)
     ≡ map without_key (put_unkeyed q us)
@@ -96,7 +92,6 @@ put-octets q (u ∷ us) =
           u us h))
     ] refl
 
--- behind all that have one
 pub put-unkeyed : (q : List ℕ × ℕ) (ks : List (Key × Rank)) (us : List (List ℕ × ℕ)) →
     put_by slot_cmp rank_cmp (without_key q) (shelved ks us) ≡ shelved ks (put_unkeyed q us)
 put-unkeyed q [] us = put-octets q us
@@ -104,13 +99,11 @@ put-unkeyed q (k ∷ ks) us = ap (λ es. with_key k ∷ es) (put-unkeyed q ks us
 
 -- ---- several
 
--- two lists put in one after the other
 pub put_all-append : (ks es fs : List Entry) → put_all slot_cmp rank_cmp ks (es ++ fs)
     ≡ put_all slot_cmp rank_cmp (put_all slot_cmp rank_cmp ks es) fs
 put_all-append ks [] fs = refl
 put_all-append ks (e ∷ es) fs = put_all-append (put_by slot_cmp rank_cmp e ks) es fs
 
--- entries with a key go among the pairs with a key
 put_all-keyed : (ls ks : List (Key × Rank)) (us : List (List ℕ × ℕ)) →
     put_all slot_cmp rank_cmp (shelved ks us) (map with_key ls)
     ≡ shelved (put_all (by_key key_order) (by_value rank_order) ks ls) us
@@ -119,7 +112,6 @@ put_all-keyed (l ∷ ls) ks us =
     ap (λ es. put_all slot_cmp rank_cmp es (map with_key ls)) (put-keyed l ks us)
     ∙ put_all-keyed ls (put_keyed l ks) us
 
--- and those without among those without
 put_all-unkeyed : (vs : List (List ℕ × ℕ)) (ks : List (Key × Rank)) (us : List (List ℕ × ℕ)) →
     put_all slot_cmp rank_cmp (shelved ks us) (map without_key vs)
     ≡ shelved ks (put_all (by_key (slice_cmp nat_cmp)) (by_value nat_cmp) us vs)
@@ -128,7 +120,6 @@ put_all-unkeyed (v ∷ vs) ks us =
     ap (λ es. put_all slot_cmp rank_cmp es (map without_key vs)) (put-unkeyed v ks us)
     ∙ put_all-unkeyed vs ks (put_unkeyed v us)
 
--- all entries of another shelf
 pub put_all-shelved : (ks ls : List (Key × Rank)) (us vs : List (List ℕ × ℕ)) →
     put_all slot_cmp rank_cmp (shelved ks us) (shelved ls vs)
     ≡ shelved (put_all (by_key key_order) (by_value rank_order) ks ls)
@@ -140,12 +131,10 @@ put_all-shelved ks ls us vs =
 
 -- ---- what is kept
 
--- an entry put in is kept with the others
 pub kept-put : (es : List Entry) (e : Entry) → kept es ≡ es → put_by slot_cmp rank_cmp e es
     ≡ kept (es ++ e ∷ [])
 kept-put es e h = ap (put_by slot_cmp rank_cmp e) (sym h) ∙ kept-swap (e ∷ []) es
 
--- so are several
 pub kept-put_all : (es fs : List Entry) → kept es ≡ es → put_all slot_cmp rank_cmp es fs
     ≡ kept (es ++ fs)
 kept-put_all es [] h = sym (ap kept (append-nil es) ∙ h)
@@ -157,7 +146,6 @@ kept-put_all es (f ∷ fs) h =
 
 -- ---- whether one entry changes what is kept
 
--- an entry with a key contends with pairs with a key alone
 any-keyed : (p : Key × Rank) (ks : List (Key × Rank)) (us : List (List ℕ × ℕ)) →
     list_any (λ f. is_eq (slot_cmp (with_key p) f) && not (is_gt (rank_cmp (with_key p) f)))
     (shelved ks us)
@@ -170,19 +158,16 @@ any-keyed p (k ∷ ks) us =
     (λ f. is_eq (by_key key_order p f) && not (is_gt (by_value rank_order p f))) ks)
     (sym (keys_are p.0 k.0))
 
--- so whether it changes them is whether it changes what is kept
 pub changes-keyed : (p : Key × Rank) (ks : List (Key × Rank)) (us : List (List ℕ × ℕ)) →
     changes_by (by_key key_order) (by_value rank_order) ks p ≡ changes (shelved ks us) (with_key p)
 changes-keyed p ks us = ap not (sym (any-keyed p ks us))
 
--- of one slot the update number alone decides
 tests : (o : Ordering) (m : Ordering) → (is_eq o && not (is_gt (ordering_then m o)))
     ≡ (is_eq o && not (is_gt m))
 tests Less m = refl
 tests Equal m = ap (λ z. not (is_gt z)) (then-Equal m)
 tests Greater m = refl
 
--- an entry without key contends by octets
 any-octets : (q : List ℕ × ℕ) (us : List (List ℕ × ℕ)) →
     list_any (λ f. is_eq (slot_cmp (without_key q) f) && not (is_gt (rank_cmp (without_key q) f)))
     (map without_key us)
@@ -195,7 +180,6 @@ any-octets q (u ∷ us) =
     ∙ ap (λ b. b || list_any (λ f. is_eq (by_key (slice_cmp nat_cmp) q f) &&
     not (is_gt (by_value nat_cmp q f))) us) (tests (octets_cmp q.0 u.0) (nat_cmp q.1 u.1))
 
--- with those without key alone
 any-unkeyed : (q : List ℕ × ℕ) (ks : List (Key × Rank)) (us : List (List ℕ × ℕ)) →
     list_any (λ f. is_eq (slot_cmp (without_key q) f) && not (is_gt (rank_cmp (without_key q) f)))
     (shelved ks us)
@@ -204,7 +188,6 @@ any-unkeyed : (q : List ℕ × ℕ) (ks : List (Key × Rank)) (us : List (List �
 any-unkeyed q [] us = any-octets q us
 any-unkeyed q (k ∷ ks) us = any-unkeyed q ks us
 
--- so whether it changes them is whether it changes what is kept
 pub changes-unkeyed : (q : List ℕ × ℕ) (ks : List (Key × Rank)) (us : List (List ℕ × ℕ)) →
     changes_by (by_key (slice_cmp nat_cmp)) (by_value nat_cmp) us q
     ≡ changes (shelved ks us) (without_key q)
@@ -212,27 +195,23 @@ changes-unkeyed q ks us = ap not (sym (any-unkeyed q ks us))
 
 -- ---- what a shelf holds after a call
 
--- pairs that stand for entries that are kept
+-- the pairs are entries in order of slots, one of each
 abbrev pub IsKept : List (Key × Rank) → List (List ℕ × ℕ) → Type 0
 IsKept ks us = kept (shelved ks us) ≡ shelved ks us
 
--- what was kept stays so
 pub kept-of : (es fs : List Entry) → es ≡ kept fs → kept es ≡ es
 kept-of es fs h = ap kept h ∙ kept-kept fs ∙ sym h
 
--- pairs with one more that has a key
 pub shelved-keyed : (p : Key × Rank) (ks : List (Key × Rank)) (us : List (List ℕ × ℕ))
     → IsKept ks us →
     shelved (put_keyed p ks) us ≡ kept (shelved ks us ++ with_key p ∷ [])
 shelved-keyed p ks us h = sym (put-keyed p ks us) ∙ kept-put (shelved ks us) (with_key p) h
 
--- pairs with one more that has none
 pub shelved-unkeyed : (q : List ℕ × ℕ) (ks : List (Key × Rank)) (us : List (List ℕ × ℕ))
     → IsKept ks us →
     shelved ks (put_unkeyed q us) ≡ kept (shelved ks us ++ without_key q ∷ [])
 shelved-unkeyed q ks us h = sym (put-unkeyed q ks us) ∙ kept-put (shelved ks us) (without_key q) h
 
--- pairs with all those of another shelf
 pub shelved-all : (ks ls : List (Key × Rank)) (us vs : List (List ℕ × ℕ)) → IsKept ks us →
     shelved (put_all (by_key key_order) (by_value rank_order) ks ls)
     (put_all (by_key (slice_cmp nat_cmp)) (by_value nat_cmp) us vs)
@@ -240,17 +219,14 @@ pub shelved-all : (ks ls : List (Key × Rank)) (us vs : List (List ℕ × ℕ)) 
 shelved-all ks ls us vs h = sym (put_all-shelved ks ls us vs)
     ∙ kept-put_all (shelved ks us) (shelved ls vs) h
 
--- a shelf's entries are what it holds
 pub entries-are : (now view : List Entry) → view ≡ now → kept view ≡ view → kept now ≡ view
 entries-are now view is h = ap kept (sym is) ∙ h
 
--- after one more
 pub entries-put : (now view new : List Entry) (e : Entry) → view ≡ now → new ≡ kept (view ++ e ∷ [])
     → kept new ≡ kept (kept now ++ e ∷ [])
 entries-put now view new e is h = kept-of new (view ++ e ∷ []) h ∙ h
     ∙ ap (λ es. kept (es ++ e ∷ [])) is ∙ sym (kept-early now (e ∷ []))
 
--- after all of another
 pub entries-join : (now view more other new : List Entry) → view ≡ now → more ≡ other → new
     ≡ kept (view ++ more) → kept new ≡ kept (kept now ++ kept other)
 entries-join now view more other new is other_is h =
@@ -260,12 +236,10 @@ entries-join now view more other new is other_is h =
 
 -- ---- what is looked up
 
--- no entry without key is found at one
 at-octets : (key : Key) (us : List (List ℕ × ℕ)) → entry_at (map without_key us) key ≡ None
 at-octets key [] = refl
 at-octets key (u ∷ us) = at-octets key us
 
--- the entry of a key is that of its pair
 pub at-shelved : (key : Key) (ks : List (Key × Rank)) (us : List (List ℕ × ℕ)) →
     option_map with_key (find (λ p. is_eq (key_order key p.0)) ks) ≡ entry_at (shelved ks us) key
 at-shelved key [] us = sym (at-octets key us)
@@ -284,7 +258,6 @@ at-shelved key (k ∷ ks) us =
           (ap is_eq (sym (keys_are key k.0)) ∙ h))
     ] refl
 
--- after an entry with a key come first those without
 after-octets : (us : List (List ℕ × ℕ)) (e : Entry) (key : Key) → e.key ≡ Some key
     → option_map without_key (first_of us) ≡ entry_after (map without_key us) e
 after-octets [] e key h = refl
@@ -292,7 +265,6 @@ after-octets (u ∷ us) e key h =
     sym (ap (λ o. cond (is_lt (slot_by o None (octets_cmp e.bytes u.0))) (Some (without_key u))
     (entry_after (map without_key us) e)) h)
 
--- the entry after one, by the first pair
 after_step : (k : Key × Rank) (ks : List (Key × Rank)) (us : List (List ℕ × ℕ)) (e : Entry)
     (key : Key) → e.key ≡ Some key →
     entry_after (shelved (k ∷ ks) us) e ≡ cond (is_lt (key_order key k.0)) (Some (with_key k))
@@ -303,7 +275,6 @@ after_step k ks us e key h =
     ∙ ap (λ o. cond (is_lt o) (Some (with_key k)) (entry_after (shelved ks us) e))
     (sym (keys_are key k.0))
 
--- the next key where there is one
 pub after-keyed : (ks : List (Key × Rank)) (us : List (List ℕ × ℕ)) (e : Entry) (key : Key) → e.key
     ≡ Some key → (f : Entry) →
     Some f ≡ option_map with_key (find (λ p. is_lt (key_order key p.0)) ks) → Some f
@@ -318,7 +289,6 @@ after-keyed (k ∷ ks) us e key h f found =
     ] found)
     ∙ sym (after_step k ks us e key h)
 
--- after the last key the first without
 pub after-last-key : (ks : List (Key × Rank)) (us : List (List ℕ × ℕ)) (e : Entry) (key : Key)
     → e.key ≡ Some key →
     None ≡ option_map with_key (find (λ p. is_lt (key_order key p.0)) ks)
@@ -334,7 +304,6 @@ after-last-key (k ∷ ks) us e key h none =
     ] none)
     ∙ sym (after_step k ks us e key h)
 
--- after an entry without key the next octets
 after-only-octets : (us : List (List ℕ × ℕ)) (e : Entry) → e.key ≡ None →
     option_map without_key (find (λ p. is_lt (slice_cmp nat_cmp e.bytes p.0)) us)
     ≡ entry_after (map without_key us) e
@@ -349,7 +318,6 @@ after-only-octets (u ∷ us) e h =
     ∙ sym (ap (λ o. cond (is_lt (slot_by o None (octets_cmp e.bytes u.0))) (Some (without_key u))
     (entry_after (map without_key us) e)) h)
 
--- whatever has a key
 pub after-unkeyed : (ks : List (Key × Rank)) (us : List (List ℕ × ℕ)) (e : Entry) → e.key ≡ None →
     option_map without_key (find (λ p. is_lt (slice_cmp nat_cmp e.bytes p.0)) us)
     ≡ entry_after (shelved ks us) e
@@ -361,40 +329,34 @@ after-unkeyed (k ∷ ks) us e h =
 
 -- ---- the pairs of what is kept are in order
 
--- entries that are kept are in order
 sorted-shelved : (ks : List (Key × Rank)) (us : List (List ℕ × ℕ)) → IsKept ks us
     → IsStrictlySortedBy slot_cmp (shelved ks us)
 sorted-shelved ks us h = subst (IsStrictlySortedBy slot_cmp) h ((kept-are (shelved ks us)).ordered)
 
--- the order of entries with a key is that of their keys
 all-keyed : (p : Key × Rank) (ks : List (Key × Rank)) (us : List (List ℕ × ℕ))
     → AllByRecursion (λ e. slot_cmp (with_key p) e ≡ Less) (shelved ks us)
     → AllByRecursion (λ k. key_order p.0 k ≡ Less) (keys_of ks)
 all-keyed p [] us a = tt
 all-keyed p (k ∷ ks) us a = (keys_are p.0 k.0 ∙ a.0, all-keyed p ks us a.1)
 
--- so their pairs are in order
 keyed-in-order : (ks : List (Key × Rank)) (us : List (List ℕ × ℕ))
     → IsStrictlySortedBy slot_cmp (shelved ks us) → IsStrictlySortedBy key_order (keys_of ks)
 unfolding IsStrictlySortedBy
 keyed-in-order [] us s = tt
 keyed-in-order (k ∷ ks) us s = (all-keyed k ks us s.0, keyed-in-order ks us s.1)
 
--- the order of entries without key is that of their octets
 all-octets : (q : List ℕ × ℕ) (us : List (List ℕ × ℕ))
     → AllByRecursion (λ e. slot_cmp (without_key q) e ≡ Less) (map without_key us)
     → AllByRecursion (λ k. slice_cmp nat_cmp q.0 k ≡ Less) (keys_of us)
 all-octets q [] a = tt
 all-octets q (u ∷ us) a = (a.0, all-octets q us a.1)
 
--- so their pairs are in order
 octets-in-order : (us : List (List ℕ × ℕ)) → IsStrictlySortedBy slot_cmp (map without_key us)
     → IsStrictlySortedBy (slice_cmp nat_cmp) (keys_of us)
 unfolding IsStrictlySortedBy
 octets-in-order [] s = tt
 octets-in-order (u ∷ us) s = (all-octets u us s.0, octets-in-order us s.1)
 
--- behind those with a key too
 unkeyed-in-order : (ks : List (Key × Rank)) (us : List (List ℕ × ℕ))
     → IsStrictlySortedBy slot_cmp (shelved ks us)
     → IsStrictlySortedBy (slice_cmp nat_cmp) (keys_of us)
@@ -402,12 +364,10 @@ unfolding IsStrictlySortedBy
 unkeyed-in-order [] us s = octets-in-order us s
 unkeyed-in-order (k ∷ ks) us s = unkeyed-in-order ks us s.1
 
--- the pairs with a key are in order of keys
 pub sorted-keyed : (ks : List (Key × Rank)) (us : List (List ℕ × ℕ)) → IsKept ks us
     → IsStrictlySortedBy key_order (keys_of ks)
 sorted-keyed ks us h = keyed-in-order ks us (sorted-shelved ks us h)
 
--- the pairs without are in order of octets
 pub sorted-unkeyed : (ks : List (Key × Rank)) (us : List (List ℕ × ℕ)) → IsKept ks us
     → IsStrictlySortedBy (slice_cmp nat_cmp) (keys_of us)
 sorted-unkeyed ks us h = unkeyed-in-order ks us (sorted-shelved ks us h)

@@ -1,5 +1,5 @@
--- Pairs in order of keys in a list: where a key stands, and two such lists merged. For the
--- functions of sorted vectors below `SortedShelf`.
+-- The index of a key among pairs in order, and merges of such lists: for the vectors of
+-- `SortedShelf`.
 use Rattle.std.proofs.Common.{◌≡◌, ℕ, zero, suc, ◌+◌, ◌<◌, ◌≤◌, true, false, cond, Option, Some}
 use Rattle.std.proofs.Common.{None, Result, Ok, Err, List, [], ◌∷◌, length, take, drop, find}
 use Rattle.std.proofs.lemmas.Option.{slice_get_read}
@@ -15,33 +15,29 @@ use Rattle.std.specs.BTreeMap.{insert_entry, is_at}
 use Rattle.std.proofs.lemmas.Map.Keys.{sorted_head, sorted_tail}
 use Rattle.std.specs.declared.cmp.Ordering.{Ordering}
 use Rattle.std.specs.declared.cmp.Ordering.TheVariants.{Less, Equal, Greater}
-use Rattle.bufr_shelves.specs.Keeping.{put_by, put_all}
-use Rattle.bufr_shelves.specs.Merging.{merged, weave}
-use Rattle.bufr_shelves.specs.KeepingLaws.{put_less, put_equal, put_greater}
+use Rattle.bufr_entries.specs.Keeping.{put_by, put_all}
+use Rattle.bufr_entries.specs.Merging.{merged, weave}
+use Rattle.bufr_entries.specs.KeepingLaws.{put_less, put_equal, put_greater}
 use Rattle.bufr_shelves.specs.Pairs.{place_of, one_on}
 
 -- ---- lists
 
--- what follows for one follows for all
 pub all_weaker : {A : Type 0} (P Q : A → Type 0) → ((x : A) → P x → Q x) → (xs : List A)
     → AllByRecursion P xs → AllByRecursion Q xs
 all_weaker P Q f [] a = tt
 all_weaker P Q f (x ∷ xs) a = (f x a.0, all_weaker P Q f xs a.1)
 
--- what holds of all keys holds of all pairs
 all_pairs : {K V : Type 0} (P : K → Type 0) (ps : List (K × V)) → AllByRecursion P (keys_of ps)
     → AllByRecursion (λ p. P p.0) ps
 all_pairs P [] a = tt
 all_pairs P (p ∷ ps) a = (a.0, all_pairs P ps a.1)
 
--- what holds of all holds at an index
 all_at : {A : Type 0} (P : A → Type 0) (xs : List A) (i : ℕ) (x : A) → AllByRecursion P xs
     → slice_get xs i ≡ Some x → P x
 all_at P [] i x a h = cc
 all_at P (y ∷ xs) zero x a h = let e : y ≡ x = cc in subst P e a.0
 all_at P (y ∷ xs) (suc i) x a h = all_at P xs i x a.1 h
 
--- what holds of a front and of the next holds of the longer front
 all_take_more : {A : Type 0} (P : A → Type 0) (xs : List A) (i : ℕ) (x : A)
     → AllByRecursion P (take i xs) → slice_get xs i ≡ Some x → P x
     → AllByRecursion P (take (suc i) xs)
@@ -49,7 +45,6 @@ all_take_more P [] i x a h p = tt
 all_take_more P (y ∷ xs) zero x a h p = let e : x ≡ y = cc in (subst P e p, tt)
 all_take_more P (y ∷ xs) (suc i) x a h p = (a.0, all_take_more P xs i x a.1 h p)
 
--- the same of an end
 all_drop_more : {A : Type 0} (P : A → Type 0) (xs : List A) (i : ℕ) (x : A)
     → AllByRecursion P (drop (suc i) xs) → slice_get xs i ≡ Some x → P x
     → AllByRecursion P (drop i xs)
@@ -58,10 +53,9 @@ all_drop_more P [] (suc i) x a h p = tt
 all_drop_more P (y ∷ xs) zero x a h p = let e : x ≡ y = cc in (subst P e p, a)
 all_drop_more P (y ∷ xs) (suc i) x a h p = all_drop_more P xs i x a h p
 
--- ---- where a key stands
+-- ---- the index of a key
 
 module _ {K V : Type 0} (c : K → Ordering) where
-  -- a key between two ends has its place between
   pub place_between : (ps : List (K × V)) (i : ℕ) → i ≤ length ps
       → AllByRecursion (λ p. c p.0 ≡ Greater) (take i ps)
       → AllByRecursion (λ p. c p.0 ≡ Less) (drop i ps) → place_of c ps ≡ Err i
@@ -73,7 +67,6 @@ module _ {K V : Type 0} (c : K → Ordering) where
       ap (λ o. match_ordering o (Err 0) (Ok 0) (one_on (place_of c ps))) a.0
       ∙ ap one_on (place_between ps i rest a.1 b)
 
-  -- a key that stands at an index has its place there
   pub place_here : (ps : List (K × V)) (i : ℕ) (p : K × V) → slice_get ps i ≡ Some p
       → AllByRecursion (λ q. c q.0 ≡ Greater) (take i ps) → c p.0 ≡ Equal → place_of c ps ≡ Ok i
   place_here [] i p h a e = cc
@@ -85,20 +78,16 @@ module _ {K V : Type 0} (c : K → Ordering) where
       ap (λ o. match_ordering o (Err 0) (Ok 0) (one_on (place_of c ps))) a.0
       ∙ ap one_on (place_here ps i p h a.1 e)
 
--- what a binary search knows: the key is after all below `low` and before all from `high` on
+-- what a search by halves knows: the key is after all pairs below `low` and before all from `high`
+-- on
 pub record Narrowed {K V : Type 0} (c : K → Ordering) (ps : List (K × V)) (low high : ℕ)
     : Type 0 where
-  -- the lower bound is not above the upper one
   pub ordered : low ≤ high
-  -- both stand inside the list
   pub within : high ≤ length ps
-  -- the key is above all before the lower bound
   pub below : AllByRecursion (λ p. c p.0 ≡ Greater) (take low ps)
-  -- and below all from the upper bound on
   pub above : AllByRecursion (λ p. c p.0 ≡ Less) (drop high ps)
 
 module _ {K V : Type 0} (c : K → K → Ordering) (o : IsTotalOrder c) where
-  -- keys before an index are below the one there
   before : (ps : List (K × V)) (i : ℕ) (p : K × V) → IsStrictlySortedBy c (keys_of ps)
       → slice_get ps i ≡ Some p → AllByRecursion (λ q. c q.0 p.0 ≡ Less) (take i ps)
   before [] zero p s h = tt
@@ -110,7 +99,6 @@ module _ {K V : Type 0} (c : K → K → Ordering) (o : IsTotalOrder c) where
     before ps i p (sorted_tail c q.0 (keys_of ps) s) h,
   )
 
-  -- keys behind it are above
   behind : (ps : List (K × V)) (i : ℕ) (p : K × V) → IsStrictlySortedBy c (keys_of ps)
       → slice_get ps i ≡ Some p → AllByRecursion (λ q. c p.0 q.0 ≡ Less) (drop (suc i) ps)
   behind [] i p s h = tt
@@ -120,7 +108,6 @@ module _ {K V : Type 0} (c : K → K → Ordering) (o : IsTotalOrder c) where
       (all_pairs (λ z. c q.0 z ≡ Less) ps (sorted_head c q.0 (keys_of ps) s))
   behind (q ∷ ps) (suc i) p s h = behind ps i p (sorted_tail c q.0 (keys_of ps) s) h
 
-  -- searching goes on above an index
   pub narrow_up : (k : K) (ps : List (K × V)) (low middle high : ℕ) (p : K × V)
       → IsStrictlySortedBy c (keys_of ps) → Narrowed (c k) ps low high → middle < high →
       slice_get ps middle ≡ Some p → c k p.0 ≡ Greater → Narrowed (c k) ps (middle + 1) high
@@ -139,7 +126,6 @@ module _ {K V : Type 0} (c : K → K → Ordering) (o : IsTotalOrder c) where
         above = n.above;
       }
 
-  -- or below it
   pub narrow_down : (k : K) (ps : List (K × V)) (low middle high : ℕ) (p : K × V)
       → IsStrictlySortedBy c (keys_of ps) → Narrowed (c k) ps low high → low ≤ middle
       → middle < high →
@@ -155,7 +141,6 @@ module _ {K V : Type 0} (c : K → K → Ordering) (o : IsTotalOrder c) where
             (drop (suc middle) ps) (behind ps middle p s h)) h l;
       }
 
-  -- where the key stands
   pub place_equal : (k : K) (ps : List (K × V)) (i : ℕ) (p : K × V)
       → IsStrictlySortedBy c (keys_of ps) → slice_get ps i ≡ Some p → c k p.0 ≡ Equal
       → place_of (c k) ps ≡ Ok i
@@ -166,63 +151,56 @@ module _ {K V : Type 0} (c : K → K → Ordering) (o : IsTotalOrder c) where
       (before ps i p s h))
       e
 
-  -- a key below all that is above the first is below the others
   above_head : (k : K) (q : K × V) (ps : List (K × V)) → IsStrictlySortedBy c (keys_of (q ∷ ps))
       → ((y : K) → c q.0 y ≡ Less → c k y ≡ Less) → AllByRecursion (λ p. c k p.0 ≡ Less) ps
   above_head k q ps s f =
       all_pairs (λ y. c k y ≡ Less) ps (all_weaker (λ y. c q.0 y ≡ Less) (λ y. c k y ≡ Less) f
       (keys_of ps) (sorted_head c q.0 (keys_of ps) s))
 
--- ---- look-ups by place
+-- ---- look-ups by index
 
--- the pair at the place of a key
+-- the pair at the index of a key
 abbrev pub at_place : {A : Type 0} → Result ℕ ℕ → List A → Option A
 at_place (Ok i) xs = slice_get xs i
 at_place (Err i) xs = None
 
--- the pair behind it
+-- the pair after it
 abbrev pub after_place : {A : Type 0} → Result ℕ ℕ → List A → Option A
 after_place (Ok i) xs = slice_get xs (suc i)
 after_place (Err i) xs = slice_get xs i
 
--- a pair put in at its place
+-- the list with a pair put in at its index
 abbrev pub put_at : {A : Type 0} → Result ℕ ℕ → List A → A → List A
 put_at (Ok i) xs x = slice_set xs i x
 put_at (Err i) xs x = insert xs i x
 
--- a place one further on
 at-one_on : {A : Type 0} (r : Result ℕ ℕ) (x : A) (xs : List A) → at_place (one_on r) (x ∷ xs)
     ≡ at_place r xs
 at-one_on (Ok i) x xs = refl
 at-one_on (Err i) x xs = refl
 
--- the pair behind it
 after-one_on : {A : Type 0} (r : Result ℕ ℕ) (x : A) (xs : List A) → after_place (one_on r) (x ∷ xs)
     ≡ after_place r xs
 after-one_on (Ok i) x xs = refl
 after-one_on (Err i) x xs = refl
 
--- a pair put in there
 put-one_on : {A : Type 0} (r : Result ℕ ℕ) (x : A) (xs : List A) (y : A)
     → put_at (one_on r) (x ∷ xs) y ≡ x ∷ put_at r xs y
 put-one_on (Ok i) x xs y = refl
 put-one_on (Err i) x xs y = refl
 
 module _ {K V : Type 0} (c : K → K → Ordering) (o : IsTotalOrder c) where
-  -- the first key above the first
   find-above : (k : K) (ps : List (K × V)) → AllByRecursion (λ p. c k p.0 ≡ Less) ps
       → find (λ p. is_eq (c k p.0)) ps ≡ None
   find-above k [] a = refl
   find-above k (p ∷ ps) a = ap (λ r. cond (is_eq r) (Some p) (find (λ p. is_eq (c k p.0)) ps)) a.0
       ∙ find-above k ps a.1
 
-  -- the next of the first
   next-above : (k : K) (ps : List (K × V)) → AllByRecursion (λ p. c k p.0 ≡ Less) ps
       → find (λ p. is_lt (c k p.0)) ps ≡ slice_get ps 0
   next-above k [] a = refl
   next-above k (p ∷ ps) a = ap (λ r. cond (is_lt r) (Some p) (find (λ p. is_lt (c k p.0)) ps)) a.0
 
-  -- the pair of a key stands at its place
   pub find-place : (k : K) (ps : List (K × V)) → IsStrictlySortedBy c (keys_of ps)
       → find (λ p. is_eq (c k p.0)) ps ≡ at_place (place_of (c k) ps) ps
   find-place k [] s = refl
@@ -236,7 +214,6 @@ module _ {K V : Type 0} (c : K → K → Ordering) (o : IsTotalOrder c) where
             ∙ sym (at-one_on (place_of (c k) ps) q ps))
       ] refl
 
-  -- the first greater key stands at or behind it
   pub next-place : (k : K) (ps : List (K × V)) → IsStrictlySortedBy c (keys_of ps)
       → find (λ p. is_lt (c k p.0)) ps ≡ after_place (place_of (c k) ps) ps
   next-place k [] s = refl
@@ -251,7 +228,6 @@ module _ {K V : Type 0} (c : K → K → Ordering) (o : IsTotalOrder c) where
             ∙ sym (after-one_on (place_of (c k) ps) q ps))
       ] refl
 
-  -- a value that is looked up is that of its pair
   lookup-find : (k : K) (ps : List (K × V)) → lookup (is_at (c k)) ps
       ≡ option_map (λ p. p.1) (find (λ p. is_eq (c k p.0)) ps)
   lookup-find k [] = refl
@@ -260,7 +236,6 @@ module _ {K V : Type 0} (c : K → K → Ordering) (o : IsTotalOrder c) where
       ≡ option_map (λ p. p.1) (cond b (Some q) (find (λ p. is_eq (c k p.0)) ps)))
       [ true ↦ refl | false ↦ lookup-find k ps ]
 
-  -- the value at a key that has a place is that of the pair there
   pub lookup_there : (k : K) (ps : List (K × V)) → IsStrictlySortedBy c (keys_of ps)
       → (i : ℕ) (p : K × V) → Ok i ≡ place_of (c k) ps → i < length ps → p ≡ get_or ps i p
       → lookup (is_at (c k)) ps ≡ Some p.1
@@ -269,14 +244,12 @@ module _ {K V : Type 0} (c : K → K → Ordering) (o : IsTotalOrder c) where
       ∙ ap (option_map (λ p. p.1)) (find-place k ps sorted ∙ ap (λ r. at_place r ps) (sym place)
       ∙ slice_get_read ps (length ps) i p refl within is)
 
-  -- a key that has none has no value
   pub lookup_nowhere : (k : K) (ps : List (K × V)) → IsStrictlySortedBy c (keys_of ps) → (i : ℕ)
       → Err i ≡ place_of (c k) ps → lookup (is_at (c k)) ps ≡ None
   lookup_nowhere k ps sorted i place =
       lookup-find k ps
       ∙ ap (option_map (λ p. p.1)) (find-place k ps sorted ∙ ap (λ r. at_place r ps) (sym place))
 
-  -- a pair goes in at its place
   pub insert-place : ((x y : K) → c x y ≡ Equal → x ≡ y) → (k : K) (v : V) (ps : List (K × V))
       → insert_entry c ps k v ≡ put_at (place_of (c k) ps) ps (k, v)
   insert-place exact k v [] = refl
@@ -294,28 +267,23 @@ module _ {K V : Type 0} (c : K → K → Ordering) (o : IsTotalOrder c) where
 -- ---- merging
 
 module _ {A : Type 0} (slot rank : A → A → Ordering) where
-  -- of two heads the lesser goes first
   weave_less : (k : A) (f : List A → List A) (l : A) (ls : List A) → slot k l ≡ Less
       → weave slot rank k f (l ∷ ls) ≡ k ∷ f (l ∷ ls)
   weave_less k f l ls h = rw (h, weave) refl
 
-  -- of two equal ones the greater value stays
   weave_equal : (k : A) (f : List A → List A) (l : A) (ls : List A) → slot k l ≡ Equal
       → weave slot rank k f (l ∷ ls) ≡ cond (is_gt (rank l k)) l k ∷ f ls
   weave_equal k f l ls h = rw (h, weave) refl
 
-  -- the greater head waits
   weave_greater : (k : A) (f : List A → List A) (l : A) (ls : List A) → slot k l ≡ Greater
       → weave slot rank k f (l ∷ ls) ≡ l ∷ weave slot rank k f ls
   weave_greater k f l ls h = rw (h, weave) refl
 
-  -- the first of two lists merged
   weave_first : (k : A) (f : List A → List A) (ls : List A)
       → AllByRecursion (λ y. slot k y ≡ Less) ls → weave slot rank k f ls ≡ k ∷ f ls
   weave_first k f [] a = refl
   weave_first k f (l ∷ ls) a = weave_less k f l ls a.0
 
-  -- a list merged with none
   merged_nothing : (ks : List A) → merged slot rank ks [] ≡ ks
   merged_nothing [] = refl
   merged_nothing (k ∷ ks) = ap (λ z. k ∷ z) (merged_nothing ks)
@@ -359,7 +327,6 @@ module _ {A : Type 0} (slot rank : A → A → Ordering) where
     merged-put_all ks (l ∷ ls) s = merged-put ks l ls (sorted_head slot l ls s)
         ∙ merged-put_all (put_by slot rank l ks) ls (sorted_tail slot l ls s)
 
--- pairs in order of keys
 pub sorted-pairs : {K V : Type 0} (c : K → K → Ordering) (ps : List (K × V))
     → IsStrictlySortedBy c (keys_of ps) → IsStrictlySortedBy (λ p q. c p.0 q.0) ps
 unfolding IsStrictlySortedBy

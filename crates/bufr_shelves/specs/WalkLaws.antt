@@ -1,5 +1,4 @@
--- What comes after an entry of a shelf: for those who go over all entries by `Shelf::first` and
--- `Shelf::after`.
+-- `after` returns the next entry of a shelf: for walks by `Shelf::first` and `Shelf::after`.
 use Rattle.std.proofs.Common.{◌≡◌, Option, Some, List, [], ◌∷◌, ◌++◌, refl, sym, ap, ◌∙◌, subst}
 use Rattle.std.specs.Option.{option_map}
 use Rattle.std.specs.List.{AllByRecursion}
@@ -7,20 +6,18 @@ use Rattle.std.specs.List.Sorted.{IsStrictlySortedBy}
 use Rattle.std.specs.Ordering.{ordering_reverse}
 use Rattle.std.specs.Cmp.{tied_itself}
 use Rattle.std.specs.declared.cmp.Ordering.TheVariants.{Less, Greater}
-use Rattle.bufr_shelves.specs.Keeping.{first_of}
-use Rattle.bufr_shelves.specs.Entries.{slot_cmp, kept, entry_after}
-use Rattle.bufr_shelves.specs.Orders.{slots_total, kept-are}
+use Rattle.bufr_entries.specs.Keeping.{first_of}
+use Rattle.bufr_entries.specs.Entries.{slot_cmp, kept, entry_after}
+use Rattle.bufr_entries.specs.Orders.{slots_total, kept-are}
 use Rattle.bufr_shelves.specs.Shelves.{lent}
-use Rattle.bufr_shelves.specs.declared.entry.Entry.{Entry}
-use Rattle.bufr_shelves.specs.declared.entry.Held.{Held}
+use Rattle.bufr_entries.specs.declared.entry.Entry.{Entry}
+use Rattle.bufr_shelves.specs.declared.held.Held.{Held}
 
--- what holds of a whole list holds of one in its middle
 all_mid : (P : Entry → Type 0) (xs ys : List Entry) (e : Entry)
     → AllByRecursion P (xs ++ e ∷ ys) → P e
 all_mid P [] ys e a = a.0
 all_mid P (x ∷ xs) ys e a = all_mid P xs ys e a.1
 
--- after an entry of a list in order comes the next of the list
 next : (xs ys : List Entry) (e : Entry) → IsStrictlySortedBy slot_cmp (xs ++ e ∷ ys)
     → entry_after (xs ++ e ∷ ys) e ≡ first_of ys
 unfolding IsStrictlySortedBy
@@ -31,14 +28,12 @@ next (x ∷ xs) ys e s =
     let g : slot_cmp e x ≡ Greater = slots_total.antisymm e x ∙ ap ordering_reverse before in
     rw g (next xs ys e s.1)
 
--- so it is of entries that are kept
 pub after-in-order : (es xs ys : List Entry) (e : Entry) → kept es ≡ es → es ≡ xs ++ e ∷ ys
     → entry_after es e ≡ first_of ys
 after-in-order es xs ys e k q =
     ap (λ zs. entry_after zs e) q
     ∙ next xs ys e (subst (IsStrictlySortedBy slot_cmp) (k ∙ q) (kept-are es).ordered)
 
--- the entries still to come go on with the one that is lent
 pub goes-on : (r : Option Held) (h : Held) (todo : List Entry) → r ≡ Some h
     → option_map lent r ≡ first_of todo → (rest : List Entry) × (todo ≡ lent h ∷ rest)
 goes-on r h [] q e =

@@ -1,21 +1,31 @@
-//! Entries that a shelf lends, and the order of slots.
+//! Lent entries, and the order of slots.
 ghost use Rattle.std.specs.Prelude.{◌≡◌};
 ghost use Rattle.std.specs.Option.{option_map, option_copied};
 ghost use Rattle.std.specs.Map.Iter.{deref_pair};
-ghost use Rattle.bufr_keys.specs.KeyOrders.{octets_cmp};
-ghost use Rattle.bufr_shelves.specs.Entries.{slot_by, slot_cmp};
+ghost use Rattle.bufr_entries.specs.KeyOrders.{octets_cmp};
+ghost use Rattle.bufr_entries.specs.Entries.{slot_by, slot_cmp};
 ghost use Rattle.bufr_shelves.specs.Pairs.{with_key, without_key};
 ghost use Rattle.bufr_shelves.specs.Shelves.{lent};
 
-use crate::entry::Held;
 use crate::rank::Rank;
-use bufr_answers::Items;
-use bufr_keys::Key;
+use bufr_base::Items;
+use bufr_entries::Key;
 use std::cmp::Ordering;
 
-/// The order of two slots, each of a key or, where there is none, of octets: those with a key by
-/// key, and after them those without by octets.
-#[tactic(auto, using(bufr_keys::specs::DerivedOrders::keys_are))]
+/// An entry that a shelf lends.
+#[derive(Clone, Copy, Debug, Drop)]
+pub struct Held<'a> {
+    /// The key, if it has one.
+    pub key: Option<&'a Key>,
+    /// The update sequence number.
+    pub update: u8,
+    /// The canonical message.
+    pub bytes: &'a Items<u8>,
+}
+
+/// Compares two slots, each a key or octets: those with a key by key, and after them those without
+/// by octets.
+#[tactic(auto, using(bufr_entries::specs::DerivedOrders::keys_are))]
 pub fn slot_order(
     key: Option<&Key>,
     bytes: &[u8],
@@ -34,7 +44,7 @@ pub fn slot_order(
 }
 
 impl Held<'_> {
-    /// The order of the slots of two entries.
+    /// Compares the slots of two entries.
     pub fn slot_cmp(self, other: Held) -> Ordering
         ensures { result ≡ slot_cmp (lent self.entry) (lent other.entry) }
     {
@@ -47,7 +57,7 @@ impl Held<'_> {
     }
 }
 
-/// A key and its rank as an entry that is lent.
+/// Lends a key and its rank as an entry.
 pub(crate) fn held_with_key<'a>(found: Option<(&'a Key, &'a Rank)>) -> Option<Held<'a>>
     ensures { option_map lent result ≡ option_map with_key (option_map deref_pair found.entry) }
 {
@@ -59,7 +69,7 @@ pub(crate) fn held_with_key<'a>(found: Option<(&'a Key, &'a Rank)>) -> Option<He
     })
 }
 
-/// Octets and their update number as an entry that is lent.
+/// Lends octets and their update number as an entry without a key.
 pub(crate) fn held_without_key<'a>(found: Option<(&'a Items<u8>, &'a u8)>) -> Option<Held<'a>>
     ensures { option_map lent result ≡ option_map without_key (option_map deref_pair found.entry) }
 {

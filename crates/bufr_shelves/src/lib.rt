@@ -1,35 +1,22 @@
-//! Shelves: what an archive of reports keeps.
+//! Shelves: what an archive keeps its entries in.
 //!
-//! An entry is a key or none, an update number and octets. It contends for a slot: its key, or its
-//! octets where it has no key. Of the entries of one slot the one of greatest rank is kept, by
-//! update number and then by octets; all are in order of slots, those with a key first. So a shelf
-//! holds the same whatever order its entries came in, and whichever shelves were joined first.
+//! An entry is a key or none, an update number and octets. Its slot is its key, or its octets if it
+//! has no key; its rank is its update number, and then its octets. A shelf keeps the entry of
+//! greatest rank of each slot, in order of slots, entries with a key first. So neither the order of
+//! entries nor the route of joins matters.
 //!
-//! [`MapShelf`] stands on ordered maps, where `put` takes logarithmic time. [`SortedShelf`] stands
-//! on sorted vectors, where `put` also moves all that comes after its place, eight octets for each
-//! entry: it is for entries that come nearly in order, and for joins. A [`ShelfBuilder`] takes entries
-//! in any order where none is looked up before all are there, and then becomes a sorted shelf.
-//! A [`Mark`] says of an entry whose octets stand elsewhere all the rest, in little room.
-//! Times of each stand in `bench/RESULTS.md`.
+//! A call that runs out of memory changes nothing, unless its line says otherwise.
 #![tactic(auto)]
 
-pub mod entry;
-pub mod entry_octets;
 pub mod held;
-pub mod laws;
 pub mod map_shelf;
-pub mod mark;
 mod rank;
 pub mod shelf;
 pub mod shelving;
 pub mod sorted_shelf;
-mod worked_values;
 
-pub use entry::{Entry, Held, JoinFault};
-pub use entry_octets::EntryOctets;
-pub use held::slot_order;
+pub use held::{Held, slot_order};
 pub use map_shelf::MapShelf;
-pub use mark::Mark;
-pub use shelf::Shelf;
+pub use shelf::{JoinFault, Shelf};
 pub use shelving::shelve;
-pub use sorted_shelf::{KeptOctets, LentOctets, ShelfBuilder, SortedShelf};
+pub use sorted_shelf::SortedShelf;

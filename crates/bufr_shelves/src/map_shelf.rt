@@ -1,16 +1,15 @@
-//! A shelf on ordered maps.
+//! Shelves on ordered maps.
 ghost use Rattle.std.specs.Prelude.{◌≡◌, ◌++◌, List, IfOk, OnOk, OnErr};
 ghost use Rattle.std.proofs.Common.{◌∙◌};
-ghost use Rattle.bufr_shelves.specs.Entries.{kept};
-ghost use Rattle.bufr_shelves.specs.Orders.{kept-early, kept-swap, kept-join, kept-twice, kept-kept};
-ghost use Rattle.bufr_shelves.specs.declared.entry.Entry.{Entry};
+ghost use Rattle.bufr_entries.specs.Entries.{kept};
+ghost use Rattle.bufr_entries.specs.Orders.{kept-early, kept-swap, kept-join, kept-twice, kept-kept};
+ghost use Rattle.bufr_entries.specs.declared.entry.Entry.{Entry};
 
-use crate::entry::{Held, JoinFault};
-use crate::held::{held_with_key, held_without_key};
+use crate::held::{Held, held_with_key, held_without_key};
 use crate::rank::Rank;
-use crate::shelf::Shelf;
-use bufr_answers::{Items, OutOfMemory};
-use bufr_keys::Key;
+use crate::shelf::{JoinFault, Shelf};
+use bufr_base::{Items, OutOfMemory};
+use bufr_entries::Key;
 use raise::{at_key, copied, first_pair, next_after, raise, raise_all};
 use std::alloc::Global;
 use std::collections::BTreeMap;
@@ -18,8 +17,8 @@ use std::marker::Model;
 
 mod raise;
 
-/// A shelf on ordered maps: one from keys to ranks, and one from the octets of what has no key to
-/// the update number. `put` takes logarithmic time.
+/// A shelf on two ordered maps: from keys to ranks, and from the octets of entries without a key to
+/// update numbers. `put` takes logarithmic time.
 #[derive(Drop)]
 pub struct MapShelf {
     keyed: BTreeMap<Key, Rank>,
@@ -30,7 +29,7 @@ impl Model for MapShelf {
     ghost use Rattle.std.specs.Prelude.{List};
     ghost use Rattle.bufr_shelves.specs.Shelves.{IsShelved};
     ghost use Rattle.bufr_shelves.specs.Pairs.{shelved};
-    ghost use Rattle.bufr_shelves.specs.declared.entry.Entry.{Entry};
+    ghost use Rattle.bufr_entries.specs.declared.entry.Entry.{Entry};
 
     ghost Value = { List Entry };
 

@@ -1,24 +1,22 @@
-//! What decides between the entries of one slot.
+//! Ranks of entries in one slot.
 ghost use Rattle.std.specs.Prelude.{◌≡◌};
 ghost use Rattle.std.specs.declared.cmp.Ordering.TheVariants.{Equal};
 
-use bufr_answers::Items;
-use bufr_keys::Key;
+use bufr_base::Items;
+use bufr_entries::Key;
 
-/// What decides between two entries of one key: the update number, and then the octets. The greater
-/// one is kept. Its order is derived, so it is the order in which the fields stand here.
+/// A rank of an entry with a key: the update number, and then the octets. The derived order follows
+/// the order of the fields.
 #[derive(Clone, Debug, Drop, PartialEq, Eq, PartialOrd, Ord)]
 pub(crate) struct Rank {
     pub(crate) update: u8,
     pub(crate) bytes: Items<u8>,
 }
 
-/// A type whose order tells all its values apart, and whose clones equal their sources.
+/// A type with values that tie only if they are equal, and with clones that equal their sources.
 pub(crate) trait Exact: Ord + Clone + Drop {
-    /// What compares as equal is the same value.
     ghost exact: { (a b : Self) → Self.cmp a b ≡ Equal → a ≡ b };
 
-    /// A clone is the same value.
     ghost faithful: { (a b : Self) → Self.is_clone a b → b ≡ a };
 }
 
@@ -48,9 +46,9 @@ impl Exact for Rank {
 
 impl Exact for Key {
     ghost use Rattle.std.proofs.Common.{sym, refl, ◌∙◌, ap};
-    ghost use Rattle.bufr_keys.specs.KeyOrders.{key_cmp};
-    ghost use Rattle.bufr_shelves.specs.Orders.{exact_keys};
-    ghost use Rattle.bufr_keys.specs.DerivedOrders.{stations_are, same_stations};
+    ghost use Rattle.bufr_entries.specs.KeyOrders.{key_cmp};
+    ghost use Rattle.bufr_entries.specs.Orders.{exact_keys};
+    ghost use Rattle.bufr_entries.specs.DerivedOrders.{stations_are, same_stations};
 
     ghost exact = { λ a b h.
         let e : Self.cmp a b ≡ key_cmp a b = rw (stations_are a.station b.station) refl in

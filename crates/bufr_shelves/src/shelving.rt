@@ -1,18 +1,18 @@
-//! Entries put on a new shelf.
+//! Entries on a new shelf.
 ghost use Rattle.std.specs.Prelude.{◌≡◌, List, IfOk};
-ghost use Rattle.bufr_shelves.specs.Keeping.{SameMembers};
-ghost use Rattle.bufr_shelves.specs.Entries.{kept};
-ghost use Rattle.bufr_shelves.specs.declared.entry.Entry.{Entry as AnEntry};
+ghost use Rattle.bufr_entries.specs.Keeping.{SameMembers};
+ghost use Rattle.bufr_entries.specs.Entries.{kept};
+ghost use Rattle.bufr_entries.specs.declared.entry.Entry.{Entry as AnEntry};
 
-use crate::entry::Entry;
 use crate::shelf::Shelf;
-use bufr_answers::OutOfMemory;
+use bufr_base::OutOfMemory;
+use bufr_entries::Entry;
 use std::alloc::Global;
 
-/// A new shelf with these entries put in one after another. It can only run out of memory.
+/// Puts entries on a new shelf, one by one.
 pub fn shelve<S: Shelf>(alloc: Global, entries: Vec<Entry>) -> Result<S, OutOfMemory>
     ensures kept { IfOk result (λ shelf. S.entries shelf ≡ kept entries.items) }
-    // In any other order, and with any repeats, they give the same shelf.
+    // Any order of the entries, with any repeats, makes an equal shelf.
     ensures agrees { IfOk result (λ shelf. (others : List AnEntry)
         → SameMembers entries.items others → S.entries shelf ≡ kept others) }
 {

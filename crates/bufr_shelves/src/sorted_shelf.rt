@@ -1,42 +1,30 @@
-//! A shelf on sorted vectors.
+//! Shelves on sorted vectors.
 ghost use Rattle.std.specs.Prelude.{◌≡◌, ◌++◌, List, IfOk, OnOk, OnErr};
 ghost use Rattle.std.proofs.Common.{◌∙◌};
-ghost use Rattle.bufr_shelves.specs.Entries.{kept};
-ghost use Rattle.bufr_shelves.specs.Orders.{kept-early, kept-swap, kept-join, kept-twice, kept-kept};
-ghost use Rattle.bufr_shelves.specs.declared.entry.Entry.{Entry};
+ghost use Rattle.bufr_entries.specs.Entries.{kept};
+ghost use Rattle.bufr_entries.specs.Orders.{kept-early, kept-swap, kept-join, kept-twice, kept-kept};
+ghost use Rattle.bufr_entries.specs.declared.entry.Entry.{Entry};
 
-use crate::entry::{Held, JoinFault};
-use crate::held::{held_with_key, held_without_key};
+use crate::held::{Held, held_with_key, held_without_key};
 use crate::rank::Rank;
-use crate::shelf::Shelf;
-use bufr_answers::{Items, OutOfMemory};
-use bufr_keys::Key;
+use crate::shelf::{JoinFault, Shelf};
+use bufr_base::{Items, OutOfMemory};
+use bufr_entries::Key;
 use merge::{merge, room_for};
 use pair::Pair;
 use sorted::{at_key, copied, first_pair, next_after, raise};
 use std::alloc::Global;
 use std::marker::Model;
 
-mod builder;
-pub(crate) mod front;
 mod gathered;
 mod joined;
-mod kept_octets;
 mod merge;
-pub(crate) mod packed_key;
-mod page;
-mod pages_left;
 mod pair;
-mod settling;
 mod sorted;
-mod waiting;
 
-pub use builder::ShelfBuilder;
-pub use kept_octets::{KeptOctets, LentOctets};
-
-/// A shelf on sorted vectors: one of keys with their ranks, and one of the octets of what has no
-/// key with the update number. `put` finds its place by binary search and moves what follows, eight
-/// octets for each entry; `join` goes once over both shelves.
+/// A shelf on two sorted vectors, for joins and for entries that come nearly in order. `put`
+/// searches by halves and moves eight octets for each later entry; `join` goes once over both
+/// shelves.
 #[derive(Drop)]
 pub struct SortedShelf {
     alloc: Global,
@@ -48,7 +36,7 @@ impl Model for SortedShelf {
     ghost use Rattle.std.specs.Prelude.{List};
     ghost use Rattle.bufr_shelves.specs.Shelves.{IsShelved};
     ghost use Rattle.bufr_shelves.specs.Pairs.{shelved};
-    ghost use Rattle.bufr_shelves.specs.declared.entry.Entry.{Entry};
+    ghost use Rattle.bufr_entries.specs.declared.entry.Entry.{Entry};
 
     ghost Value = { List Entry };
 

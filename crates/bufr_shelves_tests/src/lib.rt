@@ -1,4 +1,4 @@
-//! Tests of the public calls of bufr_shelves. It has tests only.
+//! Tests of the public calls of bufr_entries and bufr_shelves. It has tests only.
 #![tactic(auto)]
 
 #[cfg(test)]

@@ -1,5 +1,5 @@
-use bufr_answers::Items;
-use bufr_keys::{Key, Moment, Station};
+use bufr_base::Items;
+use bufr_entries::{Entry, Key, Moment, PackedSlot, ShelfBuilder, Station};
 use bufr_shelves::*;
 use std::alloc::Global;
 use std::cmp::Ordering;
@@ -10,13 +10,11 @@ mod gathered;
 mod large;
 mod marks;
 
-/// Stops the test where the two differ. It is a function, since a comparison written out in a test
-/// makes the proof of that test more than twice as long.
+/// A function, since comparisons in a test make its proof long.
 fn same<T: PartialEq + Debug + Drop>(rt: &impl Abort, found: T, wanted: T) {
     assert_eq!(rt; found, wanted);
 }
 
-/// Octets of their own.
 fn octets(rt: &impl Abort, alloc: Global, bytes: &[u8]) -> Items<u8> {
     Items::from_vec(Vec::from_slice(alloc, bytes).expect(rt, "room"))
 }
@@ -32,7 +30,7 @@ fn digits(number: u32) -> [u8; 5] {
     ]
 }
 
-/// The key of a report of centre 98 at a station and an hour.
+/// The key of a report of centre 98.
 fn key(station: Station, hour: u8) -> Key {
     Key {
         centre: 98,
@@ -52,12 +50,11 @@ fn key(station: Station, hour: u8) -> Key {
     }
 }
 
-/// A station of block 10.
 fn wmo(number: i128) -> Station {
     Station::Wmo { block: 10, number }
 }
 
-/// The key of a report at noon of this station, if one is given.
+/// The key of a report at noon, if a station is given.
 fn noon(number: Option<i128>) -> Option<Key> {
     match number {
         Some(number) => Some(key(wmo(number), 12)),
@@ -65,14 +62,13 @@ fn noon(number: Option<i128>) -> Option<Key> {
     }
 }
 
-/// What a report is put with: its station, unless it has no key, its update number, its octets, and
-/// whether it changes the shelf.
+/// A report to put: its station, unless it has no key, its update number, its octets, and whether
+/// it changes the shelf.
 type Put<'a> = (Option<i128>, u8, &'a [u8], bool);
 
-/// What is held: whether it has a key, its update number and its octets.
+/// An entry that is held: whether it has a key, its update number and its octets.
 type Kept<'a> = (bool, u8, &'a [u8]);
 
-/// This is held.
 fn assert_held(rt: &impl Abort, held: Held, wanted: Kept) {
     let (has_key, update, bytes) = wanted;
     same(rt, held.bytes.as_slice(), bytes);
@@ -80,14 +76,12 @@ fn assert_held(rt: &impl Abort, held: Held, wanted: Kept) {
     same(rt, held.key.is_some(), has_key);
 }
 
-/// Puts a report, which changes the shelf or not.
 fn put_one<S: Shelf>(rt: &impl Abort, alloc: Global, shelf: &mut S, row: Put) {
     let (number, update, bytes, changes) = row;
     let answer = shelf.put(noon(number), update, octets(rt, alloc, bytes));
     same(rt, answer.expect(rt, "room"), changes);
 }
 
-/// A new shelf with these reports put on it, each of which changes it or not.
 fn shelf_of<S: Shelf>(rt: &impl Abort, alloc: Global, rows: &[Put]) -> S {
     let mut shelf = S::new(alloc);
     for row in rows {
@@ -96,7 +90,7 @@ fn shelf_of<S: Shelf>(rt: &impl Abort, alloc: Global, rows: &[Put]) -> S {
     shelf
 }
 
-/// What comes after an entry, whose slot is behind that of it.
+/// Returns the entry after `held`, which has a later slot.
 fn behind<'a, S: Shelf>(rt: &impl Abort, shelf: &'a S, held: Held<'a>) -> Option<Held<'a>> {
     let next = shelf.after(held);
     if let Some(other) = next {
@@ -117,10 +111,10 @@ fn assert_holds<S: Shelf>(rt: &impl Abort, shelf: &S, expected: &[Kept]) {
     assert!(rt; next.is_none());
 }
 
-/// Reports that are put on a shelf, and what it holds then.
+/// Reports put on a shelf, and what it then holds.
 const KEPT: &[(&[Put<'static>], &[Kept<'static>])] = &[
     (&[], &[]),
-    // the greater update number wins, whatever its octets and whichever comes first
+    // the greater update number wins, whatever its octets, first or last
     (
         &[
             (Some(384), 0, b"original", true),
@@ -137,7 +131,7 @@ const KEPT: &[(&[Put<'static>], &[Kept<'static>])] = &[
         ],
         &[(true, 1, b"changed")],
     ),
-    // equal update numbers are settled by octets, a proper prefix first
+    // octets settle equal update numbers, a proper prefix first
     (
         &[
             (Some(384), 0, b"ab", true),
@@ -155,7 +149,7 @@ const KEPT: &[(&[Put<'static>], &[Kept<'static>])] = &[
         ],
         &[(true, 0, b"abd")],
     ),
-    // without key: kept once each, by octets, after what has one
+    // without a key: once each, by octets, after entries with a key
     (
         &[
             (None, 0, b"zz", true),
@@ -179,7 +173,6 @@ const KEPT: &[(&[Put<'static>], &[Kept<'static>])] = &[
     ),
 ];
 
-/// New shelves hold what they are to hold.
 fn put_on<S: Shelf>(rt: &impl Abort, alloc: Global) {
     for (rows, expected) in KEPT {
         let shelf: S = shelf_of(rt, alloc, rows);

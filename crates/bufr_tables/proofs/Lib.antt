@@ -1,2 +1,12 @@
--- The lemmas behind the contracts of tables.
 pub mod TableFacts
+pub mod FieldFacts
+pub mod CsvFacts
+pub mod ColumnFacts
+pub mod NumberFacts
+pub mod RowFacts
+pub mod MemberFacts
+pub mod ParseFacts
+pub mod SheetFacts
+pub mod ElementFacts
+pub mod GroupFacts
+pub mod SequenceFacts

@@ -1,4 +1,4 @@
--- Tests that are equalities, and what one more element adds: for `TableB::add` and `Tables::same`.
+-- Tests that decide equality, and adding an element.
 use Rattle.std.proofs.Common.{◌≡◌, ◌∙◌, ℕ, true, false, List, [], ◌∷◌, Some, None, Ok, Err, refl}
 use Rattle.std.proofs.Common.{sym, inl, inr}
 use Rattle.std.proofs.lemmas.Bool.{cases_order}
@@ -18,7 +18,6 @@ use Rattle.bufr_tables.specs.Elements.{same_kind, same_element}
 use Rattle.bufr_tables.specs.Entries.{at, NoCounts}
 use Rattle.bufr_tables.specs.EntryLaws.{less, equal, greater}
 
--- the program's `==` of kinds
 pub kind_eq-Decides : (a b : Kind) → Decides (kind_eq.ghosts.eq a b) (a ≡ b)
 kind_eq-Decides kinds.Text kinds.Text = (λ _. refl, λ _. refl)
 kind_eq-Decides kinds.Code kinds.Code = (λ _. refl, λ _. refl)
@@ -27,13 +26,11 @@ kind_eq-Decides kinds.Quantity kinds.Quantity = (λ _. refl, λ _. refl)
 kind_eq-Decides kinds.Count kinds.Count = (λ _. refl, λ _. refl)
 kind_eq-Decides _ _ = (λ h. cc, λ h. cc)
 
--- the program's `==` of elements
 pub element_eq-Decides : (a b : Element) → Decides (element_eq.ghosts.eq a b) (a ≡ b)
 element_eq-Decides a b =
     parts-Decides a b _ _ _ _ (kind_eq-Decides a.kind b.kind) (Decides-int_eq a.scale b.scale)
     (Decides-int_eq a.reference b.reference) (Decides-eqb a.width b.width)
 
--- an insertion brings no count
 pub NoCounts-insert : (d : ℕ) (v : Element) (es : List (ℕ × Element))
     → same_kind v.kind kinds.Count ≡ false → NoCounts es → NoCounts (insert_entry nat_cmp es d v)
 NoCounts-insert d v [] k n = (k, tt)
@@ -45,26 +42,22 @@ NoCounts-insert d v (e ∷ es) k n =
           elim s [ inl l ↦ rw (less d e.0 l) (k, n) | inr g ↦ rw (greater d e.0 g) (n.0, more) ]
     ]
 
--- what an element adds, by cases
 same_test : (a b : Element) → element_eq.ghosts.eq a b ≡ same_element a b
 same_test a b =
     same_from_decides (element_eq.ghosts.eq a b) (same_element a b) (element_eq-Decides a b)
     (same_element-Decides a b)
 
--- an equal row adds nothing
 pub with_element-same : (rows : List (ℕ × Element)) (d : ℕ) (e old : Element) → at d rows ≡ Some old
     → element_eq.ghosts.eq old e ≡ true → with_element rows (d, e) ≡ Ok rows
 with_element-same rows d e old f s =
     let t : same_element old e ≡ true = sym (same_test old e) ∙ s in rw (f, t)
 
--- a differing row is a conflict
 pub with_element-other : (rows : List (ℕ × Element)) (d : ℕ) (e old : Element)
     → at d rows ≡ Some old → element_eq.ghosts.eq old e ≡ false
     → with_element rows (d, e) ≡ Err (Conflict d)
 with_element-other rows d e old f s =
     let t : same_element old e ≡ false = sym (same_test old e) ∙ s in rw (f, t)
 
--- a row of a new descriptor is added
 pub with_element-new : (rows : List (ℕ × Element)) (d : ℕ) (e : Element) → at d rows ≡ None
     → with_element rows (d, e) ≡ Ok (insert_entry nat_cmp rows d e)
 with_element-new rows d e f = rw f

@@ -1,5 +1,4 @@
--- Descriptors as six digits: for `Fxy::from_text`, the law `descriptor_texts` and whoever prints
--- and reads them.
+-- Laws of descriptors and their six digits, for all who print or read them.
 use Rattle.std.proofs.Common.{◌≡◌, ◌≢◌, ◌∙◌, ℕ, ◌<◌, ◌≤◌, ◌&&◌, ◌+◌, ◌*◌, ◌-◌, ◌/◌, Bool, true}
 use Rattle.std.proofs.Common.{false, List, [], ◌∷◌, length, get_or, Some, None, refl, ap, sym}
 use Rattle.std.proofs.Common.{arith, inl, inr}
@@ -10,21 +9,21 @@ use Rattle.std.specs.List.{list_all}
 use Rattle.bufr_tables.specs.Descriptors.{of_text, in_ranges, digit_value, descriptor, six_digits}
 use Rattle.bufr_tables.specs.Descriptors.{IsDescriptor, digit, f_of, x_of, y_of}
 
--- a digit's range
+-- the range of a digit
 pub digit_range : (c : ℕ) → is_ascii_digit c ≡ true → (48 ≤ c) × (c ≤ 57)
 digit_range c h = (grind (arith, nat_tests), grind (arith, nat_tests))
 
--- the first of several tests, and the others
+-- if two tests pass, the first does
 pub and_first : (x y : Bool) → x && y ≡ true → x ≡ true
 and_first true y h = refl
 and_first false y h = cc
 
--- the second of two tests that both pass
+-- if two tests pass, the second does
 pub and_rest : (x y : Bool) → x && y ≡ true → y ≡ true
 and_rest true y h = h
 and_rest false y h = cc
 
--- six octets by their places
+-- a list of six octets by its indexes
 pub six_by_place : (t : List ℕ) → length t ≡ 6
     → t ≡ get_or t 0 0 ∷ get_or t 1 0 ∷ get_or t 2 0 ∷ get_or t 3 0 ∷ get_or t 4 0 ∷ get_or t 5 0
     ∷ []
@@ -37,7 +36,7 @@ six_by_place (a ∷ b ∷ c ∷ d ∷ e ∷ []) h = absurd (omega arith)
 six_by_place (a ∷ b ∷ c ∷ d ∷ e ∷ g ∷ []) h = refl
 six_by_place (a ∷ b ∷ c ∷ d ∷ e ∷ g ∷ k ∷ rest) h = absurd (omega arith)
 
--- another number of octets, or an octet that is no digit, is no descriptor
+-- a text of another length is no descriptor
 pub of_text-length : (t : List ℕ) → length t ≢ 6 → of_text t ≡ None
 unfolding of_text
 of_text-length [] h = refl
@@ -49,7 +48,7 @@ of_text-length (a ∷ b ∷ c ∷ d ∷ e ∷ []) h = refl
 of_text-length (a ∷ b ∷ c ∷ d ∷ e ∷ g ∷ []) h = absurd (h refl)
 of_text-length (a ∷ b ∷ c ∷ d ∷ e ∷ g ∷ k ∷ rest) h = refl
 
--- a text with another octet than digits is no descriptor
+-- a text with an octet other than digits is no descriptor
 pub of_text-other : (t : List ℕ) → list_all is_ascii_digit t ≡ false → of_text t ≡ None
 unfolding of_text
 of_text-other [] h = refl
@@ -61,7 +60,7 @@ of_text-other (a ∷ b ∷ c ∷ d ∷ e ∷ []) h = refl
 of_text-other (a ∷ b ∷ c ∷ d ∷ e ∷ g ∷ []) h = rw h
 of_text-other (a ∷ b ∷ c ∷ d ∷ e ∷ g ∷ k ∷ rest) h = refl
 
--- six digits are the descriptor of their three numbers, where these are in range
+-- six digits are the descriptor of their three numbers if these are in range
 pub of_text-digits : (a b c d e g : ℕ) → list_all is_ascii_digit (a ∷ b ∷ c ∷ d ∷ e ∷ g ∷ []) ≡ true
     → of_text (a ∷ b ∷ c ∷ d ∷ e ∷ g ∷ [])
     ≡ in_ranges (digit_value a) (10 * digit_value b + digit_value c)
@@ -73,7 +72,7 @@ of_text-digits a b c d e g h = rw h
 pub wide_y : (f x y : ℕ) → 255 < y → in_ranges f x y ≡ None
 wide_y f x y h = grind (arith, nat_tests)
 
--- what `in_ranges` answers
+-- what `in_ranges` accepts
 pub in_ranges-some : (f x y d : ℕ)
     → in_ranges f x y ≡ Some d → (f ≤ 3) × (x ≤ 63) × (y ≤ 255) × (d ≡ descriptor f x y)
 in_ranges-some f x y d h = (
@@ -88,7 +87,7 @@ pub in_ranges-within : (f x y : ℕ)
     → f ≤ 3 → x ≤ 63 → y ≤ 255 → in_ranges f x y ≡ Some (descriptor f x y)
 in_ranges-within f x y p q r = grind (arith, nat_tests)
 
--- the six digits of what they spell
+-- a descriptor made of six digits prints them
 six_digits-of : (a b c d e g : ℕ)
     → (48 ≤ a) × (a ≤ 57) → (48 ≤ b) × (b ≤ 57) → (48 ≤ c) × (c ≤ 57)
     → (48 ≤ d) × (d ≤ 57) → (48 ≤ e) × (e ≤ 57) → (48 ≤ g) × (g ≤ 57)
@@ -107,17 +106,17 @@ six_digits-of a b c d e g ra rb rc rd re rg p q r =
     let e6 : digit (y_of f) ≡ g = omega arith in
     rw (e1, e2, e3, e4, e5, e6)
 
--- a digit is a digit
+-- `digit` gives digits
 is_digit-digit : (n : ℕ) → is_ascii_digit (digit n) ≡ true
 is_digit-digit n = grind (arith, nat_tests)
 
--- six tests
+-- six tests that pass, joined
 and_six : (a b c d e g : Bool)
     → a ≡ true → b ≡ true → c ≡ true → d ≡ true → e ≡ true → g ≡ true
     → a && (b && (c && (d && (e && (g && true))))) ≡ true
 and_six a b c d e g p q r s t u = rw (p, q, r, s, t, u)
 
--- the six digits of a descriptor spell it
+-- the six digits of a descriptor are read as it
 pub of_text-six_digits : (d : ℕ) → IsDescriptor d → of_text (six_digits d) ≡ Some d
 of_text-six_digits d h =
     let all : list_all is_ascii_digit (six_digits d) ≡ true =
@@ -138,7 +137,7 @@ of_text-six_digits d h =
 below_all : (d f x y : ℕ) → f ≤ 3 → x ≤ 63 → y ≤ 255 → d ≡ descriptor f x y → IsDescriptor d
 below_all d f x y p q r e = omega arith
 
--- six digits that spell a descriptor are its own
+-- six digits that spell a descriptor are the ones it prints
 only_digits : (a b c k e g d : ℕ) (t : List ℕ)
     → t ≡ a ∷ b ∷ c ∷ k ∷ e ∷ g ∷ []
     → list_all is_ascii_digit (a ∷ b ∷ c ∷ k ∷ e ∷ g ∷ []) ≡ true
@@ -156,7 +155,7 @@ only_digits a b c k e g d t shape all h =
       shape ∙ sym (rw some.3 (six_digits-of a b c k e g da db dc dk de dg some.0 some.1 some.2)),
     )
 
--- what spells a descriptor is its six digits
+-- only the six digits of a descriptor are read as it
 pub of_text-only : (t : List ℕ) (d : ℕ) → of_text t ≡ Some d → IsDescriptor d × (t ≡ six_digits d)
 of_text-only t d h =
     elim (cases_eq (length t) 6) [

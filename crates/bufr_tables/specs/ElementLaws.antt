@@ -1,4 +1,4 @@
--- The tests of elements decide their equality: for `TableB` and whoever makes one.
+-- The tests of elements decide their equality.
 use Rattle.std.proofs.Common.{◌≡◌, ◌∙◌, ℕ, ◌&&◌, Bool, refl, ap, ℤ, pos, negsuc}
 use Rattle.std.proofs.lemmas.Bool.Decides.{Decides-and, Decides-eqb}
 use Rattle.std.specs.Bool.{Decides}
@@ -7,7 +7,7 @@ use Rattle.bufr_tables.specs.declared.element.Element.{Element}
 use Rattle.bufr_tables.specs.declared.element.Kind.{Kind}
 use Rattle.bufr_tables.specs.declared.element.Kind.TheVariants as kinds
 
--- the same kind is an equal kind
+-- `same_kind` decides equality
 pub same_kind-Decides : (a b : Kind) → Decides (same_kind a b) (a ≡ b)
 same_kind-Decides kinds.Text kinds.Text = (λ _. refl, λ _. refl)
 same_kind-Decides kinds.Code kinds.Code = (λ _. refl, λ _. refl)
@@ -16,7 +16,7 @@ same_kind-Decides kinds.Quantity kinds.Quantity = (λ _. refl, λ _. refl)
 same_kind-Decides kinds.Count kinds.Count = (λ _. refl, λ _. refl)
 same_kind-Decides _ _ = (λ h. cc, λ h. cc)
 
--- the same whole number is an equal one
+-- `same_integer` decides equality
 pub same_integer-Decides : (a b : ℤ) → Decides (same_integer a b) (a ≡ b)
 same_integer-Decides (pos a) (pos b) =
     (λ h. ap pos ((Decides-eqb a b).0 h), λ h. (Decides-eqb a b).1 (cc))
@@ -25,7 +25,7 @@ same_integer-Decides (negsuc a) (negsuc b) =
 same_integer-Decides (pos a) (negsuc b) = (λ h. cc, λ h. cc)
 same_integer-Decides (negsuc a) (pos b) = (λ h. cc, λ h. cc)
 
--- elements are equal where their parts are
+-- elements with equal parts are equal
 of_parts : (a b : Element) → a.kind ≡ b.kind → a.scale ≡ b.scale → a.reference ≡ b.reference
     → a.width ≡ b.width → a ≡ b
 of_parts a b k s r w =
@@ -39,7 +39,7 @@ of_parts a b k s r w =
     ∙ ap {B = Element}
     (λ (x : ℕ). record { kind = b.kind; scale = b.scale; reference = b.reference; width = x }) w
 
--- the test of four parts decides whether elements are equal
+-- four tests of parts decide whether elements are equal
 pub parts-Decides : (a b : Element) (x y z w : Bool) → Decides x (a.kind ≡ b.kind)
     → Decides y (a.scale ≡ b.scale) → Decides z (a.reference ≡ b.reference)
     → Decides w (a.width ≡ b.width) → Decides (x && (y && (z && w))) (a ≡ b)
@@ -55,7 +55,7 @@ parts-Decides a b x y z w p q r s =
       ),
     )
 
--- the same element is an equal one
+-- `same_element` decides equality
 pub same_element-Decides : (a b : Element) → Decides (same_element a b) (a ≡ b)
 same_element-Decides a b =
     parts-Decides a b _ _ _ _ (same_kind-Decides a.kind b.kind)

@@ -1,5 +1,4 @@
--- What stands at a descriptor, and that entries stay in ascending order: for `TableB`, `TableD` and
--- whoever makes them.
+-- Laws of entries in ascending order, for all who make or search tables.
 use Rattle.std.proofs.Common.{◌≡◌, ℕ, ◌<◌, ◌==◌, List, [], ◌∷◌, refl, arith, inl, inr}
 use Rattle.std.proofs.lemmas.Bool.{cases_order}
 use Rattle.std.proofs.lemmas.Bool.Decides.{nat_tests}
@@ -9,34 +8,34 @@ use Rattle.std.specs.BTreeMap.{insert_entry, is_at}
 use Rattle.std.specs.Map.{lookup}
 use Rattle.bufr_tables.specs.Entries.{at, Rising}
 
--- an order's answer `Equal` is equality
+-- the order of two numbers is `Equal` exactly if they are equal
 pub is_eq-nat_cmp : (d k : ℕ) → is_eq (nat_cmp d k) ≡ (k == d)
 is_eq-nat_cmp d k = grind (arith, nat_tests)
 
--- what a list of pairs has at a descriptor is what a map of these entries has there
+-- `at` finds what a map of these entries finds
 pub at-lookup : {X : Type 0} (d : ℕ) (es : List (ℕ × X)) → at d es ≡ lookup (is_at (nat_cmp d)) es
 unfolding at
 at-lookup d [] = refl
 at-lookup d (e ∷ es) = rw (is_eq-nat_cmp d e.0, at-lookup d es)
 
--- the order of two numbers, the first below
+-- a smaller number compares as `Less`
 pub less : (x y : ℕ) → x < y → nat_cmp x y ≡ Less
 less x y h = grind (arith, nat_tests)
 
--- the order of equal numbers
+-- equal numbers compare as `Equal`
 pub equal : (x y : ℕ) → x ≡ y → nat_cmp x y ≡ Equal
 equal x y h = grind (arith, nat_tests)
 
--- the order of two numbers, the first above
+-- a greater number compares as `Greater`
 pub greater : (x y : ℕ) → y < x → nat_cmp x y ≡ Greater
 greater x y h = grind (arith, nat_tests)
 
--- the first descriptor of a list, if there is one, is above d
+-- the first descriptor of the list, if any, is above d
 Above : {X : Type 0} → ℕ → List (ℕ × X) → Type 0
 Above d [] = Unit {0}
 Above d (e ∷ es) = d < e.0
 
--- in ascending order all others are above the first
+-- in ascending order the second entry is above the first
 rising-first : {X : Type 0} (a : ℕ × X) (es : List (ℕ × X)) → Rising (a ∷ es) → Above a.0 es
 unfolding Above
 rising-first a [] r = tt
@@ -47,14 +46,14 @@ pub rising-rest : {X : Type 0} (a : ℕ × X) (es : List (ℕ × X)) → Rising 
 rising-rest a [] r = tt
 rising-rest a (b ∷ es) r = r.1
 
--- an ascending list with an entry below it
+-- an ascending list with a smaller entry before it ascends
 rising-join : {X : Type 0} (a : ℕ × X) (es : List (ℕ × X)) → Above a.0 es → Rising es
     → Rising (a ∷ es)
 unfolding Above
 rising-join a [] h r = tt
 rising-join a (b ∷ es) h r = (h, r)
 
--- an entry above a number, put among others above it
+-- inserting a greater entry leaves the first entry above b
 above-insert : {X : Type 0} (b d : ℕ) (v : X) (es : List (ℕ × X)) → b < d → Above b es
     → Above b (insert_entry nat_cmp es d v)
 unfolding Above

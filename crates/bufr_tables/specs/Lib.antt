@@ -1,3 +1,4 @@
+pub mod CsvRecords
 pub mod DescriptorLaws
 pub mod Descriptors
 pub mod ElementJoins
@@ -5,4 +6,10 @@ pub mod ElementLaws
 pub mod Elements
 pub mod Entries
 pub mod EntryLaws
+pub mod Fields
+pub mod Numbers
+pub mod Rows
+pub mod Samples
+pub mod Sheets
+pub mod TableFiles
 pub mod Titles

@@ -1,6 +1,6 @@
-//! The rows of Table B.
+//! Rows of Table B.
 
-/// What the unit of an element says of its values.
+/// A kind of values.
 #[derive(Clone, Copy, Debug, PartialEq, Eq)]
 pub enum Kind {
     /// Characters.
@@ -11,19 +11,19 @@ pub enum Kind {
     Flag,
     /// A number with a unit.
     Quantity,
-    /// How often the descriptors of a replication stand. No table has such an element.
+    /// The factor of a replication; no table has it.
     Count,
 }
 
-/// How the values of an element stand in the data.
+/// An element: how to write its values.
 #[derive(Clone, Copy, Debug, PartialEq, Eq)]
 pub struct Element {
-    /// What its unit says.
+    /// The kind of its values.
     pub kind: Kind,
-    /// A value is multiplied by 10 to the power of this before it is written.
+    /// The power of 10 that multiplies a value.
     pub scale: i32,
-    /// What is taken from the scaled value before it is written.
+    /// The number then subtracted.
     pub reference: i64,
-    /// How many bits a value has.
+    /// The width in bits.
     pub width: u32,
 }

@@ -9,15 +9,14 @@ ghost use Rattle.bufr_tables.specs.Descriptors.{of_text, six_digits};
 use std::fmt;
 use std::marker::Model;
 
-/// The greatest F of a descriptor, which has 2 bits.
+/// The greatest F, of 2 bits.
 pub const GREATEST_F: u8 = 3;
-/// The greatest X of a descriptor, which has 6 bits.
+/// The greatest X, of 6 bits.
 pub const GREATEST_X: u8 = 63;
-/// The greatest Y of a descriptor, which has 8 bits.
+/// The greatest Y, of 8 bits.
 pub const GREATEST_Y: u16 = 255;
 
-/// A descriptor F XX YYY: F from 0 to 3, X from 0 to 63, Y from 0 to 255. Contracts see its 16 bits
-/// as a number.
+/// A descriptor F XX YYY. Contracts see it as a number of 16 bits.
 #[derive(Clone, Copy, Debug, PartialEq, Eq, PartialOrd, Ord)]
 pub struct Fxy(u16);
 
@@ -32,7 +31,7 @@ impl Model for Fxy {
 }
 
 impl Fxy {
-    /// The descriptor of these parts, or `None` where F is above 3 or X above 63.
+    /// Makes a descriptor, or `None` if F is above 3 or X above 63.
     pub fn new(f: u8, x: u8, y: u8) -> Option<Fxy>
         ensures { result ≡ in_ranges f x y }
     {
@@ -42,14 +41,14 @@ impl Fxy {
         Some(Fxy(16384 * f as u16 + 256 * x as u16 + y as u16))
     }
 
-    /// The descriptor of 16 bits, as they stand in section 3 of a message.
+    /// Makes a descriptor of 16 bits, as in section 3.
     pub fn from_bits(bits: u16) -> Fxy
         ensures { result ≡ bits }
     {
         Self(bits)
     }
 
-    /// The descriptor that six ASCII digits FXXYYY are, each part in its range, or `None`.
+    /// Reads six ASCII digits FXXYYY, or returns `None`.
     pub fn from_text(text: &[u8]) -> Option<Fxy>
         ensures { result ≡ of_text text.now }
     {
@@ -59,7 +58,7 @@ impl Fxy {
         from_digits(text[0], text[1], text[2], text[3], text[4], text[5])
     }
 
-    /// Its 16 bits.
+    /// Returns the 16 bits.
     pub fn bits(self) -> u16
         ensures { result ≡ self }
     {
@@ -67,28 +66,28 @@ impl Fxy {
         bits
     }
 
-    /// F, from 0 to 3.
+    /// Returns F, 0 to 3.
     pub fn f(self) -> u8
         ensures { result ≡ f_of self }
     {
         (self.0 >> 14) as u8
     }
 
-    /// X, from 0 to 63.
+    /// Returns X, 0 to 63.
     pub fn x(self) -> u8
         ensures { result ≡ x_of self }
     {
         (self.0 >> 8 & 63) as u8
     }
 
-    /// Y, from 0 to 255.
+    /// Returns Y, 0 to 255.
     pub fn y(self) -> u8
         ensures { result ≡ y_of self }
     {
         (self.0 & 255) as u8
     }
 
-    /// Its six digits FXXYYY, in ASCII. Takes no memory.
+    /// Returns the six ASCII digits FXXYYY.
     pub fn digits(self) -> [u8; 6]
         ensures { result ≡ six_digits self }
     {
@@ -104,21 +103,19 @@ impl Fxy {
     }
 }
 
-/// The last digit of a number, in ASCII.
 fn digit(number: u8) -> u8
     ensures { result ≡ digit number }
 {
     b'0' + number % 10
 }
 
-// Whether each octet is an ASCII digit.
-fn are_digits(text: &[u8]) -> bool
+/// Returns whether all octets are ASCII digits.
+pub(crate) fn are_digits(text: &[u8]) -> bool
     ensures { result ≡ list_all is_ascii_digit text.now }
 {
     text.iter().all(|c| c.is_ascii_digit())
 }
 
-// The descriptor of six digits.
 fn from_digits(f: u8, x10: u8, x1: u8, y100: u8, y10: u8, y1: u8) -> Option<Fxy>
     requires { IsTrue (list_all is_ascii_digit (f ∷ x10 ∷ x1 ∷ y100 ∷ y10 ∷ y1 ∷ [])) }
     ensures { result ≡ of_text (f ∷ x10 ∷ x1 ∷ y100 ∷ y10 ∷ y1 ∷ []) }
@@ -131,7 +128,7 @@ fn from_digits(f: u8, x10: u8, x1: u8, y100: u8, y10: u8, y1: u8) -> Option<Fxy>
     Fxy::new(f - b'0', x, y as u8)
 }
 
-/// Its six digits FXXYYY.
+/// Prints the six digits FXXYYY.
 impl fmt::Display for Fxy {
     ghost output = { λ d. Some (six_digits d) };
 

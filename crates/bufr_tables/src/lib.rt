@@ -1,9 +1,16 @@
-//! Descriptors, and the tables that explain them: Table B has the elements, Table D the sequences.
+//! Descriptors, the elements of Table B and the sequences of Table D, and their CSV files. Every call
+//! that allocates can return `OutOfMemory`.
 #![tactic(auto)]
 
+mod columns;
+mod csv_records;
 mod element;
+mod fields;
 mod fxy;
 pub mod laws;
+mod numbers;
+mod rows;
+mod sequence_rows;
 mod table_b;
 mod table_d;
 mod table_faults;

@@ -2,7 +2,7 @@
 
 ghost use Rattle.std.specs.Prelude.{◌≡◌, ◌↔◌, IsTrue, [], false, option_copied};
 ghost use Rattle.bufr_tables.specs.declared.element.Kind.TheVariants as kinds;
-ghost use Rattle.bufr_answers.specs.Answers.{Gives};
+ghost use Rattle.bufr_base.specs.Answers.{Gives};
 ghost use Rattle.bufr_tables.specs.Elements.{same_kind};
 ghost use Rattle.bufr_tables.specs.Entries.{at, AreElements};
 ghost use Rattle.bufr_tables.specs.ElementJoins.{with_element};
@@ -10,12 +10,14 @@ ghost use Rattle.bufr_tables.specs.ElementJoins.{with_element};
 use crate::element::Element;
 use crate::fxy::Fxy;
 use crate::table_faults::TableFault;
-use bufr_answers::Failure;
+use bufr_base::Failure;
 use std::alloc::Global;
 use std::collections::BTreeMap;
 use std::marker::Model;
 
-/// The elements, by descriptor.
+mod file;
+
+/// A Table B: elements by descriptor.
 #[derive(Debug, Drop)]
 pub struct TableB {
     rows: BTreeMap<Fxy, Element>,
@@ -34,8 +36,8 @@ impl Model for TableB {
 }
 
 impl TableB {
-    /// No elements.
-    pub fn new(alloc: Global) -> TableB
+    /// Makes an empty table.
+    pub(crate) fn new(alloc: Global) -> TableB
         ensures { result ≡ [] }
     {
         TableB {
@@ -43,9 +45,8 @@ impl TableB {
         }
     }
 
-    /// One more element. An equal one of its descriptor that is there already leaves the table as it
-    /// is, and a differing one is the fault `Conflict`. No table has an element of the kind Count.
-    pub fn add(&mut self, fxy: Fxy, element: Element) -> Result<(), Failure<TableFault>>
+    /// Adds an element. An equal row changes nothing; a different one is the fault `Conflict`.
+    pub(crate) fn add(&mut self, fxy: Fxy, element: Element) -> Result<(), Failure<TableFault>>
         requires { same_kind element.kind kinds.Count ≡ false }
         ensures { Gives (λ _. self.new) result (with_element self.old (fxy, element)) }
     {
@@ -59,7 +60,6 @@ impl TableB {
         Ok(())
     }
 
-    /// The element of a descriptor.
     pub(crate) fn element(&self, fxy: Fxy) -> Option<&Element>
         ensures value { option_copied result ≡ at fxy self.now }
         ensures table { AreElements self.now }
@@ -67,7 +67,6 @@ impl TableB {
         self.rows.get(&fxy)
     }
 
-    /// Whether another table has the same elements.
     pub(crate) fn same(&self, other: &TableB) -> bool
         ensures { IsTrue result ↔ (self.now ≡ other.now) }
     {

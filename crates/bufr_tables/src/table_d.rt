@@ -4,11 +4,13 @@ ghost use Rattle.std.specs.Prelude.{◌≡◌, ◌↔◌, IsTrue, option_map};
 ghost use Rattle.bufr_tables.specs.Entries.{at, Rising};
 
 use crate::fxy::Fxy;
-use bufr_answers::Items;
+use bufr_base::Items;
 use std::collections::BTreeMap;
 use std::marker::Model;
 
-/// The sequences, by descriptor.
+mod file;
+
+/// A Table D: sequences by descriptor.
 #[derive(Debug, Drop)]
 pub struct TableD {
     rows: BTreeMap<Fxy, Items<Fxy>>,
@@ -26,15 +28,14 @@ impl Model for TableD {
 }
 
 impl TableD {
-    /// The sequences that a map has, each the descriptors that it stands for.
-    pub fn from_map(rows: BTreeMap<Fxy, Items<Fxy>>) -> TableD
+    /// Makes the table of a map from each sequence to its descriptors.
+    pub(crate) fn from_map(rows: BTreeMap<Fxy, Items<Fxy>>) -> TableD
         requires { Rising rows.entries }
         ensures { result ≡ rows.entries }
     {
         TableD { rows }
     }
 
-    /// The descriptors that a sequence stands for.
     pub(crate) fn sequence(&self, fxy: Fxy) -> Option<&[Fxy]>
         ensures value { option_map (λ s. s.now) result ≡ at fxy self.now }
         ensures table { Rising self.now }
@@ -45,7 +46,6 @@ impl TableD {
         }
     }
 
-    /// Whether another table has the same sequences.
     pub(crate) fn same(&self, other: &TableD) -> bool
         ensures { IsTrue result ↔ (self.now ≡ other.now) }
     {

@@ -1,6 +1,6 @@
 //! Faults of table files.
 
-ghost use Rattle.std.specs.Prelude.{Some};
+ghost use Rattle.std.specs.Prelude.{◌≡◌, Some};
 ghost use Rattle.bufr_tables.specs.Titles.{title};
 
 use crate::fxy::Fxy;
@@ -22,16 +22,16 @@ pub enum Column {
     DataWidth,
     /// The descriptor of a sequence.
     Fxy1,
-    /// A descriptor that the sequence stands for.
+    /// A descriptor in the sequence.
     Fxy2,
 }
 
-/// The title of the column.
-impl fmt::Display for Column {
-    ghost output = { λ c. Some (title c) };
-
-    fn fmt<W: fmt::Write>(&self, f: &mut fmt::Formatter<W>) -> fmt::Result {
-        f.write_str(match *self {
+impl Column {
+    /// Returns its title.
+    pub(crate) fn title(self) -> &'static str
+        ensures { result.now ≡ title self }
+    {
+        match self {
             Column::Fxy => "FXY",
             Column::Unit => "BUFR_Unit",
             Column::Scale => "BUFR_Scale",
@@ -39,26 +39,35 @@ impl fmt::Display for Column {
             Column::DataWidth => "BUFR_DataWidth_Bits",
             Column::Fxy1 => "FXY1",
             Column::Fxy2 => "FXY2",
-        })
+        }
     }
 }
 
-/// The first fault of a table file. Records count from 1, the header included.
+/// Prints the title.
+impl fmt::Display for Column {
+    ghost output = { λ c. Some (title c) };
+
+    fn fmt<W: fmt::Write>(&self, f: &mut fmt::Formatter<W>) -> fmt::Result {
+        f.write_str(self.title())
+    }
+}
+
+/// A fault of a table file, the first. Records count from 1, the header included.
 #[derive(Clone, Copy, Debug, Drop, PartialEq, Eq, Error)]
 pub enum TableFault {
-    /// The header has no such column.
+    /// The header lacks a column.
     #[error("B1 NoColumn {0}")]
     NoColumn(Column),
-    /// The record has another number of fields than the header.
+    /// A record and the header differ in length.
     #[error("B2 NotCsv {0}")]
     NotCsv(u64),
-    /// A field of the record is not what its column holds.
+    /// A field of the record does not fit its column.
     #[error("B3 BadRow {0}")]
     BadRow(u64),
     /// Two rows of one element differ.
     #[error("B4 Conflict {0}")]
     Conflict(Fxy),
-    /// The rows of a sequence do not stand together.
+    /// Other rows come between those of a sequence.
     #[error("B5 SplitSequence {0}")]
     SplitSequence(Fxy),
 }

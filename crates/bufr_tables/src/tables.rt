@@ -9,7 +9,7 @@ use crate::table_b::TableB;
 use crate::table_d::TableD;
 use std::marker::Model;
 
-/// The elements and the sequences, by descriptor. Nothing here takes memory.
+/// A Table B and a Table D.
 #[derive(Debug, Drop)]
 pub struct Tables {
     elements: TableB,
@@ -25,7 +25,7 @@ impl Model for Tables {
 }
 
 impl Tables {
-    /// The elements of a Table B and the sequences of a Table D.
+    /// Joins a Table B and a Table D.
     pub fn new(b: TableB, d: TableD) -> Tables
         ensures { result ≡ record { elements = b; sequences = d } }
     {
@@ -35,7 +35,7 @@ impl Tables {
         }
     }
 
-    /// The element of a descriptor, or `None` where Table B has none.
+    /// Finds an element in Table B.
     pub fn element(&self, fxy: Fxy) -> Option<&Element>
         ensures value { option_copied result ≡ element self.now fxy }
         ensures tables { AreElements self.now.elements }
@@ -43,7 +43,7 @@ impl Tables {
         self.elements.element(fxy)
     }
 
-    /// The descriptors that a sequence stands for, or `None` where Table D has none.
+    /// Finds the descriptors of a sequence in Table D.
     pub fn sequence(&self, fxy: Fxy) -> Option<&[Fxy]>
         ensures value { option_map (λ s. s.now) result ≡ sequence self.now fxy }
         ensures tables { Rising self.now.sequences }
@@ -51,7 +51,7 @@ impl Tables {
         self.sequences.sequence(fxy)
     }
 
-    /// Whether others have the same elements and the same sequences.
+    /// Returns whether both tables are equal.
     pub fn same(&self, other: &Tables) -> bool
         ensures { IsTrue result ↔ (self.now ≡ other.now) }
     {

@@ -1,4 +1,4 @@
-//! Worked examples of the definitions.
+//! Worked values of the definitions.
 
 ghost use Rattle.std.specs.Prelude.{◌≡◌, ◌∷◌, [], Some, None, true, false, pos, negsuc, codes, map};
 ghost use Rattle.std.specs.Prelude.{is_some};
@@ -6,7 +6,9 @@ ghost use Rattle.bufr_tables.specs.declared.element.Kind.TheVariants as kinds;
 ghost use Rattle.bufr_tables.specs.Descriptors.{descriptor, f_of, x_of, y_of, six_digits, of_text};
 ghost use Rattle.bufr_tables.specs.Elements.{same_element};
 
-/// The places of F, X and Y in 16 bits, and the six digits of a descriptor.
+mod files;
+
+/// The bits of F, X and Y, and six digits.
 #[tactic(auto, unfolding(crate::specs::Descriptors::of_text))]
 pub fn parts_of_descriptors()
     ensures whole { descriptor 3 10 255 ≡ 0xCAFF }
@@ -38,7 +40,7 @@ pub fn parts_of_descriptors()
         ≡ codes "123145" ∷ codes "054236" ∷ [] }
 {}
 
-/// Elements are the same where kind, scale, reference value and data width are.
+/// Two rows are equal if kind, scale, reference value and width are.
 pub fn equal_elements()
     ensures same { same_element
         (record { kind = kinds.Code; scale = pos 1; reference = negsuc 2; width = 3 })

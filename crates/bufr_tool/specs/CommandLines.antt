@@ -8,8 +8,8 @@ use Rattle.clap.specs.Words.{subcommand_of, with_rule, with_subcommand}
 use Rattle.clap.specs.Simple.{new_shape, on_top}
 use Rattle.clap.specs.declared.builder.action.ArgAction.{ArgAction}
 use Rattle.clap.specs.declared.builder.action.ArgAction.TheVariants.{Set, SetTrue, Append}
-use Rattle.bufr_tool.specs.declared.command_line.Task.{Task}
-use Rattle.bufr_tool.specs.declared.command_line.Task.TheVariants.{Show, Check, Encode, Add, Merge}
+use Rattle.bufr_tool.specs.declared.lines.Command.{Command}
+use Rattle.bufr_tool.specs.declared.lines.Command.TheVariants.{Show, Check, Encode, Add, Merge}
 
 -- ---- the commands
 
@@ -90,16 +90,16 @@ values_in id named = option_map_or (λ found. unwrap_or (all_of id found.1) []) 
 abbrev pub flag_in : List ℕ → Named → Bool
 flag_in id named = bytes_eq (value_in id named) (codes "true")
 
--- the task of a command's name
-abbrev pub task_named : List ℕ → Task
-task_named name = if bytes_eq name (codes "check") then Check
+-- the command of a name
+abbrev pub command_named : List ℕ → Command
+command_named name = if bytes_eq name (codes "check") then Check
     else if bytes_eq name (codes "encode") then Encode
     else if bytes_eq name (codes "add") then Add
     else if bytes_eq name (codes "merge") then Merge else Show
 
--- the task of the command that is named
-abbrev pub task_in : Named → Task
-task_in named = task_named (option_map_or (λ found. found.0) named [])
+-- the command that is named
+abbrev pub command_in : Named → Command
+command_in named = command_named (option_map_or (λ found. found.0) named [])
 
 -- the same of words, by the parse that `clap` defines for them
 abbrev pub value_of : List ℕ → List (List ℕ) → List ℕ
@@ -114,8 +114,8 @@ abbrev pub flag_of : List ℕ → List (List ℕ) → Bool
 flag_of id words = flag_in id (subcommand_of commands words)
 
 -- what the words ask for
-abbrev pub task_of : List (List ℕ) → Task
-task_of words = task_in (subcommand_of commands words)
+abbrev pub command_of : List (List ℕ) → Command
+command_of words = command_in (subcommand_of commands words)
 
 -- a line of a command, written out: its options stand in any order
 abbrev pub line_words : List ℕ → List (List ℕ)

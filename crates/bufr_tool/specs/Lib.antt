@@ -1,2 +1,11 @@
 pub mod ArchiveLines
 pub mod CommandLines
+pub use Rattle.bufr_io.specs.Engines
+pub use Rattle.bufr_io.specs.Limits
+pub use Rattle.bufr_io.specs.Loads
+pub use Rattle.bufr_io.specs.Readers
+pub use Rattle.bufr_engines.specs.Collected
+pub use Rattle.bufr_engines.specs.Collects
+pub use Rattle.bufr_engines.specs.Encoding
+pub use Rattle.bufr_engines.specs.Output
+pub use Rattle.bufr_engines.specs.StreamEngines

@@ -1,34 +1,34 @@
 //! The commands of the program, over a runtime with files and any two writers.
 
 ghost use Rattle.std.specs.Prelude.{◌≡◌, ◌≤◌, ◌++◌, false, map, string_bytes, OnOk};
-ghost use Rattle.bufr_collect.specs.Readers.{AreFresh};
 ghost use Rattle.bufr_io.specs.Engines.{IsFresh};
+ghost use Rattle.bufr_io.specs.Readers.{AreFresh};
 ghost use Rattle.bufr_tool.specs.ArchiveLines.{added_line, merged_line};
 
-use crate::asking::asked;
-use crate::command_line::{CommandLine, NAME, Task};
-use crate::late_file::LateFile;
-use crate::reading::run_reading;
-use bufr_answers::OutOfMemory;
+use crate::command_line::{NAME, line};
+use crate::lines::{Command, Line};
+use bufr_base::OutOfMemory;
 use bufr_bits::{IntoWrite, Sink, Source};
-use bufr_collect::{run_add, run_merge};
-use bufr_engines::load_tables;
-use bufr_files::{REFUSED, Unopened, WELL, cannot_open, file_of, inputs_of, say, unopened_path};
-use bufr_io::{MOST_READS, Tally, ToolFault, write_out};
+use bufr_engines::{run_add, run_check, run_encode, run_merge, run_show};
+use bufr_io::{
+    Input, LazyOutput, MOST_READS, Tally, ToolFault, Unopened, file_of, inputs_of, load_tables,
+    write_out,
+};
+use bufr_program::{cannot_open, explain, say, status_of, words_or_help};
 use bufr_tables::Tables;
 use std::alloc::Global;
 use std::fmt;
 use std::io::Write;
 use std::rt::Files;
 
-/// No last line of a command that writes an archive has more octets.
+/// The most octets of the last line of a command that writes an archive.
 const LONGEST_LINE: usize = 160;
 
-/// Carries out the command that words ask for, without the program's name, and answers the exit
-/// status: 0 where all is well or help or the version was asked for, 1 where a message was refused,
-/// 2 on a fault of the line, a file, a table, a listing, an archive or memory. The output goes to
-/// `out`; a fault is one line on `err`, but one of the line is told in the words of the option
-/// parser. A failed write to `err` is passed over. No words ask for help.
+/// Carries out the command that words ask for, without the program's name, and returns the exit
+/// status: 0 if all is well or the words ask for help or the version, 1 if a message is refused, 2 on
+/// a fault of the line, a file, a table, a listing, an archive or memory. The output goes to `out`, a
+/// fault as one line to `err`; the option parser has the words for a fault of the line. A failed
+/// write to `err` is passed over. No words ask for help.
 pub fn run_command<R: Files, O: Write + Drop, E: Write + Drop>(
     rt: &R,
     alloc: Global,
@@ -38,22 +38,21 @@ pub fn run_command<R: Files, O: Write + Drop, E: Write + Drop>(
 ) -> u8
     ensures { result ≤ 2 }
 {
-    let line = match asked(alloc, words, out, err) {
-        Ok(line) => line,
-        Err(status) => return status,
+    let Ok(words) = words_or_help(alloc, words) else {
+        return say(alloc, NAME, &ToolFault::OutOfMemory, err);
     };
-    match line.task {
-        Task::Show | Task::Check | Task::Encode => run_reading(rt, alloc, &line, out, err),
-        Task::Add | Task::Merge => run_collecting(rt, alloc, &line, out, err),
+    match line(alloc, &words) {
+        Ok(line) => run_line(rt, alloc, &line, out, err),
+        Err(error) => explain(alloc, NAME, &error, out, err),
     }
 }
 
-/// Opens the tables and the first input of a line that makes an archive, and runs its engine, which
-/// opens each further input when it has read the one before to its end.
-fn run_collecting<R: Files, O: Write + Drop, E: Write + Drop>(
-    rt: &R,
+/// Opens the tables and the first input of a line, and runs its command, which opens each further
+/// input at its first read. Returns the exit status.
+fn run_line<'a, R: Files, O: Write + Drop, E: Write + Drop>(
+    rt: &'a R,
     alloc: Global,
-    line: &CommandLine,
+    line: &Line<'a>,
     out: &mut O,
     err: &mut E,
 ) -> u8
@@ -70,21 +69,15 @@ fn run_collecting<R: Files, O: Write + Drop, E: Write + Drop>(
         Err(Unopened::Path(path)) => return cannot_open(alloc, NAME, path, err),
         Err(Unopened::OutOfMemory) => return say(alloc, NAME, &ToolFault::OutOfMemory, err),
     };
-    match collect_under(rt, alloc, line, &mut b, &mut d, &mut inputs, out) {
-        Ok(tally) if tally.refused == 0 => WELL,
-        Ok(_) => REFUSED,
-        Err(fault) => match unopened_path(&inputs, &fault) {
-            Some(path) => cannot_open(alloc, NAME, path, err),
-            None => say(alloc, NAME, &fault, err),
-        },
-    }
+    let ended = run_under(rt, alloc, line, &mut b, &mut d, &mut inputs, out);
+    status_of(alloc, NAME, &ended, &inputs, err)
 }
 
-/// Loads the tables and makes the archive of a line's inputs.
-fn collect_under<R: Files, S: Source, O: Write + Drop>(
+/// Loads the tables and runs the command of a line.
+fn run_under<R: Files, S: Source, O: Write + Drop>(
     rt: &R,
     alloc: Global,
-    line: &CommandLine,
+    line: &Line,
     b: &mut S,
     d: &mut S,
     inputs: &mut [S],
@@ -94,63 +87,74 @@ fn collect_under<R: Files, S: Source, O: Write + Drop>(
     requires fresh_d { IsFresh (S.reading d.old) }
     requires fresh_inputs { AreFresh (map S.reading inputs.old) }
 {
-    let tables = load_tables(alloc, MOST_READS, b, d)?;
-    collect(rt, alloc, &tables, line, inputs, out)
-}
-
-/// Writes an archive of the inputs, and then prints what was counted.
-fn collect<R: Files, S: Source, O: Write + Drop>(
-    rt: &R,
-    alloc: Global,
-    tables: &Tables,
-    line: &CommandLine,
-    inputs: &mut [S],
-    out: &mut O,
-) -> Result<Tally, ToolFault>
-    requires { AreFresh (map S.reading inputs.old) }
-{
-    // No memory is asked for once the archive is written: then only writing can fail.
-    let mut text = String::with_capacity(alloc, LONGEST_LINE)?;
-    let mut writer = IntoWrite::new(&mut *out);
-    let tally = write_archive(rt, alloc, tables, line, inputs)?;
-    print_collected(line.task, &mut text, tally, &mut writer)
-}
-
-/// Writes an archive of the inputs to the file of a line, which is closed again at the end.
-fn write_archive<R: Files, S: Source>(
-    rt: &R,
-    alloc: Global,
-    tables: &Tables,
-    line: &CommandLine,
-    inputs: &mut [S],
-) -> Result<Tally, ToolFault>
-    requires { AreFresh (map S.reading inputs.old) }
-{
-    let mut archive = LateFile::new(rt, line.out);
-    match line.task {
-        Task::Merge => run_merge(alloc, MOST_READS, tables, inputs, &mut archive),
-        _ => run_add(alloc, MOST_READS, tables, inputs, &mut archive),
+    let tables = &load_tables(alloc, MOST_READS, b, d)?;
+    let writer = &mut IntoWrite::new(&mut *out);
+    let Some(input) = inputs.first_mut() else {
+        return Err(ToolFault::ReadFailed(Input::Number(1)));
+    };
+    match line.command {
+        Command::Show => run_show(alloc, MOST_READS, tables, input, writer),
+        Command::Check => run_check(alloc, MOST_READS, tables, input, writer),
+        Command::Encode => { run_encode(alloc, MOST_READS, tables, line.compressed, input, writer) }
+        Command::Add => add(rt, alloc, tables, line.out, inputs, writer),
+        Command::Merge => merge(rt, alloc, tables, line.out, inputs, writer),
     }
 }
 
-/// Prints what was counted of an archive, by way of some text that has room for it, and answers it.
-fn print_collected<W: Sink>(
-    task: Task,
-    text: &mut String,
-    tally: Tally,
+/// Writes an archive of the reports of streams to a file, which it then closes, and prints the last
+/// line.
+fn add<R: Files, S: Source, W: Sink>(
+    rt: &R,
+    alloc: Global,
+    tables: &Tables,
+    path: &str,
+    inputs: &mut [S],
     writer: &mut W,
 ) -> Result<Tally, ToolFault>
-    requires { (W.writing writer.old).failed ≡ false }
+    requires fresh { AreFresh (map S.reading inputs.old) }
+    requires works { (W.writing writer.old).failed ≡ false }
 {
-    match task {
-        Task::Merge => push_merged(text, &tally)?,
-        _ => push_added(text, &tally)?,
-    }
+    // The line has its memory before the archive is written: after that only writing can fail.
+    let mut text = String::with_capacity(alloc, LONGEST_LINE)?;
+    let tally = run_add(
+        alloc,
+        MOST_READS,
+        tables,
+        inputs,
+        &mut LazyOutput::new(rt, path),
+    )?;
+    push_added(&mut text, &tally)?;
     write_out(writer, 0, text.as_bytes())?;
     Ok(tally)
 }
 
-/// Adds what is printed after an archive of streams was written.
+/// Writes an archive of the reports of archives to a file, which it then closes, and prints the last
+/// line.
+fn merge<R: Files, S: Source, W: Sink>(
+    rt: &R,
+    alloc: Global,
+    tables: &Tables,
+    path: &str,
+    inputs: &mut [S],
+    writer: &mut W,
+) -> Result<Tally, ToolFault>
+    requires fresh { AreFresh (map S.reading inputs.old) }
+    requires works { (W.writing writer.old).failed ≡ false }
+{
+    let mut text = String::with_capacity(alloc, LONGEST_LINE)?;
+    let tally = run_merge(
+        alloc,
+        MOST_READS,
+        tables,
+        inputs,
+        &mut LazyOutput::new(rt, path),
+    )?;
+    push_merged(&mut text, &tally)?;
+    write_out(writer, 0, text.as_bytes())?;
+    Ok(tally)
+}
+
+/// Adds the last line of `add`.
 fn push_added(text: &mut String, tally: &Tally) -> Result<(), OutOfMemory>
     ensures { OnOk result (string_bytes text.new ≡ string_bytes text.old ++ added_line tally.now) }
 {
@@ -163,7 +167,7 @@ fn push_added(text: &mut String, tally: &Tally) -> Result<(), OutOfMemory>
     )
 }
 
-/// Adds what is printed after an archive of archives was written.
+/// Adds the last line of `merge`.
 fn push_merged(text: &mut String, tally: &Tally) -> Result<(), OutOfMemory>
     ensures { OnOk result (string_bytes text.new ≡ string_bytes text.old ++ merged_line tally.now) }
 {

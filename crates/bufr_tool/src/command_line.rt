@@ -1,4 +1,4 @@
-//! The command line.
+//! The command line, read by `clap`.
 
 ghost use Rattle.std.specs.Prelude.{◌≡◌, true, false, map, codes, IfOk, IfErr};
 ghost use Rattle.clap.specs.Words.{App, Shape, app_of, kind_of, rule_of, shape_of};
@@ -8,21 +8,22 @@ ghost use Rattle.bufr_tool.specs.CommandLines.{collecting_command, commands};
 ghost use Rattle.bufr_tool.specs.CommandLines.{encoding_command, flag, flag_in};
 ghost use Rattle.bufr_tool.specs.CommandLines.{flag_of, input_argument};
 ghost use Rattle.bufr_tool.specs.CommandLines.{path_option, commands_without_archive, program, under_tables};
-ghost use Rattle.bufr_tool.specs.CommandLines.{reading_command, task_in, task_of, value_in};
+ghost use Rattle.bufr_tool.specs.CommandLines.{reading_command, command_in, command_of, value_in};
 ghost use Rattle.bufr_tool.specs.CommandLines.{value_of, values_in, values_of};
 
-use bufr_answers::OutOfMemory;
+use crate::lines::{self, Line};
+use bufr_base::OutOfMemory;
 use clap::{Arg, ArgAction, ArgMatches, Command, Error};
 use std::alloc::Global;
 use std::convert::AsStr;
 
-/// The name of the program, with which the line of a fault begins.
+/// The name of the program.
 pub(crate) const NAME: &str = "bufr";
 
-/// The version that the program tells.
+/// The version of the program.
 const VERSION: &str = "0.1.0";
 
-/// An example of each command, at the end of its help.
+/// The example at the end of the help of `show`; then those of the others.
 const SHOW: &str = "Example: bufr show -b elements.csv -d sequences.csv bulletins.bufr";
 
 const CHECK: &str =
@@ -35,45 +36,11 @@ const ADD: &str = "Example: bufr add -b elements.csv -d sequences.csv -o day.buf
 const MERGE: &str =
     "Example: bufr merge -b elements.csv -d sequences.csv -o week.bufr mon.bufr tue.bufr";
 
-/// What a command line asks for.
-#[derive(Clone, Copy, Debug, Drop, PartialEq, Eq)]
-pub enum Task {
-    /// The listings of a file's messages.
-    Show,
-    /// A line for each frame of a file.
-    Check,
-    /// The messages of a listing.
-    Encode,
-    /// An archive of the reports of streams.
-    Add,
-    /// An archive of the reports of archives.
-    Merge,
-}
-
-/// A command line that asks for work.
-#[derive(Debug, Drop)]
-pub struct CommandLine<'a> {
-    /// What it asks for.
-    pub task: Task,
-    /// The path of the file of Table B.
-    pub b: &'a str,
-    /// The path of the file of Table D.
-    pub d: &'a str,
-    /// Whether every message is to be compressed.
-    pub compressed: bool,
-    /// The path of the archive that is written, empty where the command writes none.
-    pub out: &'a str,
-    /// The paths of the inputs, in order.
-    pub inputs: Vec<&'a str>,
-}
-
-/// The command line that words are, without the program's name. Words that are none, or that ask
-/// for help or the version, are an error of `clap`, whose text and exit status are the answer to
-/// them; it is also answered where memory runs out.
-pub fn line<'a, S: AsStr>(alloc: Global, words: &'a [S]) -> Result<CommandLine<'a>, Error>
-    // The task, the paths and the flag are the subcommand, the values and the flag that `clap`
-    // defines for the words.
-    ensures task { IfOk result (λ l. l.task ≡ task_of (map S.text words.now)) }
+/// Reads the words of a command line, without the program's name. If they are no line, or ask for help
+/// or the version, returns the error of `clap`.
+pub fn line<'a, S: AsStr>(alloc: Global, words: &'a [S]) -> Result<Line<'a>, Error>
+    // The command, the paths and the flag are those that `clap` defines for the words.
+    ensures command { IfOk result (λ l. l.command ≡ command_of (map S.text words.now)) }
     ensures b { IfOk result (λ l. l.b.now ≡ value_of (codes "b") (map S.text words.now)) }
     ensures d { IfOk result (λ l. l.d.now ≡ value_of (codes "d") (map S.text words.now)) }
     ensures compressed { IfOk result
@@ -81,7 +48,7 @@ pub fn line<'a, S: AsStr>(alloc: Global, words: &'a [S]) -> Result<CommandLine<'
     ensures out { IfOk result (λ l. l.out.now ≡ value_of (codes "out") (map S.text words.now)) }
     ensures inputs { IfOk result (λ l. map (λ path. path.now) l.inputs.items
         ≡ values_of (codes "input") (map S.text words.now)) }
-    // Words that `clap` defines as taken are refused for memory alone.
+    // Words that `clap` takes are refused for want of memory alone.
     ensures taken { IfErr result
         (λ e. takes commands (map S.text words.now) ≡ true → kind_of e ≡ NoMemory) }
 {
@@ -89,9 +56,9 @@ pub fn line<'a, S: AsStr>(alloc: Global, words: &'a [S]) -> Result<CommandLine<'
     Ok(line_of(alloc, &matches)?)
 }
 
-/// The command line of the command that was named.
-fn line_of<'a>(alloc: Global, matches: &ArgMatches<'a>) -> Result<CommandLine<'a>, OutOfMemory>
-    ensures task { IfOk result (λ l. l.task ≡ task_in (subcommand_rows_of matches.now)) }
+/// Makes the line of what `clap` read.
+fn line_of<'a>(alloc: Global, matches: &ArgMatches<'a>) -> Result<Line<'a>, OutOfMemory>
+    ensures command { IfOk result (λ l. l.command ≡ command_in (subcommand_rows_of matches.now)) }
     ensures b { IfOk result
         (λ l. l.b.now ≡ value_in (codes "b") (subcommand_rows_of matches.now)) }
     ensures d { IfOk result
@@ -104,8 +71,8 @@ fn line_of<'a>(alloc: Global, matches: &ArgMatches<'a>) -> Result<CommandLine<'a
         ≡ values_in (codes "input") (subcommand_rows_of matches.now)) }
 {
     let inputs = values(alloc, matches, "input")?;
-    Ok(CommandLine {
-        task: asked_task(matches),
+    Ok(Line {
+        command: asked_command(matches),
         b: value(matches, "b"),
         d: value(matches, "d"),
         compressed: is_up(matches, "compressed"),
@@ -114,20 +81,20 @@ fn line_of<'a>(alloc: Global, matches: &ArgMatches<'a>) -> Result<CommandLine<'a
     })
 }
 
-/// The task of the command that was named.
-fn asked_task<'a>(matches: &ArgMatches<'a>) -> Task
-    ensures { result ≡ task_in (subcommand_rows_of matches.now) }
+/// Returns the command.
+fn asked_command<'a>(matches: &ArgMatches<'a>) -> lines::Command
+    ensures { result ≡ command_in (subcommand_rows_of matches.now) }
 {
     match matches.subcommand_name().unwrap_or("") {
-        "check" => Task::Check,
-        "encode" => Task::Encode,
-        "add" => Task::Add,
-        "merge" => Task::Merge,
-        _ => Task::Show,
+        "check" => lines::Command::Check,
+        "encode" => lines::Command::Encode,
+        "add" => lines::Command::Add,
+        "merge" => lines::Command::Merge,
+        _ => lines::Command::Show,
     }
 }
 
-/// The value of an argument of the command that was named, the empty text where it has none.
+/// Returns the value of an argument, or the empty text.
 fn value<'a>(matches: &ArgMatches<'a>, id: &str) -> &'a str
     ensures { result.now ≡ value_in id.now (subcommand_rows_of matches.now) }
 {
@@ -137,7 +104,7 @@ fn value<'a>(matches: &ArgMatches<'a>, id: &str) -> &'a str
     }
 }
 
-/// All values of an argument of the command that was named, in order.
+/// Returns all values of an argument, in order.
 fn values<'a>(
     alloc: Global,
     matches: &ArgMatches<'a>,
@@ -155,14 +122,14 @@ fn values<'a>(
     }
 }
 
-/// Whether a flag of the command that was named is up.
+/// Whether a flag is up.
 fn is_up<'a>(matches: &ArgMatches<'a>, id: &str) -> bool
     ensures { result ≡ flag_in id.now (subcommand_rows_of matches.now) }
 {
     value(matches, id) == "true"
 }
 
-/// The commands of the program.
+/// Describes the program with all its commands.
 fn bufr<'a>(alloc: Global) -> Result<Command<'a>, OutOfMemory>
     ensures { IfOk result (λ c. app_of c ≡ commands) }
 {
@@ -179,14 +146,14 @@ fn bufr<'a>(alloc: Global) -> Result<Command<'a>, OutOfMemory>
     with_command(with_command(without_archive(alloc), adding), merging)
 }
 
-/// The commands that write no archive.
+/// Describes the program with the commands that write no archive.
 fn without_archive<'a>(alloc: Global) -> Result<Command<'a>, OutOfMemory>
     ensures { IfOk result (λ c. app_of c ≡ commands_without_archive) }
 {
     with_command(that_read(alloc), encoding(alloc))
 }
 
-/// The commands that read a file of messages.
+/// Describes the program with the commands that read messages.
 fn that_read<'a>(alloc: Global) -> Result<Command<'a>, OutOfMemory>
     ensures { IfOk result (λ c. app_of c ≡ with_subcommand
         (with_subcommand program (reading_command (codes "show")))
@@ -198,7 +165,7 @@ fn that_read<'a>(alloc: Global) -> Result<Command<'a>, OutOfMemory>
     with_command(with_show, reading(alloc, "check", [check, CHECK]))
 }
 
-/// The program before it has a command.
+/// Describes the program without a command.
 fn program<'a>(alloc: Global) -> Result<Command<'a>, OutOfMemory>
     ensures { IfOk result (λ c. app_of c ≡ program) }
 {
@@ -210,7 +177,7 @@ fn program<'a>(alloc: Global) -> Result<Command<'a>, OutOfMemory>
         .bin_name("bufr")
 }
 
-/// A program with one more command, where memory ran out for neither.
+/// Adds a command to a program.
 fn with_command<'a>(
     before: Result<Command<'a>, OutOfMemory>,
     command: Result<Command<'a>, OutOfMemory>,
@@ -223,7 +190,7 @@ fn with_command<'a>(
     before?.subcommand(command)
 }
 
-/// A command that reads a file of messages under tables, with what it does and an example.
+/// Describes a command that reads messages, by what it does and an example.
 fn reading<'a>(
     alloc: Global,
     name: &'a str,
@@ -239,7 +206,7 @@ fn reading<'a>(
     ))
 }
 
-/// The command that reads a listing under tables.
+/// Describes `encode`.
 fn encoding<'a>(alloc: Global) -> Result<Command<'a>, OutOfMemory>
     ensures { IfOk result (λ c. shape_of c ≡ encoding_command) }
 {
@@ -257,8 +224,7 @@ fn encoding<'a>(alloc: Global) -> Result<Command<'a>, OutOfMemory>
     ))
 }
 
-/// A command that writes an archive of what it reads under tables, with what it does and an
-/// example.
+/// Describes a command that writes an archive, by what it does and an example.
 fn collecting<'a>(
     alloc: Global,
     name: &'a str,
@@ -274,7 +240,7 @@ fn collecting<'a>(
         .arg(input(alloc, files, help, ArgAction::Append))
 }
 
-/// A command under tables, with what it does and an example.
+/// Describes the options of the tables, which each command has.
 fn under_tables<'a>(
     alloc: Global,
     name: &'a str,
@@ -292,7 +258,7 @@ fn under_tables<'a>(
         .arg(path(alloc, "d", 'd', "TABLE_D", d))
 }
 
-/// The option of a file.
+/// Describes the option of a file.
 fn path<'a>(alloc: Global, id: &'a str, short: char, name: &'a str, help: &'a str) -> Arg<'a>
     ensures rule { rule_of result ≡ path_option id.now short }
     ensures local { result.global ≡ false }
@@ -305,7 +271,7 @@ fn path<'a>(alloc: Global, id: &'a str, short: char, name: &'a str, help: &'a st
         .action(ArgAction::Set)
 }
 
-/// A flag, by its word.
+/// Describes a flag.
 fn switch<'a>(alloc: Global, id: &'a str, help: &'a str) -> Arg<'a>
     ensures rule { rule_of result ≡ flag id.now }
     ensures local { result.global ≡ false }
@@ -316,7 +282,7 @@ fn switch<'a>(alloc: Global, id: &'a str, help: &'a str) -> Arg<'a>
         .action(ArgAction::SetTrue)
 }
 
-/// The files that are read, one or several by what is done with a word.
+/// Describes the argument of the inputs.
 fn input<'a>(alloc: Global, name: &'a str, help: &'a str, action: ArgAction) -> Arg<'a>
     ensures rule { rule_of result ≡ input_argument action }
     ensures local { result.global ≡ false }

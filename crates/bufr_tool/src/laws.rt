@@ -1,35 +1,35 @@
-//! Laws of the command line: each function states some by its contract, and does nothing.
+//! Laws of the command line: each function has one as its contract, and does nothing.
 
 ghost use Rattle.std.specs.Prelude.{◌≡◌, ◌∷◌, true, false, [], codes};
 ghost use Rattle.clap.specs.Words.{takes};
 ghost use Rattle.bufr_tool.specs.CommandLines.{collecting_words, commands, compressed_words, flag_of};
-ghost use Rattle.bufr_tool.specs.CommandLines.{line_words, task_of, value_of, values_of};
-ghost use Rattle.bufr_tool.specs.declared.command_line.Task.TheVariants.{Show, Check, Encode, Add, Merge};
+ghost use Rattle.bufr_tool.specs.CommandLines.{line_words, command_of, value_of, values_of};
+ghost use Rattle.bufr_tool.specs.declared.lines.Command.TheVariants.{Show, Check, Encode, Add, Merge};
 
-/// A line of `show`, written out, is taken, and has its task and its paths.
+/// `clap` takes a line of `show`, and it has its command and its paths.
 pub fn lines_of_show()
     ensures taken { takes commands (line_words (codes "show")) ≡ true }
-    ensures task { task_of (line_words (codes "show")) ≡ Show }
+    ensures command { command_of (line_words (codes "show")) ≡ Show }
     ensures b { value_of (codes "b") (line_words (codes "show")) ≡ codes "elements.csv" }
     ensures d { value_of (codes "d") (line_words (codes "show")) ≡ codes "sequences.csv" }
     ensures inputs { values_of (codes "input") (line_words (codes "show"))
         ≡ codes "bulletin" ∷ [] }
 {}
 
-/// So has one of `check`.
+/// The same for `check`.
 pub fn lines_of_check()
     ensures taken { takes commands (line_words (codes "check")) ≡ true }
-    ensures task { task_of (line_words (codes "check")) ≡ Check }
+    ensures command { command_of (line_words (codes "check")) ≡ Check }
     ensures b { value_of (codes "b") (line_words (codes "check")) ≡ codes "elements.csv" }
     ensures d { value_of (codes "d") (line_words (codes "check")) ≡ codes "sequences.csv" }
     ensures inputs { values_of (codes "input") (line_words (codes "check"))
         ≡ codes "bulletin" ∷ [] }
 {}
 
-/// So has one of `encode`, and its flag is not up.
+/// The same for `encode`: its flag is not up.
 pub fn lines_of_encode()
     ensures taken { takes commands (line_words (codes "encode")) ≡ true }
-    ensures task { task_of (line_words (codes "encode")) ≡ Encode }
+    ensures command { command_of (line_words (codes "encode")) ≡ Encode }
     ensures b { value_of (codes "b") (line_words (codes "encode")) ≡ codes "elements.csv" }
     ensures d { value_of (codes "d") (line_words (codes "encode")) ≡ codes "sequences.csv" }
     ensures compressed { flag_of (codes "compressed") (line_words (codes "encode")) ≡ false }
@@ -37,10 +37,10 @@ pub fn lines_of_encode()
         ≡ codes "bulletin" ∷ [] }
 {}
 
-/// So has one of `encode` with its flag, which is up.
+/// The same for `encode` with its flag, which is up.
 pub fn lines_of_compressed_encode()
     ensures taken { takes commands compressed_words ≡ true }
-    ensures task { task_of compressed_words ≡ Encode }
+    ensures command { command_of compressed_words ≡ Encode }
     ensures b { value_of (codes "b") compressed_words ≡ codes "elements.csv" }
     ensures d { value_of (codes "d") compressed_words ≡ codes "sequences.csv" }
     ensures compressed { flag_of (codes "compressed") compressed_words ≡ true }
@@ -48,10 +48,10 @@ pub fn lines_of_compressed_encode()
         ≡ codes "bulletin" ∷ [] }
 {}
 
-/// So has one of `add`, with the archive that it writes and two inputs.
+/// The same for `add`, with its archive and two inputs.
 pub fn lines_of_add()
     ensures taken { takes commands (collecting_words (codes "add")) ≡ true }
-    ensures task { task_of (collecting_words (codes "add")) ≡ Add }
+    ensures command { command_of (collecting_words (codes "add")) ≡ Add }
     ensures b { value_of (codes "b") (collecting_words (codes "add")) ≡ codes "elements.csv" }
     ensures d { value_of (codes "d") (collecting_words (codes "add")) ≡ codes "sequences.csv" }
     ensures out { value_of (codes "out") (collecting_words (codes "add")) ≡ codes "archive" }
@@ -59,10 +59,10 @@ pub fn lines_of_add()
         ≡ codes "first" ∷ codes "second" ∷ [] }
 {}
 
-/// So has one of `merge`.
+/// The same for `merge`.
 pub fn lines_of_merge()
     ensures taken { takes commands (collecting_words (codes "merge")) ≡ true }
-    ensures task { task_of (collecting_words (codes "merge")) ≡ Merge }
+    ensures command { command_of (collecting_words (codes "merge")) ≡ Merge }
     ensures b { value_of (codes "b") (collecting_words (codes "merge")) ≡ codes "elements.csv" }
     ensures d { value_of (codes "d") (collecting_words (codes "merge")) ≡ codes "sequences.csv" }
     ensures out { value_of (codes "out") (collecting_words (codes "merge")) ≡ codes "archive" }

@@ -1,4 +1,4 @@
-//! Worked values of the lines that the commands print.
+//! Worked values of the last lines.
 
 ghost use Rattle.std.specs.Prelude.{◌≡◌, ◌++◌, ◌∷◌, [], codes};
 ghost use Rattle.bufr_engines.specs.Samples.{counted};

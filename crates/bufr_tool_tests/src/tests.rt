@@ -8,11 +8,10 @@ mod samples;
 mod streams;
 mod table_files;
 
-use bufr_io::{Input, Tally, ToolFault};
 use bufr_listing::ListingFault;
-use bufr_message::{EncodeFault, WriteFault};
+use bufr_message::{EncodeFault, MisfitFault};
 use bufr_tables::{Column, TableFault};
-use bufr_tool::{MOST_READS, run_check, run_encode, run_show};
+use bufr_tool::{Input, MOST_READS, Tally, ToolFault, run_check, run_encode, run_show};
 use devices::{Reader, Writer};
 use samples::tables;
 use std::alloc::Global;
@@ -172,7 +171,7 @@ const FAULTS: [(ToolFault, &str); 14] = [
         "message 7: E4 NoDescriptors",
     ),
     (
-        ToolFault::Encode(2, EncodeFault::Data(WriteFault::NotCompressible(1))),
+        ToolFault::Encode(2, EncodeFault::Data(MisfitFault::NotCompressible(1))),
         "message 2: E2 NotCompressible 1",
     ),
 ];

@@ -1,4 +1,4 @@
-//! An archive kept in a file.
+//! Keeping an archive in a file.
 ghost use Rattle.std.specs.Prelude.{◌≡◌, IfOk, IfErr};
 ghost use Rattle.bufr_archive.specs.Texts.{text};
 ghost use Rattle.bufr_usage.specs.Callers.{HasTakenIn, IsNotTakenIn};
@@ -8,10 +8,10 @@ use bufr_bits::IntoWrite;
 use bufr_message::{Failure, OutOfMemory, Refused, Tables};
 use std::alloc::Global;
 
-/// Why a message was not taken into a file's archive.
+/// Why a message did not go into a file's archive.
 #[derive(Debug, Drop)]
 pub enum KeepFault {
-    /// The file is no archive's text.
+    /// The file is no archive.
     NotAnArchive(NotAnArchive),
     /// The octets spell no message.
     Refused(Refused),
@@ -19,9 +19,8 @@ pub enum KeepFault {
     OutOfMemory,
 }
 
-/// What an archive's file has to hold once the reports of a message are taken in: `file` is its
-/// octets before, empty where there was none, and `message` those of the message. Refused are a
-/// file that is no archive's text and octets that spell no message; memory may run out.
+/// Adds a message to the archive of a file, and returns the file's new octets. An empty file is an
+/// empty archive.
 pub fn with_message(
     alloc: Global,
     tables: &Tables,
@@ -47,7 +46,7 @@ pub fn with_message(
     }
 }
 
-/// The text of an archive, all at once. It can only run out of memory.
+/// Writes an archive's text to a vector.
 fn text_of<S: Shelf>(alloc: Global, archive: &Archive<'_, S>) -> Result<Vec<u8>, OutOfMemory>
     ensures { IfOk result (λ octets. octets.items ≡ text archive.now.entries) }
 {

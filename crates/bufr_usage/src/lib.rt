@@ -1,5 +1,5 @@
-//! Callers of the libraries of `bufr`, for programs that stand on them: the reports of a message
-//! counted, a message written anew, a stream cut into frames, an archive kept in a file.
+//! Callers of the libraries of `bufr`, as patterns for programs: they count a message's reports,
+//! rewrite a message, cut a stream into frames, and keep an archive in a file.
 #![tactic(auto)]
 
 mod counting;

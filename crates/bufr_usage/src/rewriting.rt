@@ -1,4 +1,4 @@
-//! A message decoded, and written anew.
+//! Rewriting a message.
 ghost use Rattle.std.specs.Prelude.{IfOk, IfErr};
 ghost use Rattle.bufr_usage.specs.Callers.{IsRewritten, IsNotRewritten};
 
@@ -16,9 +16,8 @@ pub enum RewriteFault {
     OutOfMemory,
 }
 
-/// The message that octets spell, written anew: of edition 4, with nothing in what is free, and the
-/// columns of compressed data as narrow as they can be. Refused is what spells no message, and a
-/// message that has no encoding; memory may run out.
+/// Rewrites a message: in edition 4, with free octets and bits left empty, and compressed columns
+/// of the least width.
 pub fn rewritten(alloc: Global, tables: &Tables, octets: &[u8]) -> Result<Vec<u8>, RewriteFault>
     ensures rewritten { IfOk result (λ v. IsRewritten tables.now octets.now v.items) }
     ensures refused { IfErr result (IsNotRewritten tables.now octets.now) }

@@ -1,27 +1,26 @@
-//! The callers on one message of a station. Octets are typed from the layout of messages.
+//! The callers on messages of one station. Octets are typed from the layout of messages.
+
+mod faces;
 
 use super::*;
-use bufr_answers::Failure;
 use bufr_archive::NotAnArchive;
 use bufr_frame::Found;
-use bufr_message::Refused;
-use bufr_table_files::{parse_table_b, parse_table_d};
-use bufr_tables::Tables;
+use bufr_message::{Failure, Refused};
+use bufr_tables::{TableB, TableD, Tables};
 use std::alloc::Global;
 use std::process::Abort;
 
-/// Table B of the tests.
 const TABLE_B: &[u8] = b"FXY,BUFR_Unit,BUFR_Scale,BUFR_ReferenceValue,BUFR_DataWidth_Bits\n\
 012101,K,2,0,16\n";
 
-/// 273.15 K, with an octet behind the data: 50 octets.
+/// 273.15 K, with an octet after the data: 50 octets.
 const SLACK: &[u8] = b"BUFR\x00\x00\x32\x04\
 \x00\x00\x16\x00\x00\x62\x00\x00\x00\x00\x00\x02\x00\x25\x00\x07\xE8\x01\x0F\x0C\x00\x00\
 \x00\x00\x09\x00\x00\x01\x80\x0C\x65\
 \x00\x00\x07\x00\x6A\xB3\xFF\
 7777";
 
-/// The same without it: 49 octets.
+/// 273.15 K without that octet: 49 octets.
 const BARE: &[u8] = b"BUFR\x00\x00\x31\x04\
 \x00\x00\x16\x00\x00\x62\x00\x00\x00\x00\x00\x02\x00\x25\x00\x07\xE8\x01\x0F\x0C\x00\x00\
 \x00\x00\x09\x00\x00\x01\x80\x0C\x65\
@@ -35,7 +34,7 @@ const WARMER: &[u8] = b"BUFR\x00\x00\x31\x04\
 \x00\x00\x06\x00\x6A\xB4\
 7777";
 
-/// Both messages, one behind the other: an archive of 98 octets.
+/// Both messages: an archive of 98 octets.
 const ARCHIVE: &[u8] = b"BUFR\x00\x00\x31\x04\
 \x00\x00\x16\x00\x00\x62\x00\x00\x00\x00\x00\x02\x00\x25\x00\x07\xE8\x01\x0F\x0C\x00\x00\
 \x00\x00\x09\x00\x00\x01\x80\x0C\x65\
@@ -47,7 +46,7 @@ BUFR\x00\x00\x31\x04\
 \x00\x00\x06\x00\x6A\xB4\
 7777";
 
-/// The same with an octet behind it.
+/// The archive and one more octet.
 const ARCHIVE_AND_MORE: &[u8] = b"BUFR\x00\x00\x31\x04\
 \x00\x00\x16\x00\x00\x62\x00\x00\x00\x00\x00\x02\x00\x25\x00\x07\xE8\x01\x0F\x0C\x00\x00\
 \x00\x00\x09\x00\x00\x01\x80\x0C\x65\
@@ -59,7 +58,7 @@ BUFR\x00\x00\x31\x04\
 \x00\x00\x06\x00\x6A\xB4\
 7777B";
 
-/// The first with an octet behind the data, a stray `BUFR`, and the first without it.
+/// The message with an octet after the data, a stray `BUFR`, and the message without it.
 const STREAM: &[u8] = b"BUFR\x00\x00\x32\x04\
 \x00\x00\x16\x00\x00\x62\x00\x00\x00\x00\x00\x02\x00\x25\x00\x07\xE8\x01\x0F\x0C\x00\x00\
 \x00\x00\x09\x00\x00\x01\x80\x0C\x65\
@@ -79,21 +78,21 @@ const BOTH: &[u8] = b"BUFR\x00\x00\x33\x04\
 \x00\x00\x08\x00\x6A\xB3\x0C\x10\
 7777";
 
-/// The same with increments of two bits, the fewest: 011010101011 0011, 000010, 00, 01.
+/// Both with increments of two bits, the fewest: 011010101011 0011, 000010, 00, 01.
 const NARROW: &[u8] = b"BUFR\x00\x00\x33\x04\
 \x00\x00\x16\x00\x00\x62\x00\x00\x00\x00\x00\x02\x00\x25\x00\x07\xE8\x01\x0F\x0C\x00\x00\
 \x00\x00\x09\x00\x00\x02\xC0\x0C\x65\
 \x00\x00\x08\x00\x6A\xB3\x08\x40\
 7777";
 
-/// 273.15 K in edition 3, whose sub-category is 2: 44 octets.
+/// 273.15 K in edition 3, with sub-category 2: 44 octets.
 const EDITION_3: &[u8] = b"BUFR\x00\x00\x2C\x03\
 \x00\x00\x11\x00\x00\x62\x00\x00\x00\x02\x25\x00\x18\x01\x0F\x0C\x00\
 \x00\x00\x09\x00\x00\x01\x80\x0C\x65\
 \x00\x00\x06\x00\x6A\xB3\
 7777";
 
-/// The same in edition 4: the international sub-category is 255, the local one 2.
+/// 273.15 K in edition 4: international sub-category 255, local one 2.
 const EDITION_4: &[u8] = b"BUFR\x00\x00\x31\x04\
 \x00\x00\x16\x00\x00\x62\x00\x00\x00\x00\x00\xFF\x02\x25\x00\x07\xE8\x01\x0F\x0C\x00\x00\
 \x00\x00\x09\x00\x00\x01\x80\x0C\x65\
@@ -107,14 +106,12 @@ const EMPTY: &[u8] = b"BUFR\x00\x00\x2F\x04\
 \x00\x00\x04\x00\
 7777";
 
-/// The tables of the tests.
 fn tables(rt: &impl Abort, alloc: Global) -> Tables {
-    let elements = parse_table_b(alloc, TABLE_B).expect(rt, "a table");
-    let sequences = parse_table_d(alloc, b"FXY1,FXY2\n".as_slice()).expect(rt, "a table");
+    let elements = TableB::parse(alloc, TABLE_B).expect(rt, "a table");
+    let sequences = TableD::parse(alloc, b"FXY1,FXY2\n".as_slice()).expect(rt, "a table");
     Tables::new(elements, sequences)
 }
 
-/// Whether a caller answers these octets.
 fn gives<E: Drop>(answer: Result<Vec<u8>, E>, wanted: &[u8]) -> bool {
     match answer {
         Ok(octets) => octets.as_slice() == wanted,
@@ -122,7 +119,6 @@ fn gives<E: Drop>(answer: Result<Vec<u8>, E>, wanted: &[u8]) -> bool {
     }
 }
 
-/// Messages, and how many reports each has.
 const COUNTED: [(&[u8], usize); 4] = [(EMPTY, 0), (BARE, 1), (EDITION_3, 1), (BOTH, 2)];
 
 #[test]
@@ -135,7 +131,6 @@ fn reports_are_counted(rt: HostRuntime) {
     assert!(rt; refused == Err(Failure::Fault(Refused::TotalLength)));
 }
 
-/// Messages, and what each is when it is written anew.
 const REWRITTEN: [(&[u8], &[u8]); 5] = [
     (SLACK, BARE),
     (BARE, BARE),
@@ -144,7 +139,7 @@ const REWRITTEN: [(&[u8], &[u8]); 5] = [
     (EDITION_3, EDITION_4),
 ];
 
-/// Whether octets were not written anew since they are cut.
+/// Whether a message was refused as cut.
 fn is_cut(answer: Result<Vec<u8>, RewriteFault>) -> bool {
     matches!(answer, Err(RewriteFault::Refused(Refused::TotalLength)))
 }
@@ -158,7 +153,6 @@ fn slack_is_not_rewritten(rt: HostRuntime) {
     assert!(rt; is_cut(rewritten(rt.alloc(), &tables, &SLACK[..40])));
 }
 
-/// Whether one frame, of these octets at a place, was handed out.
 fn is_frame(found: &[Found], place: u64, octets: &[u8]) -> bool {
     match found {
         [frame] => frame.place == place && frame.bytes.as_slice() == octets,
@@ -173,8 +167,8 @@ fn frames_before_and_at_the_end(rt: HostRuntime) {
     assert!(rt; is_frame(&frames.last, 54, BARE));
 }
 
-/// An archive's file, a message, and the file once the message's reports are taken in, in place of,
-/// behind or before others.
+/// An archive's file, a message, and the file with the message: in place of, after or before
+/// others.
 const TAKEN_IN: [(&[u8], &[u8], &[u8]); 6] = [
     (b"", SLACK, BARE),
     (BARE, SLACK, BARE),
@@ -184,7 +178,7 @@ const TAKEN_IN: [(&[u8], &[u8], &[u8]); 6] = [
     (ARCHIVE, EMPTY, ARCHIVE),
 ];
 
-/// Whether a file that a message was not taken into is no archive's text from a place on.
+/// Whether a file is no archive from this place on.
 fn breaks(answer: Result<Vec<u8>, KeepFault>, at: u64) -> bool {
     match answer {
         Err(KeepFault::NotAnArchive(NotAnArchive { place })) => place == at,
@@ -192,7 +186,7 @@ fn breaks(answer: Result<Vec<u8>, KeepFault>, at: u64) -> bool {
     }
 }
 
-/// A file that is no archive is told, whatever the message.
+/// A file that is no archive is a fault, whatever the message.
 #[test]
 fn messages_taken_in(rt: HostRuntime) {
     let tables = tables(&rt, rt.alloc());

@@ -4,7 +4,7 @@
 use bufr_message::{
     Failure, Field, Message, OutOfMemory, Raw, Refused, TableFault, Tables, decode,
 };
-use bufr_table_files::{parse_table_b, parse_table_d};
+use bufr_tables::{TableB, TableD};
 use std::process::ExitCode;
 use std::{env, fs, io};
 use thiserror::Error;
@@ -12,16 +12,16 @@ use thiserror::Error;
 /// Why the fields of a file are not printed.
 #[derive(Debug, Drop, Error)]
 enum Problem {
-    /// The words of the call are not three.
+    /// There are not three words.
     #[error("usage: print_fields TABLE_B TABLE_D FILE")]
     Usage,
-    /// A file can't be read, or the output not be written.
+    /// A file can't be read, or the output can't be written.
     #[error("{0}")]
     Device(io::Error),
-    /// A file of tables has a fault.
+    /// A table has a fault.
     #[error("a table: {0}")]
     Table(TableFault),
-    /// The octets of the file spell no message.
+    /// The file has no message.
     #[error("refused: {0}")]
     Message(Refused),
     /// Memory ran out.
@@ -59,7 +59,7 @@ impl From<Failure<Refused>> for Problem {
     }
 }
 
-/// Prints a field: its descriptor, and its value, which is a number, a text or missing.
+/// Prints the descriptor of a field, and its value: a number, a text or missing.
 fn print_field(rt: &HostRuntime, field: &Field) -> Result<(), Problem> {
     let descriptor = field.fxy;
     match (field.value(), &field.raw) {
@@ -73,23 +73,23 @@ fn print_field(rt: &HostRuntime, field: &Field) -> Result<(), Problem> {
     Ok(())
 }
 
-/// The tables of two files.
+/// Reads the tables of two files.
 fn tables_of(rt: &HostRuntime, b: &str, d: &str) -> Result<Tables, Problem> {
     let text = fs::read(rt, b)?;
-    let elements = parse_table_b(rt.alloc(), text.as_slice())?;
+    let elements = TableB::parse(rt.alloc(), text.as_slice())?;
     let text = fs::read(rt, d)?;
-    let sequences = parse_table_d(rt.alloc(), text.as_slice())?;
+    let sequences = TableD::parse(rt.alloc(), text.as_slice())?;
     Ok(Tables::new(elements, sequences))
 }
 
-/// The message of a file.
+/// Reads the message of a file.
 fn message_of(rt: &HostRuntime, tables: &Tables, file: &str) -> Result<Message, Problem> {
     let octets = fs::read(rt, file)?;
     let decoded = decode(rt.alloc(), tables, octets.as_slice())?;
     Ok(decoded.message)
 }
 
-/// Prints the fields of the message of a file.
+/// Prints the fields of a file's message.
 fn print_message(rt: &HostRuntime, tables: &Tables, file: &str) -> Result<(), Problem> {
     let message = message_of(rt, tables, file)?;
     for subset in message.subsets.as_slice() {
@@ -100,7 +100,7 @@ fn print_message(rt: &HostRuntime, tables: &Tables, file: &str) -> Result<(), Pr
     Ok(())
 }
 
-/// Reads the files that the words of the call name, and prints the fields of the message.
+/// Reads the files that the words name, and prints the fields of the message.
 fn run(rt: &HostRuntime) -> Result<(), Problem> {
     let words = env::args(rt)?.collect::<Vec<String>>(rt.alloc())?;
     let [_, b, d, file] = words.as_slice() else {

@@ -1,4 +1,4 @@
-//! Depots and the archives of their slots, over both shelves.
+//! Depots over both shelves.
 
 use crate::tests::refusals::repeated;
 use crate::tests::same;
@@ -6,14 +6,14 @@ use crate::tests::samples::{
     COLDER, MONTH_13, NEXT_IN_MONTH_13, NEXT_STATION, PAIR_BACK, PAIR_FRONT, SEQUENCES,
     assert_holds, first, joined, tables,
 };
-use bufr_answers::Items;
-use bufr_archive::{MapShelf, Shelf, SortedShelf};
-use bufr_depot::{Answer, Depot, Plan, Ran, Step, StepFault, run_both};
+use bufr_archive::{
+    Answer, Depot, MapShelf, Plan, Ran, Shelf, SortedShelf, Step, StepFault, run_both,
+};
+use bufr_base::Items;
 use bufr_tables::Tables;
 use std::alloc::Global;
 use std::process::Abort;
 
-/// The archive of a slot holds these reports.
 fn assert_slot<S: Shelf>(
     rt: &impl Abort,
     alloc: Global,
@@ -25,29 +25,22 @@ fn assert_slot<S: Shelf>(
     assert_holds(rt, alloc, archive, held);
 }
 
-/// A piece for a slot.
 fn feed(rt: &impl Abort, alloc: Global, slot: usize, parts: &[&[u8]]) -> Step {
     let piece = Items::from_vec(joined(rt, alloc, parts));
     Step::Feed { slot, piece }
 }
 
-/// What a step does to a slot.
+/// A step of a slot. Joins take in the first slot.
 enum Done {
-    /// Its stream goes on by these octets.
     Feed(&'static [&'static [u8]]),
-    /// Its stream ends.
     End,
-    /// It takes in the first slot.
     Merge,
-    /// The same by a text.
     Transfer,
-    /// The same by a copy.
     Copy,
 }
 
 use Done::{Copy, End, Feed, Merge, Transfer};
 
-/// The step that does this to a slot.
 fn step_of(rt: &impl Abort, alloc: Global, done: &Done, slot: usize) -> Step {
     let (from, into) = (0, slot);
     match done {
@@ -59,8 +52,8 @@ fn step_of(rt: &impl Abort, alloc: Global, done: &Done, slot: usize) -> Step {
     }
 }
 
-/// The answer of a step that brings so many messages and new reports, of which so many were joined
-/// before; a step that joins slots brings none.
+/// The answer to a step that brings these messages and new reports, `before` of them for the second
+/// time.
 fn answer_of(done: &Done, messages: u128, new: u128, before: u128) -> Answer {
     let changed = new.saturating_sub(before);
     match done {
@@ -78,8 +71,7 @@ fn answer_of(done: &Done, messages: u128, new: u128, before: u128) -> Answer {
     }
 }
 
-/// A step that is done to a slot, how many messages and new reports it brings, and the reports that
-/// the slot has before it and after it.
+/// A step, its slot, its messages and new reports, and the slot's reports before and after it.
 type Row = (
     Done,
     usize,
@@ -89,9 +81,8 @@ type Row = (
     &'static [&'static [u8]],
 );
 
-/// A stream of two messages, behind the first of which is a stray `BUFR`, so that the other is sure
-/// with its end alone. Then each kind of step that brings the first slot's archive to another, which
-/// has a report of a key of that and one without key.
+/// Two messages with a stray `BUFR` between, so that the second is sure only at the end; and then
+/// each kind of join, into a slot with a report of a common key and one without a key.
 const ROWS: &[Row] = &[
     (Feed(&[PAIR_FRONT]), 0, 0, 0, &[], &[]),
     (Feed(&[PAIR_BACK, b"BUFR", MONTH_13]), 0, 1, 2, &[], TWO),
@@ -104,7 +95,7 @@ const ROWS: &[Row] = &[
     (Copy, 3, 0, 0, OTHERS, ALL),
 ];
 
-/// The reports of the first slot, and of another, and what that has once it has taken in the first.
+/// The reports of the first slot, of another, and of that one after it takes in the first.
 const TWO: &[&[u8]] = &[SEQUENCES, NEXT_STATION];
 
 const THREE: &[&[u8]] = &[SEQUENCES, NEXT_STATION, MONTH_13];
@@ -113,8 +104,7 @@ const OTHERS: &[&[u8]] = &[COLDER, NEXT_IN_MONTH_13];
 
 const ALL: &[&[u8]] = &[SEQUENCES, NEXT_STATION, MONTH_13, NEXT_IN_MONTH_13];
 
-/// The slot has what it had before a step that was refused, and as many of the reports that the step
-/// brings as were told; a step that joins slots tells none.
+/// The slot has its old reports and the first `joined` new ones.
 fn assert_refused<S: Shelf>(
     rt: &impl Abort,
     alloc: Global,
@@ -131,7 +121,7 @@ fn assert_refused<S: Shelf>(
     }
 }
 
-/// A step is done, and after a refusal it is done again.
+/// Does a step, and repeats it after a refusal.
 fn does<S: Shelf>(rt: &impl Abort, alloc: Global, depot: &mut Depot<S>, row: &Row) {
     let (done, slot, messages, new, _, after) = row;
     let step = step_of(rt, alloc, done, *slot);
@@ -146,7 +136,6 @@ fn does<S: Shelf>(rt: &impl Abort, alloc: Global, depot: &mut Depot<S>, row: &Ro
     assert_slot(rt, alloc, depot, *slot, *after);
 }
 
-/// A depot of so many slots.
 fn depot_of<'t, S: Shelf>(
     rt: &impl Abort,
     alloc: Global,
@@ -156,7 +145,6 @@ fn depot_of<'t, S: Shelf>(
     repeated!(rt, Depot::new(alloc, tables, slots))
 }
 
-/// Each kind of step. The first slot stays as it is when others take it in.
 fn steps<S: Shelf>(rt: &impl Abort, alloc: Global, tables: &Tables) {
     let mut depot: Depot<S> = depot_of(rt, alloc, tables, 4);
     for row in ROWS {
@@ -172,7 +160,7 @@ fn refused_growth_in_a_depot(rt: HostRuntime) {
     steps::<SortedShelf>(&rt, rt.alloc(), &tables);
 }
 
-/// How many of so many reports a step brought, by its answer.
+/// The number of reports that a step brought, by its answer.
 fn brought(answer: &Result<Answer, StepFault>, all: u128) -> u128 {
     match answer {
         Ok(_) => all,
@@ -181,8 +169,7 @@ fn brought(answer: &Result<Answer, StepFault>, all: u128) -> u128 {
     }
 }
 
-/// What the answers of a run tell is held: the piece brings all three reports, of two messages.
-/// Answered is whether each step was done.
+/// The depot holds what the answers say. Returns whether each step was done.
 fn assert_told<S: Shelf>(
     rt: &impl Abort,
     alloc: Global,
@@ -198,14 +185,13 @@ fn assert_told<S: Shelf>(
     fed.is_ok() && ended.is_ok() && joined.is_ok()
 }
 
-/// Steps are run, and no step of a refused run is done. What the answers tell is held. Answered is
-/// whether each step was done.
+/// Runs steps; a refused run does none. Returns whether each was done.
 fn run<S: Shelf>(rt: &impl Abort, alloc: Global, depot: &mut Depot<S>, steps: &[Step]) -> bool {
     let answers = repeated!(rt, depot.run(steps), assert_slot(rt, alloc, depot, 0, &[]));
     assert_told(rt, alloc, depot, &answers)
 }
 
-/// A run, and the same run again where a step was refused.
+/// Runs steps, and again after a refused step.
 fn runs<S: Shelf>(rt: &impl Abort, alloc: Global, tables: &Tables, steps: &[Step]) {
     let mut depot: Depot<S> = depot_of(rt, alloc, tables, 2);
     if !run(rt, alloc, &mut depot, steps) {
@@ -213,7 +199,6 @@ fn runs<S: Shelf>(rt: &impl Abort, alloc: Global, tables: &Tables, steps: &[Step
     }
 }
 
-/// A stream of two messages, its end, and a join.
 fn steps_of(rt: &impl Abort, alloc: Global) -> [Step; 3] {
     [
         feed(rt, alloc, 0, &[PAIR_FRONT, PAIR_BACK, MONTH_13]),
@@ -230,7 +215,7 @@ fn depots_run(rt: HostRuntime) {
     runs::<SortedShelf>(&rt, rt.alloc(), &tables, &steps);
 }
 
-/// Two plans are run, on a shelf of either kind. Answered is whether no step was refused.
+/// Runs two plans, on both shelves. Returns whether no step was refused.
 fn run_plans(rt: &impl Abort, alloc: Global, plan: &Plan<'_, '_>, other: &Plan<'_, '_>) -> bool {
     let (one, two): (Ran<MapShelf>, Ran<SortedShelf>) = repeated!(rt, run_both(alloc, plan, other));
     let first = assert_told(rt, alloc, &one.depot, &one.answers);
@@ -238,7 +223,6 @@ fn run_plans(rt: &impl Abort, alloc: Global, plan: &Plan<'_, '_>, other: &Plan<'
     first && second
 }
 
-/// The plans are run again where a step was refused.
 #[test]
 fn both_plans_run(rt: HostRuntime) {
     let tables = tables(&rt, rt.alloc());

@@ -1,12 +1,12 @@
-//! Reports gathered for an archive, and entries gathered for a shelf.
+//! Gathered reports and entries.
 
 use crate::tests::refusals::repeated;
 use crate::tests::same;
 use crate::tests::samples::{
     NEXT_STATION, PAIR_BACK, PAIR_FRONT, SEQUENCES, assert_holds, first, joined, tables,
 };
-use bufr_answers::{Items, OutOfMemory};
 use bufr_archive::{AddFault, Archive, ArchiveBuilder, ShelfBuilder, SortedShelf};
+use bufr_base::{Items, OutOfMemory};
 use bufr_tables::Tables;
 use std::alloc::Global;
 use std::process::Abort;
@@ -14,8 +14,7 @@ use std::process::Abort;
 /// The reports of the message of two stations.
 const GATHERED: [&[u8]; 2] = [SEQUENCES, NEXT_STATION];
 
-/// What an archive gives as its octets is the text of these messages. Answered is whether memory was
-/// not refused: else the archive is gone.
+/// Turns an archive into the text of these messages. Returns false if memory ran out.
 fn gives(rt: &impl Abort, alloc: Global, archive: Archive<SortedShelf>, wanted: &[&[u8]]) -> bool {
     let text = joined(rt, alloc, wanted);
     match archive.into_octets() {
@@ -27,8 +26,8 @@ fn gives(rt: &impl Abort, alloc: Global, archive: Archive<SortedShelf>, wanted: 
     }
 }
 
-/// A message of two reports is gathered. The reports that were told are held, and no others.
-/// Answered is whether both were told, and the archive gave its octets.
+/// Gathers a message of two reports; the builder holds those that it added. Returns whether it
+/// added both and the archive became octets.
 fn gathers(rt: &impl Abort, alloc: Global, tables: &Tables) -> bool {
     let octets = joined(rt, alloc, &[PAIR_FRONT, PAIR_BACK]);
     let mut builder = ArchiveBuilder::new(alloc, tables);
@@ -39,7 +38,7 @@ fn gathers(rt: &impl Abort, alloc: Global, tables: &Tables) -> bool {
             2
         }
     };
-    let Ok(archive) = builder.into_archive() else {
+    let Ok(archive) = Archive::of_gathered(alloc, builder) else {
         return false;
     };
     let held = first(rt, &GATHERED, told);
@@ -47,7 +46,6 @@ fn gathers(rt: &impl Abort, alloc: Global, tables: &Tables) -> bool {
     gives(rt, alloc, archive, held) && told == 2
 }
 
-/// The message is gathered, and once more where not both reports were told.
 #[test]
 fn refused_growth_while_gathering(rt: HostRuntime) {
     let tables = tables(&rt, rt.alloc());
@@ -56,13 +54,11 @@ fn refused_growth_while_gathering(rt: HostRuntime) {
     }
 }
 
-/// A copy of octets.
 fn copied(rt: &impl Abort, alloc: Global, octets: &[u8]) -> Items<u8> {
     Items::from_vec(repeated!(rt, Vec::from_slice(alloc, octets)))
 }
 
-/// Entries without key, one of them twice. After a refusal those before it are still there, and it is
-/// put again.
+/// Gathers entries without a key, one twice. A refused call leaves those before, and is repeated.
 fn entries(rt: &impl Abort, alloc: Global) -> ShelfBuilder {
     let mut builder = ShelfBuilder::new(alloc);
     for octets in [b"seven".as_slice(), b"none", b"later", b"none"] {
@@ -71,13 +67,11 @@ fn entries(rt: &impl Abort, alloc: Global) -> ShelfBuilder {
     builder
 }
 
-/// The octets of the shelf of those entries.
 fn octets_of(rt: &impl Abort, alloc: Global) -> Result<Vec<u8>, OutOfMemory> {
-    let shelf = entries(rt, alloc).into_shelf()?;
+    let shelf = SortedShelf::of_gathered(alloc, entries(rt, alloc))?;
     shelf.into_octets()
 }
 
-/// Those entries stand in order, and are gathered again where their shelf or its octets were refused.
 #[test]
 fn gathered_in_any_order(rt: HostRuntime) {
     let octets = repeated!(&rt, octets_of(&rt, rt.alloc()));

@@ -1,12 +1,12 @@
-//! Want of memory told from faults.
+//! Want of memory apart from faults.
 
-use bufr_answers::{Failure, OutOfMemory};
+use bufr_base::{Failure, OutOfMemory};
 use std::fmt::Debug;
 use std::process::Abort;
 
-/// A call's answer for want of memory.
+/// A failure that may be want of memory.
 pub(super) trait Refusal {
-    /// Whether memory was refused.
+    /// Whether memory ran out.
     fn is_refusal(&self) -> bool;
 }
 
@@ -22,13 +22,12 @@ impl<F> Refusal for Failure<F> {
     }
 }
 
-/// Stops the test at a fault that is no want of memory.
+/// Stops the test at any other fault.
 pub(super) fn assert_refused<E: Refusal + Debug + Drop>(rt: &impl Abort, fault: E) {
     assert!(rt; fault.is_refusal(), "{fault:?}");
 }
 
-/// What a call answers. Where memory was refused to it, what has to hold then is compared, if that
-/// is given, and it is made once more.
+/// Makes a call. If memory runs out, compares `then` if it is given, and repeats the call.
 macro_rules! repeated {
     ($rt:expr, $call:expr $(, $then:expr)?) => {
         match $call {

@@ -4,12 +4,10 @@ use crate::tests::refusals::repeated;
 use crate::tests::same;
 use bufr_archive::{Archive, Shelf};
 use bufr_bits::IntoWrite;
-use bufr_table_files::{parse_table_b, parse_table_d};
-use bufr_tables::Tables;
+use bufr_tables::{TableB, TableD, Tables};
 use std::alloc::Global;
 use std::process::Abort;
 
-/// Table B of the tests.
 const TABLE_B: &[u8] = b"FXY,BUFR_Unit,BUFR_Scale,BUFR_ReferenceValue,BUFR_DataWidth_Bits\n\
 001001,Numeric,0,0,7\n\
 001002,Numeric,0,0,10\n\
@@ -20,7 +18,6 @@ const TABLE_B: &[u8] = b"FXY,BUFR_Unit,BUFR_Scale,BUFR_ReferenceValue,BUFR_DataW
 004005,min,0,0,6\n\
 012101,K,2,0,16\n";
 
-/// Table D of the tests.
 const TABLE_D: &[u8] = b"FXY1,FXY2\n\
 301001,001001\n\
 301001,001002\n\
@@ -37,21 +34,21 @@ pub(super) const SEQUENCES: &[u8] = b"BUFR\x00\x00\x3E\x04\
 \x00\x00\x0D\x00\x14\xC0\x3F\x40\x9E\xC0\x1A\xAC\xC0\
 7777";
 
-/// The same with 273.14 K.
+/// The first message with 273.14 K.
 pub(super) const COLDER: &[u8] = b"BUFR\x00\x00\x3E\x04\
 \x00\x00\x16\x00\x00\x62\x00\x00\x00\x00\x00\x02\x00\x25\x00\x07\xE8\x01\x0F\x0C\x00\x00\
 \x00\x00\x0F\x00\x00\x01\x80\xC1\x01\xC1\x0B\xC1\x0C\x0C\x65\
 \x00\x00\x0D\x00\x14\xC0\x3F\x40\x9E\xC0\x1A\xAC\x80\
 7777";
 
-/// The first at the next station.
+/// The first message at the next station.
 pub(super) const NEXT_STATION: &[u8] = b"BUFR\x00\x00\x3E\x04\
 \x00\x00\x16\x00\x00\x62\x00\x00\x00\x00\x00\x02\x00\x25\x00\x07\xE8\x01\x0F\x0C\x00\x00\
 \x00\x00\x0F\x00\x00\x01\x80\xC1\x01\xC1\x0B\xC1\x0C\x0C\x65\
 \x00\x00\x0D\x00\x14\xC0\xBF\x40\x9E\xC0\x1A\xAC\xC0\
 7777";
 
-/// The first in month 13, so without key.
+/// The first message in month 13, so without a key.
 pub(super) const MONTH_13: &[u8] = b"BUFR\x00\x00\x3E\x04\
 \x00\x00\x16\x00\x00\x62\x00\x00\x00\x00\x00\x02\x00\x25\x00\x07\xE8\x01\x0F\x0C\x00\x00\
 \x00\x00\x0F\x00\x00\x01\x80\xC1\x01\xC1\x0B\xC1\x0C\x0C\x65\
@@ -65,7 +62,7 @@ pub(super) const NEXT_IN_MONTH_13: &[u8] = b"BUFR\x00\x00\x3E\x04\
 \x00\x00\x0D\x00\x14\xC0\xBF\x46\x9E\xC0\x1A\xAC\xC0\
 7777";
 
-/// The first and the next station as two plain subsets: 70 octets, in two pieces.
+/// The first message and the next station as two plain subsets: 70 octets, in two pieces.
 pub(super) const PAIR_FRONT: &[u8] = b"BUFR\x00\x00\x46\x04\
 \x00\x00\x16\x00\x00\x62\x00\x00\x00\x00\x00\x02\x00\x25\x00\x07\xE8\x01\x0F\x0C\x00\x00\
 \x00\x00\x0F\x00\x00\x02\x80\xC1\x01\xC1";
@@ -74,14 +71,12 @@ pub(super) const PAIR_BACK: &[u8] = b"\x0B\xC1\x0C\x0C\x65\
 \x00\x00\x15\x00\x14\xC0\x3F\x40\x9E\xC0\x1A\xAC\xC5\x30\x2F\xD0\x27\xB0\x06\xAB\x30\
 7777";
 
-/// The tables of the tests.
 pub(super) fn tables(rt: &impl Abort, alloc: Global) -> Tables {
-    let elements = repeated!(rt, parse_table_b(alloc, TABLE_B));
-    let sequences = repeated!(rt, parse_table_d(alloc, TABLE_D));
+    let elements = repeated!(rt, TableB::parse(alloc, TABLE_B));
+    let sequences = repeated!(rt, TableD::parse(alloc, TABLE_D));
     Tables::new(elements, sequences)
 }
 
-/// Octets joined in one vector.
 pub(super) fn joined(rt: &impl Abort, alloc: Global, parts: &[&[u8]]) -> Vec<u8> {
     let mut octets = Vec::new(alloc);
     for part in parts {
@@ -90,7 +85,6 @@ pub(super) fn joined(rt: &impl Abort, alloc: Global, parts: &[&[u8]]) -> Vec<u8>
     octets
 }
 
-/// The first so many of a list.
 pub(super) fn first<'a, T>(rt: &impl Abort, list: &'a [T], count: u128) -> &'a [T] {
     assert!(rt; count <= list.len() as u128);
     &list[..count as usize]

@@ -1,4 +1,4 @@
-//! Devices: they fail with cause alone, hand on what they are told to, and serve large pieces.
+//! Tests of devices: they fail only with cause, pass on what they took, and serve large pieces.
 
 ghost use Rattle.std.specs.Prelude.{◌≡◌, ◌<◌, false, length};
 
@@ -27,7 +27,7 @@ impl Read for FailsOnce {
     }
 }
 
-/// A writer that takes an octet, and then none.
+/// A writer that takes one octet and then none.
 #[derive(Drop)]
 struct TakesOne {
     full: bool,
@@ -56,7 +56,7 @@ fn a_source_fails_at_any_error(rt: HostRuntime) {
     same(&rt, source.into_inner().reads, 2);
 }
 
-/// A reader that gives none, and then an octet, as a terminal does whose end was told once.
+/// A reader that ends and then gives an octet, as a terminal can.
 #[derive(Debug, Drop)]
 struct EndsOnce {
     ended: bool,
@@ -99,7 +99,7 @@ fn a_sink_fails_where_nothing_is_taken(rt: HostRuntime) {
     same(&rt, flushed.flush(), Err(Failed));
 }
 
-/// A reader of octets that gives a few at a time.
+/// A reader that gives at most `most` octets at a time.
 #[derive(Drop)]
 struct GivesFew<'a> {
     rest: &'a [u8],
@@ -115,7 +115,7 @@ impl Read for GivesFew<'_> {
     }
 }
 
-/// All that a source gives, up to a hundred thousand reads into so much room.
+/// Reads a source to its end, in at most a hundred thousand reads.
 fn all_of<S: Source>(rt: &impl Abort, alloc: Global, source: &mut S, room: &mut [u8]) -> Vec<u8>
     requires works { (S.reading source.old).failed ≡ false }
     requires unread { (S.reading source.old).reads ≡ 0 }
@@ -132,7 +132,7 @@ fn all_of<S: Source>(rt: &impl Abort, alloc: Global, source: &mut S, room: &mut 
     panic!(rt; "no end")
 }
 
-/// A source over a reader that gives at most so many octets at a time, which is lent, gives all.
+/// Reads all from a lent source over a reader that gives at most `most` octets at a time.
 fn gives_all(rt: &impl Abort, alloc: Global, octets: &[u8], most: usize) {
     let mut room = vec![in alloc; 0u8; 70_000].expect(rt, "room");
     let mut source = FromRead::new(GivesFew { rest: octets, most });
@@ -150,7 +150,7 @@ fn a_lent_source_gives_all(rt: HostRuntime) {
     gives_all(&rt, rt.alloc(), octets.as_slice(), 70_000);
 }
 
-/// A writer that takes a few octets at a time, and counts how often it was to hand them on.
+/// A writer that takes at most `most` octets at a time and counts its flushes.
 #[derive(Drop)]
 struct TakesFew {
     taken: Vec<u8>,
@@ -173,8 +173,8 @@ impl Write for TakesFew {
     }
 }
 
-/// A sink over a writer that takes at most so many octets at a time, which is lent, takes all, and
-/// hands them on once.
+/// Writes all to a lent sink over a writer that takes at most `most` octets at a time, and flushes
+/// it once.
 fn takes_all(rt: &impl Abort, alloc: Global, octets: &[u8], most: usize) {
     let mut sink = IntoWrite::new(TakesFew {
         taken: Vec::new(alloc),

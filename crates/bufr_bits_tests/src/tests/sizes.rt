@@ -1,13 +1,13 @@
-//! Large texts, and the room of a sink: want of memory meets every contract, so these are compared
-//! whole.
+//! Tests of large texts and of a sink's room: want of memory meets every contract, so these compare
+//! all octets.
 
 use super::{expect_text, same};
-use bufr_answers::OutOfMemory;
+use bufr_base::OutOfMemory;
 use bufr_bits::{BitReader, BitSink};
 use std::alloc::Global;
 use std::process::Abort;
 
-/// So many octets, which go round by 251.
+/// Returns `n` octets that cycle through 0 to 250.
 pub(super) fn octets_of_length(alloc: Global, n: usize) -> Result<Vec<u8>, OutOfMemory> {
     let mut octets = Vec::with_capacity(alloc, n)?;
     for i in 0..n {
@@ -16,7 +16,7 @@ pub(super) fn octets_of_length(alloc: Global, n: usize) -> Result<Vec<u8>, OutOf
     Ok(octets)
 }
 
-/// A text, three bits, and the text again, in octets.
+/// Puts a text, three bits and the text again.
 fn text_twice(rt: &impl Abort, alloc: Global, text: &[u8]) -> Vec<u8> {
     let mut sink = BitSink::new(alloc);
     sink.put_bytes(text).expect(rt, "room");
@@ -27,7 +27,7 @@ fn text_twice(rt: &impl Abort, alloc: Global, text: &[u8]) -> Vec<u8> {
     sink.into_bytes()
 }
 
-/// Off the edge there are no octets left for one more, and that is then the place.
+/// At the end of a text inside an octet, fewer than eight bits are left.
 #[test]
 fn a_million_octets_on_and_off_the_edge(rt: HostRuntime) {
     let alloc = rt.alloc();
@@ -43,8 +43,8 @@ fn a_million_octets_on_and_off_the_edge(rt: HostRuntime) {
     same(&rt, reader.left(), 5);
 }
 
-/// A sink with room for so many octets, an odd number, has just that room once it is full: one that
-/// grew has twice as much as it had before.
+/// Fills a sink with room for `octets` octets, an odd number, and checks that it never grew:
+/// growing doubles the room.
 fn keeps_its_room(rt: &impl Abort, alloc: Global, octets: usize) {
     let mut sink = BitSink::with_capacity(alloc, octets).expect(rt, "room");
     for _ in 0..octets {

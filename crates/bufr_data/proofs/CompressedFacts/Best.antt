@@ -1,5 +1,4 @@
--- The column that is written is a column, and the one of the fewest bits: for the law on columns
--- (`columns_hold_values`) and for that on data (`data_hold_subsets`).
+-- The column written is a column, and of numbers the shortest.
 use Rattle.std.proofs.Common.{◌≡◌, ℕ, zero, suc, ◌+◌, ◌-◌, ◌*◌, ◌/◌, ◌^◌, ◌<◌, ◌≤◌, Bool, true}
 use Rattle.std.proofs.Common.{false, cond, List, [], ◌∷◌, ◌++◌, length, map, replicate, refl, sym}
 use Rattle.std.proofs.Common.{ap, subst, ◌∙◌, arith, length-append, inl, inr}
@@ -41,9 +40,6 @@ use Rattle.bufr_data.specs.Compressed.Best.{increment_of, best_numbers, best_tex
 use Rattle.bufr_data.specs.Compressed.Best.{best_differing, first_bits, best, widest, can_be_column}
 use Rattle.bufr_fields.specs.FormLaws.{same_kind_is}
 
--- ---- the fewest bits
-
--- one step of the search for the fewest bits keeps its bounds
 fewest_by : (more k d wide : ℕ) (b : Bool) → (nat_le (d + 2) (2 ^ k)) ≡ b → k ≤ wide
     → d + 2 ≤ 2 ^ wide
     → (k < wide
@@ -63,7 +59,6 @@ fewest_by more k d wide false e le fits after =
           let bad = sym yes ∙ e in absurd cc
     ]
 
--- the fewest bits are enough, and no wider than any width that is
 pub fewest : (more k d wide : ℕ) → k ≤ wide → wide ≤ k + more → d + 2 ≤ 2 ^ wide
     → (fewest_bits more k d ≤ wide) × (d + 2 ≤ 2 ^ fewest_bits more k d)
     × (k ≤ fewest_bits more k d)
@@ -75,15 +70,11 @@ fewest (suc more) k d wide le room fits =
     fewest_by more k d wide _ refl le fits
     (λ lt. fewest more (k + 1) d wide (omega (arith, lt)) (omega (arith, room)) fits)
 
--- ---- the least and the greatest
-
--- what follows of each number follows of all
 pub weaken : (P Q : ℕ → Type 0) (ns : List ℕ) → ((n : ℕ) → P n → Q n) → AllByRecursion P ns
     → AllByRecursion Q ns
 weaken P Q [] h all = tt
 weaken P Q (n ∷ ns) h all = (h n all.0, weaken P Q ns h all.1)
 
--- the least of a number and others is below each of them
 least_with_below : (n : ℕ) (ns : List ℕ) → AllByRecursion (λ m. least_with n ns ≤ m) (n ∷ ns)
 least_with_below n [] = (omega arith, tt)
 least_with_below n (m ∷ ms) =
@@ -93,12 +84,10 @@ least_with_below n (m ∷ ms) =
     (λ x le. omega (arith, small, le)) h.1 in
     (omega (arith, small, h.0), (min-le_left m (least_with n ms), others))
 
--- the least is below each number
 pub least_below : (ns : List ℕ) → AllByRecursion (λ m. least ns ≤ m) ns
 least_below [] = tt
 least_below (n ∷ ns) = least_with_below n ns
 
--- the greatest is above each number
 pub greatest_above : (ns : List ℕ) → AllByRecursion (λ m. m ≤ greatest ns) ns
 greatest_above [] = tt
 greatest_above (n ∷ ns) =
@@ -107,49 +96,38 @@ greatest_above (n ∷ ns) =
     (λ m le. omega (arith, great, le)) (greatest_above ns) in
     (le-max_left n (greatest ns), others)
 
--- a bound of all numbers is one of their least
 above_least : (a n : ℕ) (ns : List ℕ) → a ≤ n → AllByRecursion (λ m. a ≤ m) ns → a ≤ least_with n ns
 above_least a n [] le all = le
 above_least a n (m ∷ ms) le all = le-min all.0 (above_least a n ms le all.1)
 
--- a bound of all numbers is one of their greatest
 pub below_greatest : (b : ℕ) (ns : List ℕ) → AllByRecursion (λ m. m ≤ b) ns → greatest ns ≤ b
 below_greatest b [] all = omega arith
 below_greatest b (n ∷ ns) all = max-le all.0 (below_greatest b ns all.1)
 
--- ---- what is present
-
--- the step of `of_present` at one number
 of_present_by : (width : ℕ) (P : ℕ → Type 0) (n : ℕ) (ns : List ℕ) (b : Bool) → all_ones width n ≡ b
     → AllByRecursion P (cond (not b) (n ∷ present width ns) (present width ns))
     → (all_ones width n ≡ false → P n) × AllByRecursion P (present width ns)
 of_present_by width P n ns true e all = ((λ no. let bad = sym e ∙ no in absurd cc), all)
 of_present_by width P n ns false e all = ((λ no. all.0), all.1)
 
--- what holds of all numbers that are not missing holds of each that is not
 pub of_present : (width : ℕ) (P : ℕ → Type 0) (ns : List ℕ) → AllByRecursion P (present width ns)
     → AllByRecursion (λ n. all_ones width n ≡ false → P n) ns
 of_present width P [] all = tt
 of_present width P (n ∷ ns) all =
     let h = of_present_by width P n ns _ refl all in (h.0, of_present width P ns h.1)
 
--- the step of `to_present` at one number
 to_present_by : (width : ℕ) (P : ℕ → Type 0) (n : ℕ) (ns : List ℕ) (b : Bool) → all_ones width n ≡ b
     → (all_ones width n ≡ false → P n) → AllByRecursion P (present width ns)
     → AllByRecursion P (cond (not b) (n ∷ present width ns) (present width ns))
 to_present_by width P n ns true e each all = all
 to_present_by width P n ns false e each all = (each e, all)
 
--- and what holds of each that is not missing holds of all of those
 pub to_present : (width : ℕ) (P : ℕ → Type 0) (ns : List ℕ)
     → AllByRecursion (λ n. all_ones width n ≡ false → P n) ns → AllByRecursion P (present width ns)
 to_present width P [] all = tt
 to_present width P (n ∷ ns) all =
     to_present_by width P n ns _ refl all.0 (to_present width P ns all.1)
 
--- ---- the increments that are written
-
--- one number has its increment in the best column
 best_one_by : (width minimum k high n : ℕ) (b : Bool) → all_ones width n ≡ b → n < 2 ^ width
     → (all_ones width n ≡ false → (minimum ≤ n) × (n ≤ high)) → high - minimum + 2 ≤ 2 ^ k
     → HasIncrement width minimum k (cond b (2 ^ k - 1) (n - minimum)) (Number n)
@@ -162,7 +140,6 @@ best_one_by width minimum k high n false e below between fits =
     above (omega (arith, h.0, h.1, fits)) (subst (λ m. m < 2 ^ width) (sym back) below)
     (ap (λ m. Number m) (sym back))
 
--- so has each number
 pub best_each : (width minimum k high : ℕ) (ns : List ℕ) → AllByRecursion (λ n. n < 2 ^ width) ns
     → AllByRecursion (λ n. all_ones width n ≡ false → (minimum ≤ n) × (n ≤ high)) ns
     → high - minimum + 2 ≤ 2 ^ k
@@ -174,25 +151,21 @@ best_each width minimum k high (n ∷ ns) below between fits = (
   best_each width minimum k high ns below.1 between.1 fits,
 )
 
--- two facts of all numbers are one
 pub both : (P Q : ℕ → Type 0) (ns : List ℕ) → AllByRecursion P ns → AllByRecursion Q ns
     → AllByRecursion (λ n. P n × Q n) ns
 both P Q [] p q = tt
 both P Q (n ∷ ns) p q = ((p.0, q.0), both P Q ns p.1 q.1)
 
--- the least number fits where all do
 pub least_fits : (width : ℕ) (ns : List ℕ) → AllByRecursion (λ n. n < 2 ^ width) ns
     → least ns < 2 ^ width
 least_fits width [] all = pow_pos width
 least_fits width (n ∷ ns) all = omega (arith, (least_below (n ∷ ns)).0, all.0)
 
--- a column of numbers begins with its width and six bits
 size_of_head : (width minimum k : ℕ) → length (bin width minimum ++ bin 6 k) ≡ width + 6
 size_of_head width minimum k =
     length-append (bin width minimum) (bin 6 k)
     ∙ (λ i. length-bin width minimum i + length-bin 6 k i)
 
--- and has so many increments behind them
 size_of_column : (width minimum k n : ℕ) (increments : List ℕ) → length increments ≡ n
     → length (bin width minimum ++ bin 6 k ++ flat_map (bin k) increments) ≡ width + 6 + n * k
 size_of_column width minimum k n increments many =
@@ -200,7 +173,7 @@ size_of_column width minimum k n increments many =
     ∙ (λ i. size_of_head width minimum k i
     + (length-fields k increments ∙ ap (λ l. l * k) many) i)
 
--- what the minimum and the width of the best column of numbers are for its increments
+-- how the minimum and the width of the best column of numbers fit its increments
 pub record BestParts (width : ℕ) (ns : List ℕ) (wide minimum k : ℕ) : Type 0 where
   pub below : minimum < 2 ^ width
   pub few : k ≤ wide
@@ -208,7 +181,6 @@ pub record BestParts (width : ℕ) (ns : List ℕ) (wide minimum k : ℕ) : Type
   pub each : Pairwise (HasIncrement width minimum k) (map (increment_of width minimum k) ns)
       (map (λ n. Number n) ns)
 
--- they have increments wherever the differences stand in so many bits, and no wider ones
 pub best_parts : (width : ℕ) (ns : List ℕ) (wide : ℕ) → AllByRecursion (λ n. n < 2 ^ width) ns
     → 1 ≤ wide → wide < 64 → greatest (present width ns) - least (present width ns) + 2 ≤ 2 ^ wide
     → BestParts width ns wide (least (present width ns))
@@ -231,12 +203,11 @@ best_parts width ns wide below some short fits =
       each = best_each width minimum k (greatest here) ns below between h.1;
     }
 
--- the best column of numbers, where the differences stand in so many bits
+-- the best column of numbers, if the differences fit in `wide` bits
 pub record BestFound (spec : Spec) (ns : List ℕ) (wide : ℕ) : Type 0 where
   pub column : IsColumn spec (map (λ n. Number n) ns) (best_numbers spec.width ns)
   pub narrow : length (best_numbers spec.width ns) ≤ spec.width + 6 + length ns * wide
 
--- the best numbers are a column, and no wider than one of a width that is enough
 pub best_found : (spec : Spec) (ns : List ℕ) (wide : ℕ) → (spec.kind ≡ kinds.Text → ⊥)
     → spec.width ≤ 64 → AllByRecursion (λ n. n < 2 ^ spec.width) ns → 1 ≤ wide → wide < 64
     → greatest (present spec.width ns) - least (present spec.width ns) + 2 ≤ 2 ^ wide
@@ -257,10 +228,6 @@ best_found spec ns wide other few below some short fits =
       narrow = subst (λ l. l ≤ spec.width + 6 + length ns * wide) (sym size) (omega (arith, more));
     }
 
--- ---- values and their numbers
-
--- the number of a raw value of numbers is this value, and fits; it has 64 bits at most, and as many
--- as the width
 pub number_back : (spec : Spec) (v : Raw) → (spec.kind ≡ kinds.Text → ⊥) → HasForm spec v
     → (Number (number_of v) ≡ v) × (number_of v < 2 ^ spec.width) × (spec.width ≤ 64)
     × (length (raw_bits spec.width v) ≡ spec.width)
@@ -268,7 +235,6 @@ number_back spec v other (of_text os is size all) = absurd (other is)
 number_back spec v other (of_number n kind few below) =
     (refl, below, few, length-bin spec.width n)
 
--- each column of numbers has its minimum and six bits at least
 column_wide : (spec : Spec) (values : List Raw) (column : List Bool) → (spec.kind ≡ kinds.Text → ⊥)
     → IsColumn spec values column → spec.width + 6 ≤ length column
 column_wide spec values column other (equal minimum form same is) =
@@ -290,7 +256,6 @@ column_wide spec values column other (number_column minimum k increments form on
 column_wide spec values column other (text_column ignored k own form one few short each is) =
     absurd (other (text_kind spec ignored form))
 
--- the numbers of raw values are these values, and fit
 numbers_back : (spec : Spec) (values : List Raw) → (spec.kind ≡ kinds.Text → ⊥)
     → AllForm spec values
     → (map (λ n. Number n) (map number_of values) ≡ values)
@@ -301,13 +266,11 @@ numbers_back spec (v ∷ vs) other all =
     let rest = numbers_back spec vs other all.1 in
     ((λ i. first.0 i ∷ rest.0 i), (first.1, rest.1))
 
--- values of numbers have 64 bits at most
 numbers_narrow : (spec : Spec) (values : List Raw) → (spec.kind ≡ kinds.Text → ⊥)
     → 0 < length values → AllForm spec values → spec.width ≤ 64
 numbers_narrow spec [] other some all = absurd (omega (arith, some))
 numbers_narrow spec (v ∷ vs) other some all = (number_back spec v other all.0).2
 
--- differing values that are no texts are written as numbers
 pub differing_is : (kind : Kind) (width : ℕ) (values : List Raw) → (kind ≡ kinds.Text → ⊥)
     → best_differing kind width values ≡ best_numbers width (map number_of values)
 differing_is kinds.Text width values other = absurd (other refl)
@@ -316,25 +279,19 @@ differing_is kinds.Flag width values other = refl
 differing_is kinds.Quantity width values other = refl
 differing_is kinds.Count width values other = refl
 
--- the best column of equal values
 best_equal : (spec : Spec) (values : List Raw) → 0 < length values → AllForm spec values
     → all_equal values ≡ true → IsColumn spec values (first_bits spec.width values ++ bin 6 0)
 best_equal spec [] some all same = absurd (omega (arith, some))
 best_equal spec (v ∷ vs) some all same = equal v all.0 (refl, are_equal v vs same) refl
 
--- values that differ are not all one value
 differ : (values : List Raw) (v : Raw) → all_equal values ≡ false
     → AllByRecursion (λ w. w ≡ v) values → ⊥
 differ values v not_same same =
     let yes = all_equal_again v values same in let bad = sym yes ∙ not_same in cc
 
--- ---- no column has narrower increments
-
--- all ones are missing
 not_present : (width : ℕ) → all_ones width (2 ^ width - 1) ≡ true
 not_present width = eq-eqb (2 ^ width - 1 + 1) (2 ^ width) (omega (arith, pow_pos width))
 
--- a number that is not missing is its minimum and less than all ones above it
 present_one : (width minimum k x : ℕ) (v : Raw) → HasIncrement width minimum k x v
     → all_ones width (number_of v) ≡ false
     → (minimum ≤ number_of v) × (number_of v ≤ minimum + 2 ^ k - 2)
@@ -346,7 +303,6 @@ present_one width minimum k x v (missing ones is) here =
     let yes : all_ones width (number_of v) ≡ true = ap (all_ones width) n ∙ not_present width in
     let bad = sym yes ∙ here in absurd cc
 
--- so is each of them
 present_each : (width minimum k : ℕ) (xs : List ℕ) (vs : List Raw)
     → Pairwise (HasIncrement width minimum k) xs vs
     → AllByRecursion (λ n. all_ones width n ≡ false → (minimum ≤ n) × (n ≤ minimum + 2 ^ k - 2))
@@ -357,7 +313,6 @@ present_each width minimum k (x ∷ xs) (v ∷ vs) h =
 present_each width minimum k [] (v ∷ vs) h = absurd h
 present_each width minimum k (x ∷ xs) [] h = absurd h
 
--- so the greatest is less than all ones above the least
 differences : (minimum k : ℕ) (ns : List ℕ) → 0 < k
     → AllByRecursion (λ n. (minimum ≤ n) × (n ≤ minimum + 2 ^ k - 2)) ns
     → greatest ns - least ns + 2 ≤ 2 ^ k
@@ -374,11 +329,10 @@ differences minimum k (n ∷ ns) some all =
     (n ∷ ns) (λ m h. h.1) all) in
     omega (arith, two, low, high)
 
--- the best column is a column, and no longer than another one
+-- the best column is a column, and at most as long as another
 abbrev pub IsBest : Spec → List Raw → List Bool → List Bool → Type 0
 IsBest spec values best column = IsColumn spec values best × (length best ≤ length column)
 
--- no column with increments is shorter than the best one of its numbers
 fewest_by_kind : (spec : Spec) (values : List Raw) (minimum k : ℕ) (increments : List ℕ)
     (column : List Bool) → (spec.kind ≡ kinds.Text → ⊥) → 0 < length values → AllForm spec values
     → 0 < k → k < 64 → Pairwise (HasIncrement spec.width minimum k) increments values
@@ -403,7 +357,6 @@ fewest_by_kind spec values minimum k increments column other some all one few ea
           (sym (ap length is ∙ size)) found.narrow,
     )
 
--- a column of equal numbers is never shorter than R0 alone
 equal_narrow : (spec : Spec) (values : List Raw) (column : List Bool) → (spec.kind ≡ kinds.Text → ⊥)
     → 0 < length values → AllForm spec values → IsColumn spec values column
     → length (first_bits spec.width values ++ bin 6 0) ≤ length column
@@ -417,7 +370,6 @@ equal_narrow spec (v ∷ vs) column other some all c =
       column_wide spec (v ∷ vs) column other c,
     )
 
--- the step of `best_fewest`, by whether the values are all the same
 best_fewest_by : (spec : Spec) (values : List Raw) (column : List Bool) (b : Bool)
     → all_equal values ≡ b → (spec.kind ≡ kinds.Text → ⊥) → 0 < length values
     → IsColumn spec values column
@@ -439,22 +391,17 @@ best_fewest_by spec values column false e other some
     (text_column ignored k own form one few short each is) = absurd
     (other (text_kind spec ignored form))
 
--- wherever numbers stand in a column they stand in the best one, which is the shortest
 pub best_fewest : (spec : Spec) (values : List Raw) (column : List Bool)
     → (spec.kind ≡ kinds.Text → ⊥) → 0 < length values → IsColumn spec values column
     → IsColumn spec values (best spec values) × (length (best spec values) ≤ length column)
 best_fewest spec values column other some c = best_fewest_by spec values column _ refl other some c
 
--- ---- whatever can be a column is one
-
--- a raw value of texts is a text of the field's octets
 text_of_form : (spec : Spec) (v : Raw) → spec.kind ≡ kinds.Text → HasForm spec v
     → (v ≡ Text (octets_of v)) × (length (octets_of v) ≡ spec.width / 8)
     × AllByRecursion (λ x. x < 256) (octets_of v)
 text_of_form spec v is (of_text os kind size all) = (refl, size, all)
 text_of_form spec v is (of_number n other few below) = absurd (other is)
 
--- a whole text stands in a column as it is, also one of all ones
 whole_text_by : (octets : ℕ) (os : List ℕ) (b : Bool) → list_all (λ x. x == 255) os ≡ b
     → length os ≡ octets → AllByRecursion (λ x. x < 256) os → HasText octets octets os (Text os)
 whole_text_by octets os true e size all =
@@ -468,7 +415,6 @@ whole_text_by octets os false e size all =
     (λ is. let yes : list_all (λ x. x == 255) os ≡ true = ap (list_all (λ x. x == 255)) is
     ∙ all_ones_of octets in let bad = sym yes ∙ e in cc) (ap (λ xs. Text xs) (sym alone))
 
--- so do all of them
 whole_texts : (spec : Spec) (values : List Raw) → spec.kind ≡ kinds.Text → AllForm spec values
     → Pairwise (HasText (spec.width / 8) (spec.width / 8)) (map octets_of values) values
 whole_texts spec [] is all = tt
@@ -479,7 +425,6 @@ whole_texts spec (v ∷ vs) is all =
       whole_texts spec vs is all.1,
     )
 
--- in a field of no octet all texts are empty
 no_texts : (spec : Spec) (values : List Raw) → spec.kind ≡ kinds.Text → spec.width / 8 ≡ 0
     → AllForm spec values → AllByRecursion (λ w. w ≡ Text []) values
 no_texts spec [] is none all = tt
@@ -490,7 +435,6 @@ no_texts spec (v ∷ vs) is none all =
           all.1,
     )
 
--- texts that differ have some octet
 some_octets : (spec : Spec) (values : List Raw) → spec.kind ≡ kinds.Text → all_equal values ≡ false
     → AllForm spec values → 0 < spec.width / 8
 some_octets spec values is e all =
@@ -500,12 +444,10 @@ some_octets spec values is e all =
           absurd (differ values (Text []) e (no_texts spec values is (omega (arith, ge)) all))
     ]
 
--- differing texts are written whole
 pub differing_texts : (kind : Kind) (width : ℕ) (values : List Raw) → kind ≡ kinds.Text
     → best_differing kind width values ≡ best_texts (width / 8) (map octets_of values)
 differing_texts kind width values is = ap (λ k. best_differing k width values) is
 
--- whole texts are a column
 best_of_texts : (spec : Spec) (values : List Raw) → spec.kind ≡ kinds.Text
     → all_equal values ≡ false → AllForm spec values → spec.width / 8 ≤ 63
     → IsColumn spec values (best_differing spec.kind spec.width values)
@@ -516,13 +458,11 @@ best_of_texts spec values is e all short =
     (some_octets spec values is e all) (omega (arith, short)) (omega arith)
     (whole_texts spec values is all) (differing_texts spec.kind spec.width values is)
 
--- numbers of 63 bits at most stand in a column
 pub narrow_each : (width n : ℕ) → n < 2 ^ width → all_ones width n ≡ false → n + 2 ≤ 2 ^ width
 narrow_each width n below e =
     let le : n + 1 ≤ 2 ^ width = omega (arith, below) in
     omega (arith, lt_of_le-ne le (eqb-false (n + 1) (2 ^ width) e))
 
--- the differences of numbers of 63 bits at most stand in so many
 pub difference_fits : (width : ℕ) (ns : List ℕ) → width ≤ 63
     → AllByRecursion (λ n. n < 2 ^ width) ns
     → greatest (present width ns) - least (present width ns) + 2 ≤ 2 ^ 63
@@ -534,7 +474,6 @@ difference_fits width ns short below =
     let high = below_greatest (2 ^ width - 2) (present width ns) inside in
     omega (arith, wide, high)
 
--- the best numbers are a column
 best_of_numbers : (spec : Spec) (values : List Raw) → (spec.kind ≡ kinds.Text → ⊥)
     → 0 < length values → AllForm spec values → spec.width ≤ 63
     → IsColumn spec values (best_differing spec.kind spec.width values)
@@ -547,12 +486,10 @@ best_of_numbers spec values other some all short =
     subst (λ b. IsColumn spec values b) (sym (differing_is spec.kind spec.width values other))
     (subst (λ vs. IsColumn spec vs (best_numbers spec.width ns)) back.0 found.column)
 
--- the second of two is true where the first is false
 pub or_false : (a b : Bool) → (a || b) ≡ true → a ≡ false → b ≡ true
 or_false true b e no_a = absurd cc
 or_false false b e no_a = e
 
--- the best of differing values is a column, by their kind
 best_of_kind : (spec : Spec) (values : List Raw) (text : Bool)
     → same_kind spec.kind kinds.Text ≡ text → 0 < length values → all_equal values ≡ false
     → AllForm spec values → nat_le (cond text (spec.width / 8) spec.width) 63 ≡ true
@@ -562,7 +499,6 @@ best_of_kind spec values true is some e all short =
 best_of_kind spec values false is some e all short =
     best_of_numbers spec values (kinds_differ spec.kind kinds.Text is) some all (leb-true _ _ short)
 
--- the step of `best_column`, by whether the values are all the same
 best_column_by : (spec : Spec) (values : List Raw) (b : Bool) → all_equal values ≡ b
     → 0 < length values → AllForm spec values → can_be_column spec values ≡ true
     → IsColumn spec values
@@ -575,12 +511,10 @@ best_column_by spec values false e some all can =
     best_of_kind spec values _ refl some e all (and_parts (not (same_kind spec.kind kinds.Count))
     (nat_le (widest spec) 63) short).1
 
--- values that can be a column stand in the best one
 pub best_column : (spec : Spec) (values : List Raw) → 0 < length values → AllForm spec values
     → can_be_column spec values ≡ true → IsColumn spec values (best spec values)
 best_column spec values some all can = best_column_by spec values _ refl some all can
 
--- the step of `one_count`, by whether the values are all the same
 one_count_by : (spec : Spec) (values : List Raw) (b : Bool) → all_equal values ≡ b
     → can_be_column spec values ≡ true → spec.kind ≡ kinds.Count
     → (v : Raw) × AllByRecursion (λ w. w ≡ v) values
@@ -592,7 +526,6 @@ one_count_by spec values false e can is =
     let p = and_parts (not (same_kind spec.kind kinds.Count)) (nat_le (widest spec) 63) short in
     absurd (kinds_differ spec.kind kinds.Count (not-true _ p.0) is)
 
--- values of a factor that can be a column are all one value
 pub one_count : (spec : Spec) (values : List Raw) → can_be_column spec values ≡ true
     → spec.kind ≡ kinds.Count → (v : Raw) × AllByRecursion (λ w. w ≡ v) values
 one_count spec values can is = one_count_by spec values _ refl can is

@@ -1,5 +1,4 @@
--- The first column that cannot stand, told by the course that is left, and that it is the one told
--- by the template's tree: for the law on what messages know of data (`data_hold_subsets`).
+-- The first column that can't be read, by the course, is the first by the template's tree.
 use Rattle.std.proofs.Common.{◌≡◌, ℕ, ◌+◌, ◌*◌, ◌<◌, ◌≤◌, Bool, List, length, map, ◌++◌}
 use Rattle.std.proofs.Common.{arith, ◌⊎◌, inl, inr}
 use Rattle.std.proofs.lemmas.Bool.{cases_lt}
@@ -8,8 +7,8 @@ use Rattle.bufr_expand.specs.Courses.{Course, ends, stops, asks, course}
 use Rattle.bufr_expand.specs.Trees.{Tree}
 use Rattle.bufr_expand.specs.NextFields.{Next, wants, lacks, BeginsWithin}
 use Rattle.bufr_expand.specs.Limits.{most_items}
-use Rattle.bufr_fields.specs.declared.fault.ReadFault.{ReadFault}
-use Rattle.bufr_fields.specs.declared.fault.ReadFault.TheVariants as faults
+use Rattle.bufr_fields.specs.declared.fault.DataFault.{DataFault}
+use Rattle.bufr_fields.specs.declared.fault.DataFault.TheVariants as faults
 use Rattle.bufr_fields.specs.Asked.{Passes, Begin}
 use Rattle.bufr_data.specs.Compressed.{Column, AreColumns, field_of}
 use Rattle.bufr_data.specs.Compressed.Causes.{ColumnRefused, told_first, NoColumnFollows, no_room}
@@ -19,21 +18,21 @@ use Rattle.bufr_data.proofs.PlainFacts.Refusals.{IsStop}
 use Rattle.bufr_fields.specs.Limits.{most_values}
 use Rattle.bufr_fields.specs.CourseLaws.{Laws, begun}
 
--- field i of n subsets would be more than 67,108,864 values; or it would not, and this holds
-abbrev pub PastOr : ℕ → ℕ → ReadFault → Type 0 → Type 0
+-- field i of n subsets is above the limit of values, or else the refusal holds
+abbrev pub PastOr : ℕ → ℕ → DataFault → Type 0 → Type 0
 PastOr n i fault Refused =
     ((most_values < i * n) × (fault ≡ faults.TooLarge)) ⊎ ((i * n ≤ most_values) × Refused)
 
--- neither does a column of field i stand, nor do the subsets end
-abbrev pub NoneByCourse : ℕ → ℕ → Course → List Bool → ReadFault → Type 0
+-- the bits go on neither with a column of field i nor with the end
+abbrev pub NoneByCourse : ℕ → ℕ → Course → List Bool → DataFault → Type 0
 NoneByCourse n i (ends met) front fault = ⊥
 NoneByCourse n i (stops met why) front fault = PastOr n i fault (IsStop why fault)
 NoneByCourse n i (asks met d spec more) front fault =
     PastOr n i fault (ColumnRefused n i spec front fault)
 
--- the first column, from field i on, that cannot stand: those before it stand in the data, and the
+-- the first column, from field i on, that can't be read; those before it begin the data, and the
 -- course asks for their fields
-pub record RefusedByCourse (n i : ℕ) (c : Course) (front : List Bool) (fault : ReadFault)
+pub record RefusedByCourse (n i : ℕ) (c : Course) (front : List Bool) (fault : DataFault)
     : Type 0 where
   pub before : List Column
   pub packed : List Bool
@@ -44,9 +43,8 @@ pub record RefusedByCourse (n i : ℕ) (c : Course) (front : List Bool) (fault :
   pub spelt : front ≡ packed ++ rest
   pub refused : NoneByCourse n (i + length before) next rest fault
 
--- why no column follows, from the course to the tree
 column_cause : (tree : Tree) (n : ℕ) (before : List Column) (next : Course) (rest : List Bool)
-    (fault : ReadFault) → Follows tree 0 (told_first before) next
+    (fault : DataFault) → Follows tree 0 (told_first before) next
     → NoneByCourse n (1 + length before) next rest fault → NoColumnFollows tree n before rest fault
 column_cause tree n before (ends m) rest fault w h = absurd h
 column_cause tree n before (stops m walks.TooLarge) rest fault w (inl h) = no_room w h.1
@@ -60,8 +58,7 @@ column_cause tree n before (asks met d spec more) rest fault w (inl h) =
 column_cause tree n before (asks met d spec more) rest fault w (inr h) =
     no_column d met spec w h.0 h.1
 
--- the first column refused by the course is the first by the tree
-pub first_of_columns : Laws → (tree : Tree) (n : ℕ) (front : List Bool) (fault : ReadFault)
+pub first_of_columns : Laws → (tree : Tree) (n : ℕ) (front : List Bool) (fault : DataFault)
     → RefusedByCourse n 1 (course tree 0) front fault → FirstColumnRefused tree n front fault
 first_of_columns laws tree n front fault r =
     record {
@@ -75,21 +72,19 @@ first_of_columns laws tree n front fault r =
           (follows laws tree 0 (map (field_of 0) r.before) r.next (omega arith) r.passed) r.refused;
     }
 
--- what a course leaves and why no column follows
-abbrev Left : Tree → ℕ → List Column → List Bool → ReadFault → Type 0
+-- the course left, and why no column follows
+abbrev Left : Tree → ℕ → List Column → List Bool → DataFault → Type 0
 Left tree n before rest fault =
     (next : Course) × Passes (course tree 0) (map (field_of 0) before) next
     × NoneByCourse n (1 + length before) next rest fault
 
--- a course that is too large answers so whatever the number of values
-stopped_either : (n i met : ℕ) (rest : List Bool) (fault : ReadFault) → fault ≡ faults.TooLarge
+stopped_either : (n i met : ℕ) (rest : List Bool) (fault : DataFault) → fault ≡ faults.TooLarge
     → NoneByCourse n i (stops met walks.TooLarge) rest fault
 stopped_either n i met rest fault e =
     elim (cases_lt most_values (i * n)) [ inl lt ↦ inl (lt, e) | inr le ↦ inr (le, e) ]
 
--- with too many values no column follows, whatever comes next
 past_next : Laws → (tree : Tree) (n : ℕ) (before : List Column) (rest : List Bool)
-    (fault : ReadFault)
+    (fault : DataFault)
     (next : Next) (met : ℕ) → Begin tree 0 (map (field_of 0) before)
     → BeginsWithin tree 0 (told_first before) next met → most_values < (1 + length before) * n
     → fault ≡ faults.TooLarge → Left tree n before rest fault
@@ -100,9 +95,8 @@ past_next laws tree n before rest fault (lacks d) met b w lt e =
     let passed = passes_lacking laws tree 0 (map (field_of 0) before) d met (omega arith) b w in
     (stops met (walks.EffectiveRange d), passed, inl (lt, e))
 
--- and from the tree to the course
 cause_column : Laws → (tree : Tree) (n : ℕ) (before : List Column) (rest : List Bool)
-    (fault : ReadFault) → Begin tree 0 (map (field_of 0) before)
+    (fault : DataFault) → Begin tree 0 (map (field_of 0) before)
     → NoColumnFollows tree n before rest fault → Left tree n before rest fault
 cause_column laws tree n before rest fault b (no_room p e) =
     let passed = passes_full laws tree 0 (map (field_of 0) before) (omega arith) b p in
@@ -117,8 +111,7 @@ cause_column laws tree n before rest fault b (no_column d met spec w le refused)
     let a = passes_asked laws tree 0 (map (field_of 0) before) d met spec (omega arith) b w in
     (asks met d spec a.0, a.1, inr (le, refused))
 
--- the first column refused by the tree is the first by the course
-pub columns_of_first : Laws → (tree : Tree) (n : ℕ) (front : List Bool) (fault : ReadFault)
+pub columns_of_first : Laws → (tree : Tree) (n : ℕ) (front : List Bool) (fault : DataFault)
     → FirstColumnRefused tree n front fault → RefusedByCourse n 1 (course tree 0) front fault
 columns_of_first laws tree n front fault r =
     let c = cause_column laws tree n r.before r.rest fault r.begin r.refused in

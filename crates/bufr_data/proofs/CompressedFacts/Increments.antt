@@ -1,5 +1,4 @@
--- Increments read one after the other have the values of their list: for the index of compressed
--- data (`Columns::index`).
+-- Increments read one by one have the values of their list.
 use Rattle.std.proofs.Common.{◌≡◌, ℕ, zero, suc, ◌+◌, ◌-◌, ◌*◌, ◌<◌, ◌≤◌, Bool, true, cond, List}
 use Rattle.std.proofs.Common.{[], ◌∷◌, ◌++◌, length, take, drop, Some, None, Result, inl, inr, Ok}
 use Rattle.std.proofs.Common.{Err, refl, sym, ap, ◌∙◌, arith, append_assoc, append-nil}
@@ -11,8 +10,8 @@ use Rattle.std.proofs.Math.Bool.{and-true}
 use Rattle.std.proofs.Math.Nat.{suc-mul}
 use Rattle.std.proofs.lemmas.List.Folds.{list_all-append}
 use Rattle.std.proofs.lemmas.List.{length-drop, drop-drop}
-use Rattle.bufr_answers.specs.Answers.{◌>>=◌}
-use Rattle.bufr_fields.specs.declared.fault.ReadFault.TheVariants as faults
+use Rattle.bufr_base.specs.Answers.{◌>>=◌}
+use Rattle.bufr_fields.specs.declared.fault.DataFault.TheVariants as faults
 use Rattle.bufr_fields.specs.Forms.{number_of}
 use Rattle.bufr_data.specs.Compressed.Passed.{AreRaised}
 use Rattle.bufr_data.proofs.ListFacts.{all_joined}
@@ -20,16 +19,16 @@ use Rattle.bufr_bits.specs.BitLaws.{some_is}
 use Rattle.bufr_bits.specs.Bits.{number, numbers, number_at}
 use Rattle.bufr_fields.specs.declared.field.Raw.{Raw}
 use Rattle.bufr_fields.specs.declared.field.Raw.TheVariants.{Number}
-use Rattle.bufr_fields.specs.declared.fault.ReadFault.{ReadFault}
+use Rattle.bufr_fields.specs.declared.fault.DataFault.{DataFault}
 use Rattle.bufr_data.specs.Compressed.Reading.{raised, value_then, all_raised, all_equal, count_of}
 use Rattle.bufr_data.specs.Compressed.Reading.{same_raw}
 
--- these values, and then those that are found
-abbrev pub behind_values : List Raw → Result (List Raw) ReadFault → Result (List Raw) ReadFault
+-- these values, and then those found
+abbrev pub behind_values : List Raw → Result (List Raw) DataFault → Result (List Raw) DataFault
 behind_values values (Ok found) = Ok (values ++ found)
 behind_values values (Err e) = Err e
 
--- the first j of n increments have values: the first of them, and whether all are the same
+-- the first j of n increments have values: the first one, and whether all are equal
 pub record RaisedSoFar (i width minimum k n j : ℕ) (front rest : List Bool) (first : ℕ)
     (equal : Bool) : Type 0 where
   pub values : List Raw
@@ -40,12 +39,10 @@ pub record RaisedSoFar (i width minimum k n j : ℕ) (front rest : List Bool) (f
   pub equal_is : all_equal values ≡ equal
   pub are_numbers : AllByRecursion (λ v. v ≡ Number (number_of v)) values
 
--- nothing stands before the values at first
-behind_none : (o : Result (List Raw) ReadFault) → o ≡ behind_values [] o
+behind_none : (o : Result (List Raw) DataFault) → o ≡ behind_values [] o
 behind_none (Ok vs) = refl
 behind_none (Err e) = refl
 
--- a number that is taken is that of the front, which is dropped
 taken_is : (k x : ℕ) (rest last : List Bool) → number_at k rest ≡ Some (x, last)
     → (x ≡ number (take k rest)) × (last ≡ drop k rest)
 unfolding number_at
@@ -59,17 +56,14 @@ taken_is k x rest last e =
           (ap (λ (p : ℕ × List Bool). p.0) (sym pair), ap (λ (p : ℕ × List Bool). p.1) (sym pair))
     ]
 
--- the front of a number that is taken is dropped
 pub drop_is : (k x : ℕ) (rest last : List Bool) → number_at k rest ≡ Some (x, last)
     → last ≡ drop k rest
 drop_is k x rest last e = (taken_is k x rest last e).1
 
--- a number is the same as the first where their numbers are
 with_first : (u : Raw) (number first : ℕ) → u ≡ Number (number_of u) → number_of u ≡ first
     → same_raw (Number number) u ≡ (number == first)
 with_first u number first is head = ap (same_raw (Number number)) (is ∙ ap (λ n. Number n) head)
 
--- before the first increment
 pub none_yet : (i width minimum k n first : ℕ) (front : List Bool)
     → RaisedSoFar i width minimum k n 0 front front 0 true
 none_yet i width minimum k n first front = record {
@@ -84,7 +78,6 @@ none_yet i width minimum k n first front = record {
   are_numbers = tt;
 }
 
--- the increment that was taken is the next of the list
 next_number : (k n j x : ℕ) (rest last : List Bool) → j < n → number_at k rest ≡ Some (x, last)
     → numbers (n - j) k rest ≡ x ∷ numbers (n - (j + 1)) k last
 unfolding numbers number_at
@@ -93,13 +86,11 @@ next_number k n j x rest last less e =
     let h = taken_is k x rest last e in
     ap (λ m. numbers m k rest) some ∙ (λ t. sym h.0 t ∷ numbers (n - (j + 1)) k (sym h.1 t))
 
--- one more value in front of the others
-behind_joined : (values : List Raw) (v : Raw) (o : Result (List Raw) ReadFault)
+behind_joined : (values : List Raw) (v : Raw) (o : Result (List Raw) DataFault)
     → behind_values values (o >>= λ vs. Ok (v ∷ vs)) ≡ behind_values (values ++ v ∷ []) o
 behind_joined values v (Ok vs) = ap (λ xs. Ok xs) (sym (append_assoc values (v ∷ []) vs))
 behind_joined values v (Err e) = refl
 
--- a test of all and one more
 all_push : (u v : Raw) (us : List Raw)
     → list_all (λ w. same_raw w u) (us ++ v ∷ [])
     ≡ (list_all (λ w. same_raw w u) us && same_raw v u)
@@ -107,7 +98,6 @@ all_push u v us =
     list_all-append (λ w. same_raw w u) us (v ∷ [])
     ∙ ap (λ b. list_all (λ w. same_raw w u) us && b) (and-true (same_raw v u))
 
--- with one more number: the first, and whether all are the same
 pushed : (j first x : ℕ) (equal : Bool) (values : List Raw) → length values ≡ j
     → AllByRecursion (λ v. v ≡ Number (number_of v)) values → count_of values ≡ first
     → all_equal values ≡ equal
@@ -123,7 +113,6 @@ pushed (suc j) first x equal (u ∷ us) many all head same =
           ∙ (λ t. same t && with_first u x first all.0 head t),
     )
 
--- one more increment that has a value keeps what is known so far
 pub one_raised : (i width minimum k n j x number : ℕ) (front rest last : List Bool) (first : ℕ)
     (equal : Bool) → j < n → RaisedSoFar i width minimum k n j front rest first equal
     → number_at k rest ≡ Some (x, last) → Some (Number number) ≡ raised width minimum k x
@@ -152,7 +141,6 @@ one_raised i width minimum k n j x number front rest last first equal less so_fa
           so_far.are_numbers (refl, tt);
     }
 
--- an increment that has none is the fault
 pub raised_fails : (i width minimum k n j x : ℕ) (front rest last : List Bool) (first : ℕ)
     (equal : Bool) → j < n → RaisedSoFar i width minimum k n j front rest first equal
     → number_at k rest ≡ Some (x, last) → None ≡ raised width minimum k x
@@ -165,7 +153,6 @@ raised_fails i width minimum k n j x front rest last first equal less so_far e v
     (value_then (j + 1) i o
     (all_raised (j + 1 + 1) i width minimum k (numbers (n - (j + 1)) k last)))) (sym value)
 
--- at the end all increments have values
 pub all_raised_so_far : (i width minimum k n j : ℕ) (front rest : List Bool) (first : ℕ)
     (equal : Bool) → n ≤ j → RaisedSoFar i width minimum k n j front rest first equal
     → AreRaised i width minimum k (numbers n k front) first equal
@@ -181,7 +168,6 @@ all_raised_so_far i width minimum k n j front rest first equal done so_far =
       so_far.equal_is,
     )
 
--- while there are increments left there are bits of the next one
 pub enough_left : (n j k : ℕ) (front : List Bool) → j < n → (n - j) * k ≤ length front
     → k ≤ length front
 enough_left n j k front less enough =
@@ -190,7 +176,6 @@ enough_left n j k front less enough =
     ap (λ m. m * k) some ∙ suc-mul (n - (j + 1)) k in
     omega (arith, enough, times)
 
--- as long as increments are to come there is one
 pub none_left : (n j k : ℕ) (front : List Bool) → j < n → (n - j) * k ≤ length front
     → number_at k front ≡ None → ⊥
 unfolding number_at
@@ -200,7 +185,6 @@ none_left n j k front less enough none =
     at-least : k ≤ length front
     at-least = enough_left n j k front less enough
 
--- behind one increment there are enough bits for the others
 pub enough_behind : (n j k : ℕ) (rest last : List Bool) → j < n → (n - j) * k ≤ length rest
     → last ≡ drop k rest → (n - (j + 1)) * k ≤ length last
 enough_behind n j k rest last less enough is =
@@ -210,14 +194,12 @@ enough_behind n j k rest last less enough is =
     let size : length last ≡ length rest - k = ap length is ∙ length-drop k rest in
     omega (arith, enough, times, size)
 
--- the bits behind one more increment
 pub moved_on : (j k : ℕ) (front rest last : List Bool) → rest ≡ drop (j * k) front
     → last ≡ drop k rest → last ≡ drop ((j + 1) * k) front
 moved_on j k front rest last so_far is =
     let times : j * k + k ≡ (j + 1) * k = omega arith in
     is ∙ ap (drop k) so_far ∙ drop-drop k (j * k) front ∙ ap (λ m. drop m front) times
 
--- the first number fits where each one does
 pub first_below : (j x first p : ℕ) → x < p → (0 < j → first < p) → cond (j == 0) x first < p
 first_below zero x first p now before = now
 first_below (suc j) x first p now before =

@@ -1,4 +1,4 @@
--- The one value of a column: for `Columns::subset`.
+-- One value of a column.
 use Rattle.std.proofs.Common.{◌≡◌, ℕ, zero, suc, ◌+◌, ◌*◌, List, [], ◌∷◌, length}
 use Rattle.std.proofs.Common.{sym, ap, ◌∙◌, arith}
 use Rattle.std.proofs.Common.{◌/◌, ◌<◌, Bool, ◌++◌, drop, get_or, Some, append_assoc}
@@ -22,17 +22,12 @@ use Rattle.bufr_data.proofs.CompressedFacts.{regrouped}
 use Rattle.bufr_bits.specs.NumberLaws.{length-fields, numbers_at_again}
 use Rattle.bufr_data.proofs.ListFacts.{all_at}
 
--- ---- one value
-
--- no times a number
 zero_times : (k : ℕ) → 0 * k ≡ 0
 zero_times k = omega arith
 
--- one more times a number
 pub next_times : (index k : ℕ) → suc index * k ≡ k + index * k
 next_times index k = omega arith
 
--- the increment at an index has the value at this index
 number_there : (width minimum k index : ℕ) (xs : List ℕ) (vs : List Raw) (rest : List Bool)
     → Pairwise (HasIncrement width minimum k) xs vs → index < length vs
     → raised_of width minimum k (number_at k (drop (index * k) (flat_map (bin k) xs ++ rest)))
@@ -62,7 +57,6 @@ number_there width minimum k (suc index) (x ∷ xs) (v ∷ vs) rest h short =
     ap (λ front. raised_of width minimum k (number_at k front)) behind
     ∙ number_there width minimum k index xs vs rest h.1 (omega (arith, short))
 
--- so has the text at an index
 text_there : (octets k index : ℕ) (own : List (List ℕ)) (vs : List Raw) (rest : List Bool)
     → Pairwise (HasText octets k) own vs → index < length vs
     → option_map (λ (x : List ℕ × List Bool). filled octets x.0)
@@ -93,7 +87,7 @@ text_there octets k (suc index) (x ∷ own) (v ∷ vs) rest h short =
     (octets_at k front)) behind
     ∙ text_there octets k index own vs rest h.1 (omega (arith, short))
 
--- R0 and NBINC of a column, and its value at an index behind them
+-- R0 and NBINC of a column, and its value at an index after them
 pub record OneValue (spec : Spec) (values : List Raw) (index : ℕ) (front : List Bool) : Type 0 where
   pub minimum : Raw
   pub k : ℕ
@@ -101,7 +95,6 @@ pub record OneValue (spec : Spec) (values : List Raw) (index : ℕ) (front : Lis
   pub heads : Heads spec front minimum k rest
   pub value : one_behind spec minimum k index rest ≡ Some (get_or values index (Number 0))
 
--- the one value that is read of a column is the one at its index
 pub one_value : (spec : Spec) (values : List Raw) (column rest : List Bool) (index : ℕ)
     → IsColumn spec values column → index < length values
     → OneValue spec values index (column ++ rest)

@@ -1,5 +1,4 @@
--- The fault of subsets that are written compressed is that of the first place at which they cannot
--- be: for the law on what messages know of data (`data_hold_subsets`).
+-- The fault of writing compressed subsets is that of the first field that can't be one column.
 use Rattle.std.proofs.Common.{◌≡◌, ℕ, ◌+◌, Bool, true, false, cond, List, [], ◌∷◌, map, drop}
 use Rattle.std.proofs.Common.{Result, Ok, Err, refl, sym, ap, ◌∙◌, ◌⊎◌, inl, inr}
 use Rattle.std.specs.Prelude.{◌&&◌, ◌||◌, not, nat_le}
@@ -7,12 +6,12 @@ use Rattle.std.specs.List.{AllByRecursion, list_all}
 use Rattle.std.proofs.lemmas.Bool.{and_from, and_parts, or_right, le-leb, leb-true, eq-eqb}
 use Rattle.bufr_tables.specs.declared.element.Kind.TheVariants as kinds
 use Rattle.bufr_tables.specs.Elements.{same_kind}
-use Rattle.bufr_answers.specs.AnswerLaws.{err_is}
+use Rattle.bufr_base.specs.AnswerLaws.{err_is}
 use Rattle.bufr_expand.specs.declared.operators.Spec.{Spec}
 use Rattle.bufr_fields.specs.declared.field.Raw.{Raw}
 use Rattle.bufr_fields.specs.declared.field.Field.{Field}
-use Rattle.bufr_fields.specs.declared.fault.WriteFault.{WriteFault}
-use Rattle.bufr_fields.specs.declared.fault.WriteFault.TheVariants as misfits
+use Rattle.bufr_fields.specs.declared.fault.MisfitFault.{MisfitFault}
+use Rattle.bufr_fields.specs.declared.fault.MisfitFault.TheVariants as misfits
 use Rattle.bufr_fields.specs.Forms.{same_spec}
 use Rattle.bufr_data.specs.Compressed.{Column}
 use Rattle.bufr_data.specs.Compressed.Reading.{all_equal}
@@ -24,7 +23,6 @@ use Rattle.bufr_data.proofs.CompressedFacts.Walks.{all_equal_is, all_equal_again
 use Rattle.bufr_data.proofs.KindFacts.{kinds_differ, other_kind}
 use Rattle.bufr_data.proofs.CompressedFacts.Packed.{column_behind, like_is}
 
--- a subset that begins like the first passes the test
 like_passes : (f : Field) (gs : List Field) → BeginsLike f gs → begins_like f gs ≡ true
 like_passes f [] h = absurd h
 like_passes f (g ∷ gs) h =
@@ -32,13 +30,11 @@ like_passes f (g ∷ gs) h =
     ap (same_spec g.spec) (sym h.1) ∙ spec_is_same g.spec in
     rw (eq-eqb f.fxy g.fxy h.0, spec) refl
 
--- subsets that all begin like the first pass
 all_like_pass : (f : Field) (others : List (List Field)) → AllByRecursion (BeginsLike f) others
     → list_all (begins_like f) others ≡ true
 all_like_pass f [] h = refl
 all_like_pass f (gs ∷ others) h = rw (like_passes f gs h.0, all_like_pass f others h.1) refl
 
--- and those that pass do
 all_like_is : (f : Field) (others : List (List Field)) → list_all (begins_like f) others ≡ true
     → AllByRecursion (BeginsLike f) others
 all_like_is f [] e = tt
@@ -46,7 +42,6 @@ all_like_is f (gs ∷ others) e =
     let p = and_parts (begins_like f gs) (list_all (begins_like f) others) e in
     (like_is f gs p.0, all_like_is f others p.1)
 
--- values that can be a column pass the test
 pub can_passes : (spec : Spec) (values : List Raw) → CanBeColumn spec values
     → can_be_column spec values ≡ true
 can_passes spec values (same v all) = rw (all_equal_again v values all) refl
@@ -56,7 +51,6 @@ can_passes spec values (narrow other short) =
     or_right (all_equal values)
     (not (same_kind spec.kind kinds.Count) && nat_le (widest spec) 63) inner
 
--- the step of `can_is`, by whether they are all the same and a factor's
 can_is_by : (spec : Spec) (values : List Raw) (b c : Bool) → all_equal values ≡ b
     → same_kind spec.kind kinds.Count ≡ c → (b || (not c && nat_le (widest spec) 63)) ≡ true
     → CanBeColumn spec values
@@ -65,28 +59,24 @@ can_is_by spec values false true e k can = absurd cc
 can_is_by spec values false false e k can =
     narrow (kinds_differ spec.kind kinds.Count k) (leb-true _ _ can)
 
--- and values that pass can be a column
 can_is : (spec : Spec) (values : List Raw) → can_be_column spec values ≡ true
     → CanBeColumn spec values
 can_is spec values e = can_is_by spec values _ _ refl refl e
 
--- subsets that have all ended pass the test
 all_empty_passes : (others : List (List Field)) → AllByRecursion (λ fs. fs ≡ []) others
     → list_all is_empty others ≡ true
 all_empty_passes [] h = refl
 all_empty_passes (fs ∷ others) h = rw (h.0, all_empty_passes others h.1) refl
 
--- and those that pass have ended
 all_empty_is : (others : List (List Field)) → list_all is_empty others ≡ true
     → AllByRecursion (λ fs. fs ≡ []) others
 all_empty_is [] e = tt
 all_empty_is ([] ∷ others) e = (refl, all_empty_is others e)
 all_empty_is ((f ∷ fs) ∷ others) e = absurd cc
 
--- an error at the end is that a subset has more fields
-ended_err : (i : ℕ) (others : List (List Field)) (b : Bool) (fault : WriteFault)
+ended_err : (i : ℕ) (others : List (List Field)) (b : Bool) (fault : MisfitFault)
     → list_all is_empty others ≡ b
-    → ◌≡◌ {A = Result (List Column) WriteFault} (cond b (Ok []) (Err (misfits.NotCompressible i)))
+    → ◌≡◌ {A = Result (List Column) MisfitFault} (cond b (Ok []) (Err (misfits.NotCompressible i)))
     (Err fault) → (AllByRecursion (λ fs. fs ≡ []) others → ⊥) × (fault ≡ misfits.NotCompressible i)
 ended_err i others true fault e h = absurd cc
 ended_err i others false fault e h = (
@@ -94,16 +84,14 @@ ended_err i others false fault e h = (
   sym (err_is _ _ h),
 )
 
--- an error at a place is its own, or that of the others
-column_err : (i : ℕ) (b : Bool) (c : Column) (others : Result (List Column) WriteFault)
-    (fault : WriteFault) → column_or i b c others ≡ Err fault
+column_err : (i : ℕ) (b : Bool) (c : Column) (others : Result (List Column) MisfitFault)
+    (fault : MisfitFault) → column_or i b c others ≡ Err fault
     → ((b ≡ false) × (fault ≡ misfits.NotCompressible i)) ⊎ ((b ≡ true) × (others ≡ Err fault))
 column_err i true c (Ok cs) fault e = absurd cc
 column_err i true c (Err g) fault e = inr (refl, ap (λ f. Err f) (err_is _ _ e))
 column_err i false c others fault e = inl (refl, sym (err_is _ _ e))
 
--- the fault of columns is that of the first place at which subsets are apart
-pub columns_apart : (i : ℕ) (fs : List Field) (others : List (List Field)) (fault : WriteFault)
+pub columns_apart : (i : ℕ) (fs : List Field) (others : List (List Field)) (fault : MisfitFault)
     → columns_of i fs others ≡ Err fault → FirstApart i fs others fault
 unfolding columns_of
 columns_apart i [] others fault e = ended_err i others _ fault refl e
@@ -131,24 +119,21 @@ columns_apart i (f ∷ fs) others fault e =
           )
     ]
 
--- a place at which they are apart is the fault
-apart_by : (i : ℕ) (b : Bool) (c : Column) (others : Result (List Column) WriteFault)
-    (fault : WriteFault) → (b ≡ true → ⊥) → fault ≡ misfits.NotCompressible i
+apart_by : (i : ℕ) (b : Bool) (c : Column) (others : Result (List Column) MisfitFault)
+    (fault : MisfitFault) → (b ≡ true → ⊥) → fault ≡ misfits.NotCompressible i
     → column_or i b c others ≡ Err fault
 apart_by i true c others fault none is = absurd (none refl)
 apart_by i false c others fault none is = ap (λ f. Err f) (sym is)
 
--- so is a subset that has more fields
-ended_again : (i : ℕ) (others : List (List Field)) (b : Bool) (fault : WriteFault)
+ended_again : (i : ℕ) (others : List (List Field)) (b : Bool) (fault : MisfitFault)
     → list_all is_empty others ≡ b → (AllByRecursion (λ fs. fs ≡ []) others → ⊥)
     → fault ≡ misfits.NotCompressible i
-    → ◌≡◌ {A = Result (List Column) WriteFault} (cond b (Ok []) (Err (misfits.NotCompressible i)))
+    → ◌≡◌ {A = Result (List Column) MisfitFault} (cond b (Ok []) (Err (misfits.NotCompressible i)))
     (Err fault)
 ended_again i others true fault e none is = absurd (none (all_empty_is others e))
 ended_again i others false fault e none is = ap (λ f. Err f) (sym is)
 
--- the first place at which subsets are apart is the fault
-pub apart_columns : (i : ℕ) (fs : List Field) (others : List (List Field)) (fault : WriteFault)
+pub apart_columns : (i : ℕ) (fs : List Field) (others : List (List Field)) (fault : MisfitFault)
     → FirstApart i fs others fault → columns_of i fs others ≡ Err fault
 unfolding columns_of
 apart_columns i [] others fault h = ended_again i others _ fault refl h.0 h.1

@@ -1,5 +1,4 @@
--- Compressed subsets that are read are those that stand in the bits, and what is written compressed
--- holds its subsets: for the law on what messages know of data (`data_hold_subsets`).
+-- Compressed subsets are read as those that the bits hold, and written bits hold their subsets.
 use Rattle.std.proofs.Common.{◌≡◌, ℕ, zero, suc, ◌+◌, ◌*◌, ◌<◌, ◌≤◌, Bool, true, false, cond, List}
 use Rattle.std.proofs.Common.{[], ◌∷◌, ◌++◌, length, map, drop, get_or, Result, Ok, Err, refl, sym}
 use Rattle.std.proofs.Common.{ap, subst, ◌∙◌, arith}
@@ -7,8 +6,8 @@ use Rattle.std.specs.Prelude.{◌==◌, ◌&&◌, nat_lt}
 use Rattle.std.specs.List.{AllByRecursion, flat_map, list_all}
 use Rattle.std.proofs.lemmas.Bool.{and_parts, ltb-false, eqb-true}
 use Rattle.std.proofs.lemmas.List.{length-map, get_or-map}
-use Rattle.bufr_answers.specs.Answers.{result_map}
-use Rattle.bufr_answers.specs.AnswerLaws.{bind_ok, guard_ok, ok_is}
+use Rattle.bufr_base.specs.Answers.{result_map}
+use Rattle.bufr_base.specs.AnswerLaws.{bind_ok, guard_ok, ok_is}
 use Rattle.bufr_expand.specs.declared.operators.Spec.{Spec}
 use Rattle.bufr_expand.specs.Trees.{Tree}
 use Rattle.bufr_expand.specs.Courses.{course}
@@ -16,8 +15,8 @@ use Rattle.bufr_fields.specs.declared.field.Raw.{Raw}
 use Rattle.bufr_fields.specs.declared.field.Raw.TheVariants.{Number}
 use Rattle.bufr_fields.specs.declared.field.Field.{Field}
 use Rattle.bufr_fields.specs.declared.field.Subset.{Subset}
-use Rattle.bufr_fields.specs.declared.fault.WriteFault.{WriteFault}
-use Rattle.bufr_fields.specs.declared.fault.WriteFault.TheVariants as misfits
+use Rattle.bufr_fields.specs.declared.fault.MisfitFault.{MisfitFault}
+use Rattle.bufr_fields.specs.declared.fault.MisfitFault.TheVariants as misfits
 use Rattle.bufr_fields.specs.Forms.{items_of, same_spec}
 use Rattle.bufr_fields.specs.Fits.{HasForm, FitsAlone}
 use Rattle.bufr_data.specs.Compressed.{Column, AreColumns, field_of, subsets_from, Packed}
@@ -37,14 +36,10 @@ use Rattle.bufr_fields.specs.Limits.{most_values}
 use Rattle.bufr_fields.specs.FormLaws.{same_spec_is}
 use Rattle.bufr_fields.specs.CourseLaws.{AreUnrolled, AreAllowed}
 
--- ---- reading
-
--- so many subsets from an index on
 pub length-from : (k n : ℕ) (columns : List Column) → length (subsets_from k n columns) ≡ n
 length-from k zero columns = refl
 length-from k (suc n) columns = ap suc (length-from (k + 1) n columns)
 
--- each of the subsets of columns fits
 fit_from : AreUnrolled → (tree : Tree) (n k m : ℕ) (columns : List Column) (items : ℕ) → k + m ≤ n
     → ((j l : ℕ) → l < n → items_of j 1 (course tree 0) (map (field_of l) columns) ≡ Ok items)
     → AllByRecursion (FitsAlone tree) (subsets_from k m columns)
@@ -58,7 +53,6 @@ fit_from law tree n k (suc m) columns items within asked = (
   fit_from law tree n (k + 1) m columns items (omega (arith, within)) asked,
 )
 
--- columns that stand are packed subsets
 packed_from : (n : ℕ) (columns : List Column) (content : List Bool)
     → length columns * suc n ≤ most_values → AreColumns (suc n) columns content
     → Packed (subsets_from 0 (suc n) columns) content
@@ -68,7 +62,6 @@ packed_from n columns content room are =
     subst (λ l. (cs : List Column) × (subsets_from 0 (suc n) columns ≡ subsets_from 0 l cs)
     × (length cs * l ≤ most_values) × AreColumns l cs content) many (columns, refl, room, are)
 
--- compressed subsets that are read fit and stand there
 pub compressed_stand : AreUnrolled
     → (tree : Tree) (n : ℕ) (front : List Bool) (found : List Subset × List Bool)
     → subsets_in tree true n front ≡ Ok found → BeginsWithData tree true n front found
@@ -89,11 +82,9 @@ compressed_stand law tree (suc n) front found e =
       walk.spelt,
     )
 
--- equal lists begin with the same
 pub cons_head : (s t : Subset) (ss ts : List Subset) → s ∷ ss ≡ t ∷ ts → s ≡ t
 cons_head s t ss ts e = cc
 
--- the step of `compressed_read`: some subset
 compressed_read_by : AreAllowed
     → (tree : Tree) (n : ℕ) (content rest : List Bool) (s : Subset) (subsets : List Subset)
     → length (s ∷ subsets) ≡ suc n → FitsAlone tree s → Packed (s ∷ subsets) content
@@ -117,7 +108,6 @@ compressed_read_by law tree n content rest s subsets many fit pack =
     ap (λ x. result_map (λ (f : ColumnsFound). (subsets_from 0 (suc n) f.columns, f.rest)) x) read
     ∙ ap (λ ss. Ok (ss, rest)) (sym from)
 
--- packed subsets that fit are read
 pub compressed_read : AreAllowed
     → (tree : Tree) (n : ℕ) (content rest : List Bool) (subsets : List Subset) → length subsets ≡ n
     → AllByRecursion (FitsAlone tree) subsets → Packed subsets content
@@ -129,9 +119,6 @@ compressed_read law tree (suc n) content rest [] many fit pack = absurd (omega (
 compressed_read law tree (suc n) content rest (s ∷ subsets) many fit pack =
     compressed_read_by law tree n content rest s subsets many fit.0 pack
 
--- ---- subsets and their columns
-
--- a subset that has ended has no field
 none_like : (others : List (List Field)) (k : ℕ) → list_all is_empty others ≡ true
     → get_or others k [] ≡ []
 none_like [] k e = refl
@@ -140,14 +127,12 @@ none_like ((f ∷ fs) ∷ others) zero e = absurd cc
 none_like ([] ∷ others) (suc k) e = none_like others k e
 none_like ((f ∷ fs) ∷ others) (suc k) e = absurd cc
 
--- such a subset begins with the first's descriptor and spec
 pub like_is : (f : Field) (gs : List Field) → begins_like f gs ≡ true → BeginsLike f gs
 like_is f [] e = absurd cc
 like_is f (g ∷ gs) e =
     let p = and_parts (f.fxy == g.fxy) (same_spec g.spec f.spec) e in
     (eqb-true _ _ p.0, same_spec_is _ _ p.1)
 
--- and then with a value of its own
 own_value : (f : Field) (fs : List Field) → begins_like f fs ≡ true
     → fs ≡ record { fxy = f.fxy; spec = f.spec; raw = first_raw fs } ∷ drop 1 fs
 own_value f [] e = absurd cc
@@ -155,7 +140,7 @@ own_value f (g ∷ gs) e =
     let like = like_is f (g ∷ gs) e in
     λ i. (record { fxy = sym like.0 i; spec = like.1 i; raw = g.raw }) ∷ gs
 
--- one place of all subsets was taken into a column
+-- one field of all subsets as a column
 pub record Taken (i : ℕ) (f : Field) (fs : List Field) (others : List (List Field))
     (columns : List Column) : Type 0 where
   pub behind : List Column
@@ -165,25 +150,21 @@ pub record Taken (i : ℕ) (f : Field) (fs : List Field) (others : List (List Fi
   pub can : can_be_column f.spec (f.raw ∷ map first_raw others) ≡ true
   pub rest : columns_of (i + 1) fs (map (drop 1) others) ≡ Ok behind
 
--- where columns are answered, this place is one and the others are
-column_taken : (i : ℕ) (b : Bool) (c : Column) (others : Result (List Column) WriteFault)
+column_taken : (i : ℕ) (b : Bool) (c : Column) (others : Result (List Column) MisfitFault)
     (columns : List Column) → column_or i b c others ≡ Ok columns
     → (behind : List Column) × (b ≡ true) × (others ≡ Ok behind) × (columns ≡ c ∷ behind)
 column_taken i true c (Ok cs) columns e = (cs, refl, refl, sym (ok_is _ _ e))
 column_taken i true c (Err g) columns e = absurd cc
 column_taken i false c others columns e = absurd cc
 
--- behind a place that is a column, the columns are this one and the others
-pub column_passes : (i : ℕ) (b : Bool) (c : Column) (others : Result (List Column) WriteFault)
+pub column_passes : (i : ℕ) (b : Bool) (c : Column) (others : Result (List Column) MisfitFault)
     (cs : List Column) → b ≡ true → others ≡ Ok cs → column_or i b c others ≡ Ok (c ∷ cs)
 column_passes i b c others cs e f = rw (e, f) refl
 
--- and the fault is a later one
-pub column_behind : (i : ℕ) (b : Bool) (c : Column) (others : Result (List Column) WriteFault)
-    (fault : WriteFault) → b ≡ true → others ≡ Err fault → column_or i b c others ≡ Err fault
+pub column_behind : (i : ℕ) (b : Bool) (c : Column) (others : Result (List Column) MisfitFault)
+    (fault : MisfitFault) → b ≡ true → others ≡ Err fault → column_or i b c others ≡ Err fault
 column_behind i b c others fault e f = rw (e, f) refl
 
--- what is known where a place is a column
 pub taken : (i : ℕ) (f : Field) (fs : List Field) (others : List (List Field))
     (columns : List Column) → columns_of i (f ∷ fs) others ≡ Ok columns
     → Taken i f fs others columns
@@ -196,19 +177,16 @@ taken i f fs others columns e =
     let p = and_parts (list_all (begins_like f) others) _ h.1 in
     record { behind = h.0; is = h.3; like = p.0; can = p.1; rest = h.2 }
 
--- the step of `none_taken`
 none_taken_by : (i : ℕ) (b : Bool) (columns : List Column)
     → cond b (Ok []) (Err (misfits.NotCompressible i)) ≡ Ok columns → (b ≡ true) × (columns ≡ [])
 none_taken_by i true columns e = (refl, sym (ok_is _ _ e))
 none_taken_by i false columns e = absurd cc
 
--- where columns end all subsets end
 pub none_taken : (i : ℕ) (others : List (List Field)) (columns : List Column)
     → columns_of i [] others ≡ Ok columns → (list_all is_empty others ≡ true) × (columns ≡ [])
 unfolding columns_of
 none_taken i others columns e = none_taken_by i (list_all is_empty others) columns e
 
--- each subset has the fields of the columns at its index
 pub rows : (i : ℕ) (fs : List Field) (others : List (List Field)) (columns : List Column)
     → columns_of i fs others ≡ Ok columns → (k : ℕ) → k < 1 + length others
     → get_or (fs ∷ others) k [] ≡ map (field_of k) columns
@@ -240,7 +218,6 @@ rows i (f ∷ fs) others columns e (suc k) short =
     here ∙ (λ t. (record { fxy = f.fxy; spec = f.spec; raw = sym own t }) ∷ after t)
     ∙ ap (map (field_of (suc k))) (sym h.is)
 
--- subsets whose fields are those of columns are the subsets of these
 pub each_row : (k : ℕ) (subsets : List Subset) (columns : List Column)
     → ((l : ℕ) → l < length subsets
     → get_or (map (λ (t : Subset). t.fields) subsets) l [] ≡ map (field_of (k + l)) columns)
@@ -255,7 +232,6 @@ each_row k (s ∷ subsets) columns h =
     ∙ ap (λ n. map (field_of n) columns) (omega arith)) in
     λ t. (record { fields = here t }) ∷ others t
 
--- so subsets whose places are columns are the subsets of these
 pub columns_whole : (s : Subset) (subsets : List Subset) (columns : List Column)
     → columns_of 1 s.fields (map (λ (t : Subset). t.fields) subsets) ≡ Ok columns
     → s ∷ subsets ≡ subsets_from 0 (length (s ∷ subsets)) columns
@@ -266,24 +242,20 @@ columns_whole s subsets columns e =
     rows 1 s.fields others columns e l (omega (arith, short, many))
     ∙ ap (λ n. map (field_of n) columns) (omega arith))
 
--- ---- writing
-
--- each raw value has its spec's form
+-- every raw value fits its spec
 abbrev AreFormed : List Field → Type 0
 AreFormed fields = AllByRecursion (λ f. HasForm f.spec f.raw) fields
 
--- so has each value of each of so many subsets
+-- every value of n subsets fits its spec
 abbrev Formed : ℕ → List Column → Type 0
 Formed n columns = (k : ℕ) → k < n → AreFormed (map (field_of k) columns)
 
--- values that have their form at each index have it all
 all_formed : (spec : Spec) (values : List Raw)
     → ((k : ℕ) → k < length values → HasForm spec (get_or values k (Number 0)))
     → AllForm spec values
 all_formed spec values h =
     recursion_from_All (HasForm spec) values (All-from_get_or (HasForm spec) values (Number 0) h)
 
--- the best columns of places are columns
 are_columns : (i : ℕ) (fs : List Field) (others : List (List Field)) (columns : List Column)
     → columns_of i fs others ≡ Ok columns → Formed (1 + length others) columns
     → AreColumns (1 + length others) columns (flat_map (λ c. best c.spec c.values) columns)
@@ -317,7 +289,6 @@ are_columns i (f ∷ fs) others columns e formed =
       behind,
     )
 
--- subsets that are counted one by one fit one by one
 pub each_fit : AreUnrolled → (tree : Tree) (j : ℕ) (subsets : List Subset) (u : Unit {0})
     → each_fits tree j subsets ≡ Ok u → AllByRecursion (FitsAlone tree) subsets
 each_fit law tree j [] u e = tt
@@ -327,7 +298,6 @@ each_fit law tree j (s ∷ subsets) u e =
       each_fit law tree (j + 1) subsets u h.2,
     )
 
--- the subset at an index has raw values of their form
 formed_at : (tree : Tree) (subsets : List Subset) (k : ℕ) → AllByRecursion (FitsAlone tree) subsets
     → k < length subsets → AreFormed (get_or (map (λ (t : Subset). t.fields) subsets) k [])
 formed_at tree [] k fit short = absurd (omega (arith, short))
@@ -335,11 +305,10 @@ formed_at tree (s ∷ subsets) zero fit short = fit.0.1.1.formed
 formed_at tree (s ∷ subsets) (suc k) fit short =
     formed_at tree subsets k fit.1 (omega (arith, short))
 
--- what is written of subsets holds them
+-- the bits written of subsets hold them
 abbrev pub WrittenHold : Tree → List Subset → List Bool → Type 0
 WrittenHold tree subsets content = AllByRecursion (FitsAlone tree) subsets × Packed subsets content
 
--- the best columns of subsets that fit are packed subsets
 written_pack : (tree : Tree) (s : Subset) (subsets : List Subset) (columns : List Column)
     (content : List Bool) → AllByRecursion (FitsAlone tree) (s ∷ subsets)
     → columns_of 1 s.fields (map (λ (t : Subset). t.fields) subsets) ≡ Ok columns
@@ -363,7 +332,6 @@ written_pack tree s subsets columns content fit e p =
           are),
     )
 
--- so what is written compressed holds its subsets
 pub compressed_hold : AreUnrolled → (tree : Tree) (subsets : List Subset) (content : List Bool)
     → written_bits tree true subsets ≡ Ok content → WrittenHold tree subsets content
 compressed_hold law tree [] content e = (tt, sym (ok_is _ _ e))

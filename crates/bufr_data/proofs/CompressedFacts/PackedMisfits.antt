@@ -1,16 +1,15 @@
--- The fault of subsets that are written compressed is the first misfit: for the law on what
--- messages know of data (`data_hold_subsets`).
+-- The fault of writing compressed subsets is the first misfit.
 use Rattle.std.proofs.Common.{◌≡◌, ℕ, suc, ◌+◌, ◌*◌, ◌<◌, true, List, [], ◌∷◌, ◌++◌, length, map}
 use Rattle.std.proofs.Common.{Ok, Err, refl, sym, ap, subst, ◌∙◌, arith, inl, inr}
 use Rattle.std.specs.Prelude.{nat_lt}
 use Rattle.std.specs.List.{AllByRecursion}
 use Rattle.std.proofs.lemmas.Bool.{lt-ltb, ltb-true}
-use Rattle.bufr_answers.specs.AnswerLaws.{bind_err}
+use Rattle.bufr_base.specs.AnswerLaws.{bind_err}
 use Rattle.bufr_expand.specs.Trees.{Tree}
 use Rattle.bufr_expand.specs.Courses.{course}
 use Rattle.bufr_fields.specs.declared.field.Subset.{Subset}
-use Rattle.bufr_fields.specs.declared.fault.WriteFault.{WriteFault}
-use Rattle.bufr_fields.specs.declared.fault.WriteFault.TheVariants as misfits
+use Rattle.bufr_fields.specs.declared.fault.MisfitFault.{MisfitFault}
+use Rattle.bufr_fields.specs.declared.fault.MisfitFault.TheVariants as misfits
 use Rattle.bufr_fields.specs.Forms.{items_of}
 use Rattle.bufr_data.specs.Causes.{FirstMisfit}
 use Rattle.bufr_data.specs.Compressed.{Column, subsets_from}
@@ -27,15 +26,14 @@ use Rattle.bufr_data.proofs.CompressedFacts.Misfits.{columns_apart, apart_column
 use Rattle.bufr_fields.specs.Limits.{most_values}
 use Rattle.bufr_fields.specs.CourseLaws.{Laws}
 
--- a subset that does not fit by itself, and those before it
-abbrev MisfitFrom : Tree → ℕ → List Subset → WriteFault → Type 0
+-- a subset that does not fit alone, and those before it
+abbrev MisfitFrom : Tree → ℕ → List Subset → MisfitFault → Type 0
 MisfitFrom tree j subsets fault =
     (before : List Subset) × (s : Subset) × (behind : List Subset)
     × (subsets ≡ before ++ s ∷ behind) × AllByRecursion (FitsAlone tree) before
     × FirstMisfit tree (j + length before) 0 s.fields fault
 
--- the fault of subsets that are counted one by one is the first misfit
-each_misfit : Laws → (tree : Tree) (j : ℕ) (subsets : List Subset) (fault : WriteFault)
+each_misfit : Laws → (tree : Tree) (j : ℕ) (subsets : List Subset) (fault : MisfitFault)
     → each_fits tree j subsets ≡ Err fault → MisfitFrom tree j subsets fault
 each_misfit laws tree j [] fault e = absurd cc
 each_misfit laws tree j (s ∷ subsets) fault e =
@@ -62,10 +60,9 @@ each_misfit laws tree j (s ∷ subsets) fault e =
           )
     ]
 
--- and the first misfit is their fault
 misfit_each : Laws
     → (tree : Tree) (j : ℕ) (before : List Subset) (s : Subset) (behind : List Subset)
-    (fault : WriteFault) → AllByRecursion (FitsAlone tree) before
+    (fault : MisfitFault) → AllByRecursion (FitsAlone tree) before
     → FirstMisfit tree (j + length before) 0 s.fields fault
     → each_fits tree j (before ++ s ∷ behind) ≡ Err fault
 misfit_each laws tree j [] s behind fault fit h =
@@ -78,9 +75,8 @@ misfit_each laws tree j (t ∷ before) s behind fault fit h =
     (misfit_each laws tree (j + 1) before s behind fault fit.1
     (subst (λ k. FirstMisfit tree k 0 s.fields fault) same h))
 
--- the fault of packed columns is that they are too many
 too_many_err : (tree : Tree) (s : Subset) (subsets : List Subset) (columns : List Column)
-    (fault : WriteFault) → AllByRecursion (FitsAlone tree) (s ∷ subsets)
+    (fault : MisfitFault) → AllByRecursion (FitsAlone tree) (s ∷ subsets)
     → columns_of 1 s.fields (map (λ (t : Subset). t.fields) subsets) ≡ Ok columns
     → packed (length (s ∷ subsets)) columns ≡ Err fault → FirstUnpacked tree (s ∷ subsets) fault
 too_many_err tree s subsets columns fault fit e p =
@@ -91,8 +87,7 @@ too_many_err tree s subsets columns fault fit e p =
       | inr ok ↦ let bad = ok.1 in absurd cc
     ]
 
--- the fault of what is written compressed is the first
-pub unpacked_is : Laws → (tree : Tree) (subsets : List Subset) (fault : WriteFault)
+pub unpacked_is : Laws → (tree : Tree) (subsets : List Subset) (fault : MisfitFault)
     → written_bits tree true subsets ≡ Err fault → FirstUnpacked tree subsets fault
 unpacked_is laws tree [] fault e = absurd cc
 unpacked_is laws tree (s ∷ subsets) fault e =
@@ -109,9 +104,8 @@ unpacked_is laws tree (s ∷ subsets) fault e =
           ]
     ]
 
--- columns that are too many are refused so
 too_many_again : Laws
-    → (tree : Tree) (subsets : List Subset) (columns : List Column) (fault : WriteFault)
+    → (tree : Tree) (subsets : List Subset) (columns : List Column) (fault : MisfitFault)
     → AllByRecursion (FitsAlone tree) subsets → 0 < length subsets
     → subsets ≡ subsets_from 0 (length subsets) columns
     → AllByRecursion (CanBeWritten (length subsets)) columns
@@ -127,8 +121,7 @@ too_many_again laws tree (s ∷ subsets) columns fault fit some whole can past i
       lt-ltb most_values (length columns * length (s ∷ subsets)) past,
     ) (ap (λ f. Err f) (sym is))
 
--- and the first fault is answered
-pub unpacked_again : Laws → (tree : Tree) (subsets : List Subset) (fault : WriteFault)
+pub unpacked_again : Laws → (tree : Tree) (subsets : List Subset) (fault : MisfitFault)
     → FirstUnpacked tree subsets fault → written_bits tree true subsets ≡ Err fault
 unpacked_again laws tree subsets fault (misfit before s behind is fit h) =
     ap (written_bits tree true) is ∙ rw (misfit_each laws tree 1 before s behind fault fit h) refl

@@ -1,5 +1,4 @@
--- What is known of a column over which the index moves without reading its values: for the index of
--- compressed data (`Columns::index`).
+-- Passing a column without reading its values.
 use Rattle.std.proofs.Common.{◌≡◌, ℕ, zero, suc, ◌+◌, ◌-◌, ◌*◌, ◌/◌, ◌^◌, ◌<◌, ◌≤◌, Bool, true}
 use Rattle.std.proofs.Common.{false, List, [], ◌∷◌, length, map, drop, replicate, Option, Some}
 use Rattle.std.proofs.Common.{None, Result, Ok, Err, refl, sym, ap, ◌∙◌, arith, inl, inr}
@@ -9,15 +8,15 @@ use Rattle.std.proofs.lemmas.Bool.{cases_lt, le-ltb, lt-ltb, eqb-false}
 use Rattle.std.proofs.lemmas.List.{drop-drop, length-drop}
 use Rattle.bufr_bits.specs.Bits.{numbers, number_at, numbers_at, octets_at}
 use Rattle.bufr_bits.specs.NumberLaws.{numbers_fit}
-use Rattle.bufr_answers.specs.Answers.{◌>>=◌}
+use Rattle.bufr_base.specs.Answers.{◌>>=◌}
 use Rattle.bufr_tables.specs.declared.element.Kind.{Kind}
 use Rattle.bufr_tables.specs.declared.element.Kind.TheVariants as kinds
 use Rattle.bufr_tables.specs.Elements.{same_kind}
 use Rattle.bufr_expand.specs.declared.operators.Spec.{Spec}
 use Rattle.bufr_fields.specs.declared.field.Raw.{Raw}
 use Rattle.bufr_fields.specs.declared.field.Raw.TheVariants.{Number, Text}
-use Rattle.bufr_fields.specs.declared.fault.ReadFault.{ReadFault}
-use Rattle.bufr_fields.specs.declared.fault.ReadFault.TheVariants as faults
+use Rattle.bufr_fields.specs.declared.fault.DataFault.{DataFault}
+use Rattle.bufr_fields.specs.declared.fault.DataFault.TheVariants as faults
 use Rattle.bufr_data.specs.Plain.{raw_at_by, raw_at, field_number_at}
 use Rattle.bufr_data.specs.Compressed.Reading.{or_ends, raised, all_raised, all_equal, count_of, filled}
 use Rattle.bufr_data.specs.Compressed.Reading.{texts_at, values_at, column_at, agreeing}
@@ -28,33 +27,25 @@ use Rattle.bufr_fields.specs.FormLaws.{same_kind_is}
 use Rattle.bufr_data.proofs.CompressedFacts.Indexed.{next_times}
 use Rattle.bufr_data.proofs.ListFacts.{all_replicated}
 
--- the bits of texts, in either order of the factors
 pub times_is : (a b k n : ℕ) → a ≡ k → b ≡ n → 8 * a * b ≡ n * (k * 8)
 times_is a b k n e f = rw (e, f) (omega arith)
 
--- the bits of increments, in either order of the factors
 pub product_is : (a b k n : ℕ) → a ≡ n → b ≡ k → a * b ≡ n * k
 product_is a b k n e f = rw (e, f) refl
 
--- a width that is not 0 is above it
 pub some_bits : (k : ℕ) → (k ≡ 0 → ⊥) → 0 < k
 some_bits zero other = absurd (other refl)
 some_bits (suc k) other = omega arith
 
--- ---- texts
-
--- too few bits have no such octets
 pub octets_none : (m : ℕ) (front : List Bool) → length front < m * 8 → octets_at m front ≡ None
 unfolding numbers_at
 octets_none m front short = rw (lt-ltb _ _ short) refl
 
--- enough bits have them at the front
 octets_some : (m : ℕ) (front : List Bool) → m * 8 ≤ length front
     → octets_at m front ≡ Some (numbers m 8 front, drop (m * 8) front)
 unfolding numbers_at
 octets_some m front long = rw (le-ltb _ _ long) refl
 
--- too few bits have no such texts
 texts_none : (n k : ℕ) (front : List Bool) → length front < n * (k * 8) → texts_at n k front ≡ None
 texts_none zero k front short = absurd (omega (arith, short))
 texts_none (suc n) k front short =
@@ -67,7 +58,6 @@ texts_none (suc n) k front short =
           rw (octets_some k front le, texts_none n k (drop (k * 8) front) others) refl
     ]
 
--- enough bits have them at the front
 texts_some : (n k : ℕ) (front : List Bool) → n * (k * 8) ≤ length front
     → (own : List (List ℕ)) × (texts_at n k front ≡ Some (own, drop (n * (k * 8)) front))
 texts_some zero k front long =
@@ -85,12 +75,10 @@ texts_some (suc n) k front long =
           (ap (λ rest. Some (numbers k 8 front ∷ behind.0, rest)) joined),
     )
 
--- a text is read as its octets
 pub text_raw : (spec : Spec) (front : List Bool) → spec.kind ≡ kinds.Text
     → raw_at spec front ≡ option_map (λ x. (Text x.0, x.1)) (octets_at (spec.width / 8) front)
 text_raw spec front is = ap (λ k. raw_at_by k spec.width front) is
 
--- a column of texts without its minimum ends there
 pub texts_no_minimum : (n i : ℕ) (spec : Spec) (front : List Bool) (b : ℕ) → spec.kind ≡ kinds.Text
     → b ≡ spec.width / 8 * 8 → length front < b
     → column_at n i spec front ≡ Err (faults.DataEnds 0 i)
@@ -98,7 +86,6 @@ texts_no_minimum n i spec front b is size short =
     let less : length front < spec.width / 8 * 8 = omega (arith, size, short) in
     rw (text_raw spec front is, octets_none (spec.width / 8) front less) refl
 
--- a minimum of texts is the octets of the front
 pub minimum_there : (spec : Spec) (front mid : List Bool) (b : ℕ) → spec.kind ≡ kinds.Text
     → b ≡ spec.width / 8 * 8 → b ≤ length front → mid ≡ drop b front
     → raw_at spec front ≡ Some (Text (numbers (spec.width / 8) 8 front), mid)
@@ -109,21 +96,19 @@ minimum_there spec front mid b is size long left =
     (ap (λ rest. Some (Text (numbers (spec.width / 8) 8 front), rest))
     (sym (left ∙ ap (λ m. drop m front) size)))
 
--- a column of texts without its width ends there
 pub texts_no_width : (n i : ℕ) (spec : Spec) (front mid : List Bool) (b : ℕ)
     → spec.kind ≡ kinds.Text → b ≡ spec.width / 8 * 8 → b ≤ length front → mid ≡ drop b front
     → number_at 6 mid ≡ None → column_at n i spec front ≡ Err (faults.DataEnds 0 i)
 texts_no_width n i spec front mid b is size long left none =
     rw (minimum_there spec front mid b is size long left, none) refl
 
--- a minimum of texts and a width stand at the front, and these bits are left
+-- the bits begin with a minimum of texts and a width
 pub record TextHead (spec : Spec) (front : List Bool) (k : ℕ) (rest : List Bool) : Type 0 where
   pub own : List ℕ
   pub mid : List Bool
   pub minimum : raw_at spec front ≡ Some (Text own, mid)
   pub width : number_at 6 mid ≡ Some (k, rest)
 
--- so they do where they are read
 pub text_head : (spec : Spec) (front mid : List Bool) (b k : ℕ) (rest : List Bool)
     → spec.kind ≡ kinds.Text → b ≡ spec.width / 8 * 8 → b ≤ length front → mid ≡ drop b front
     → number_at 6 mid ≡ Some (k, rest) → TextHead spec front k rest
@@ -134,20 +119,17 @@ text_head spec front mid b k rest is size long left found = record {
   width = found;
 }
 
--- texts of more octets than the field are refused
 wide_values : (n i : ℕ) (spec : Spec) (own : List ℕ) (k : ℕ) (rest : List Bool) → spec.width / 8 < k
     → values_at n i spec (Text own) k rest ≡ Err (faults.CharIncrement i)
 wide_values n i spec own zero rest lt = absurd (omega (arith, lt))
 wide_values n i spec own (suc k) rest lt = rw (lt-ltb (spec.width / 8) (suc k) lt) refl
 
--- so is a column of such texts
 pub texts_too_wide : (n i : ℕ) (spec : Spec) (front : List Bool) (k : ℕ) (rest : List Bool)
     → TextHead spec front k rest → spec.width / 8 < k
     → column_at n i spec front ≡ Err (faults.CharIncrement i)
 texts_too_wide n i spec front k rest h lt =
     rw (h.minimum, h.width) (wide_values n i spec h.own k rest lt)
 
--- texts that are not all there end the data
 short_values : (n i : ℕ) (spec : Spec) (own : List ℕ) (k : ℕ) (rest : List Bool) (b : ℕ)
     → k ≤ spec.width / 8 → b ≡ n * (k * 8) → length rest < b
     → values_at n i spec (Text own) k rest ≡ Err (faults.DataEnds 0 i)
@@ -157,14 +139,12 @@ short_values n i spec own (suc k) rest b le size short =
     let less : length rest < n * (suc k * 8) = omega (arith, size, short) in
     rw (le-ltb (spec.width / 8) (suc k) le, texts_none n (suc k) rest less) refl
 
--- so does a column of such texts
 pub texts_end : (n i : ℕ) (spec : Spec) (front : List Bool) (k : ℕ) (rest : List Bool) (c : ℕ)
     → TextHead spec front k rest → k ≤ spec.width / 8 → c ≡ n * (k * 8) → length rest < c
     → column_at n i spec front ≡ Err (faults.DataEnds 0 i)
 texts_end n i spec front k rest c h le times short =
     rw (h.minimum, h.width) (short_values n i spec h.own k rest c le times short)
 
--- texts that are there have values
 long_values : (n i : ℕ) (spec : Spec) (own : List ℕ) (k : ℕ) (rest : List Bool) (b : ℕ)
     → k ≤ spec.width / 8 → b ≡ n * (k * 8) → b ≤ length rest
     → (values : List Raw) × (values_at n i spec (Text own) k rest ≡ Ok (values, drop b rest))
@@ -179,7 +159,6 @@ long_values n i spec own (suc k) rest b le size long =
           (ap (λ m. Ok (map (filled (spec.width / 8)) texts.0, drop m rest)) (sym size)),
     )
 
--- so a column of them is passed
 pub texts_pass : (n i : ℕ) (spec : Spec) (front : List Bool) (k : ℕ) (rest : List Bool) (c : ℕ)
     (last : List Bool) → TextHead spec front k rest → k ≤ spec.width / 8 → c ≡ n * (k * 8)
     → c ≤ length rest → last ≡ drop c rest → PassesColumn n i spec front last
@@ -187,9 +166,6 @@ texts_pass n i spec front k rest c last h le times enough behind =
     let values = long_values n i spec h.own k rest c le times enough in
     (values.0, rw (h.minimum, h.width) (values.1 ∙ ap (λ xs. Ok (values.0, xs)) (sym behind)))
 
--- ---- numbers
-
--- a number is read as its bits
 pub number_raw : (kind : Kind) (width : ℕ) (front : List Bool) → same_kind kind kinds.Text ≡ false
     → raw_at_by kind width front ≡ option_map (λ x. (Number x.0, x.1)) (field_number_at width front)
 number_raw kinds.Text width front other = absurd cc
@@ -198,20 +174,18 @@ number_raw kinds.Flag width front other = refl
 number_raw kinds.Quantity width front other = refl
 number_raw kinds.Count width front other = refl
 
--- a step after two others, in either grouping
 regroup : {A B C F : Type 0} (r : Result A F) (g : A → B) (f : B → Result C F)
     → (r >>= λ k. f (g k)) ≡ ((r >>= λ k. Ok (g k)) >>= f)
 regroup (Ok x) g f = refl
 regroup (Err e) g f = refl
 
--- the width behind a minimum of numbers
-abbrev head_of : ℕ → Option (ℕ × List Bool) → Result ((ℕ × ℕ) × List Bool) ReadFault
+-- the width after a minimum of numbers
+abbrev head_of : ℕ → Option (ℕ × List Bool) → Result ((ℕ × ℕ) × List Bool) DataFault
 head_of i o = do
   minimum ← or_ends i o
   k ← or_ends i (number_at 6 minimum.1)
   Ok ((minimum.0, k.0), k.1)
 
--- minimum and width read as one
 after_minimum : (n i : ℕ) (spec : Spec) (o : Option (ℕ × List Bool))
     → (or_ends i (option_map {U = Raw × List Bool} (λ x. (Number x.0, x.1)) o)
     >>= λ m. (or_ends i (number_at 6 m.1) >>= λ k. values_at n i spec m.0 k.0 k.1))
@@ -221,7 +195,6 @@ after_minimum n i spec (Some x) =
     let head : ℕ × List Bool → (ℕ × ℕ) × List Bool = λ k. ((x.0, k.0), k.1) in
     regroup (or_ends i (number_at 6 x.1)) head (λ h. values_at n i spec (Number h.0.0) h.0.1 h.1)
 
--- a column of numbers is its head, and then its values
 number_column : (n i : ℕ) (spec : Spec) (front : List Bool) → same_kind spec.kind kinds.Text ≡ false
     → column_at n i spec front
     ≡ (head_at i spec.width front >>= λ h. values_at n i spec (Number h.0.0) h.0.1 h.1)
@@ -231,7 +204,6 @@ number_column n i spec front other =
     (number_raw spec.kind spec.width front other)
     ∙ after_minimum n i spec (field_number_at spec.width front)
 
--- a column is read as its values behind minimum and width
 behind_head : (n i : ℕ) (spec : Spec) (front : List Bool) (m k : ℕ) (rest : List Bool)
     → same_kind spec.kind kinds.Text ≡ false → head_at i spec.width front ≡ Ok ((m, k), rest)
     → column_at n i spec front ≡ values_at n i spec (Number m) k rest
@@ -239,7 +211,6 @@ behind_head n i spec front m k rest other e =
     number_column n i spec front other
     ∙ ap (λ r. r >>= λ h. values_at n i spec (Number h.0.0) h.0.1 h.1) e
 
--- without increments all values are the minimum
 pub numbers_equal : (n i : ℕ) (spec : Spec) (front : List Bool) (m k : ℕ) (rest : List Bool)
     → same_kind spec.kind kinds.Text ≡ false → head_at i spec.width front ≡ Ok ((m, k), rest)
     → k ≡ 0 → column_at n i spec front ≡ Ok (replicate n (Number m), rest)
@@ -247,14 +218,12 @@ numbers_equal n i spec front m k rest other e none =
     behind_head n i spec front m k rest other e
     ∙ ap (λ w. values_at n i spec (Number m) w rest) none
 
--- so such a column is passed
 pub numbers_flat : (n i : ℕ) (spec : Spec) (front : List Bool) (m k : ℕ) (rest : List Bool)
     → same_kind spec.kind kinds.Text ≡ false → head_at i spec.width front ≡ Ok ((m, k), rest)
     → k ≡ 0 → PassesColumn n i spec front rest
 numbers_flat n i spec front m k rest other e none =
     (replicate n (Number m), numbers_equal n i spec front m k rest other e none)
 
--- the values behind the head, where increments are there
 values_behind : (n i : ℕ) (spec : Spec) (m k : ℕ) (rest : List Bool) → 0 < k → n * k ≤ length rest
     → values_at n i spec (Number m) k rest
     ≡ (all_raised 1 i spec.width m k (numbers n k rest)
@@ -263,23 +232,20 @@ unfolding numbers_at
 values_behind n i spec m zero rest some long = absurd (omega (arith, some))
 values_behind n i spec m (suc k) rest some long = rw (le-ltb _ _ long) refl
 
--- increments that are not all there end the data
 values_short : (n i : ℕ) (spec : Spec) (m k : ℕ) (rest : List Bool) → 0 < k → length rest < n * k
     → values_at n i spec (Number m) k rest ≡ Err (faults.DataEnds 0 i)
 unfolding numbers_at
 values_short n i spec m zero rest some short = absurd (omega (arith, some))
 values_short n i spec m (suc k) rest some short = rw (lt-ltb _ _ short) refl
 
--- so does a column of such increments
 pub numbers_end : (n i : ℕ) (spec : Spec) (front : List Bool) (m k : ℕ) (rest : List Bool)
     → same_kind spec.kind kinds.Text ≡ false → head_at i spec.width front ≡ Ok ((m, k), rest)
     → 0 < k → length rest < n * k → column_at n i spec front ≡ Err (faults.DataEnds 0 i)
 numbers_end n i spec front m k rest other e some short =
     behind_head n i spec front m k rest other e ∙ values_short n i spec m k rest some short
 
--- the fault of increments is that of their column
 pub numbers_refused : (n i : ℕ) (spec : Spec) (front : List Bool) (m k : ℕ) (rest : List Bool)
-    (fault : ReadFault) → same_kind spec.kind kinds.Text ≡ false
+    (fault : DataFault) → same_kind spec.kind kinds.Text ≡ false
     → head_at i spec.width front ≡ Ok ((m, k), rest) → 0 < k → n * k ≤ length rest
     → all_raised 1 i spec.width m k (numbers n k rest) ≡ Err fault
     → column_at n i spec front ≡ Err fault
@@ -287,7 +253,6 @@ numbers_refused n i spec front m k rest fault other e some long none =
     behind_head n i spec front m k rest other e ∙ values_behind n i spec m k rest some long
     ∙ ap (λ r. r >>= λ values. Ok (values, drop (n * k) rest)) none
 
--- increments that have values are a column of these
 pub numbers_read : (n i : ℕ) (spec : Spec) (front : List Bool) (m k : ℕ) (rest last : List Bool)
     (values : List Raw) → same_kind spec.kind kinds.Text ≡ false
     → head_at i spec.width front ≡ Ok ((m, k), rest) → 0 < k → n * k ≤ length rest
@@ -298,7 +263,6 @@ numbers_read n i spec front m k rest last values other e some long found behind 
     ∙ ap (λ r. r >>= λ values. Ok (values, drop (n * k) rest)) found
     ∙ ap (λ xs. Ok (values, xs)) (sym behind)
 
--- no increment passes the width where the greatest that is not all ones does not
 raised_there : (width m k x : ℕ) (t : Bool) → (x + 1 == 2 ^ k) ≡ t → x < 2 ^ k
     → m + 2 ^ k < 2 ^ width + 2 → (v : Raw) × (raised width m k x ≡ Some v)
 raised_there width m k x true e below narrow = (Number (2 ^ width - 1), rw e refl)
@@ -309,7 +273,6 @@ raised_there width m k x false e below narrow =
     let room : m + x < 2 ^ width = omega (arith, less, narrow) in
     (Number (m + x), rw (e, lt-ltb (m + x) (2 ^ width) room) refl)
 
--- increments none of which can pass the width have values
 all_there : (j i width m k : ℕ) (xs : List ℕ) → AllByRecursion (λ x. x < 2 ^ k) xs
     → m + 2 ^ k < 2 ^ width + 2 → (values : List Raw) × (all_raised j i width m k xs ≡ Ok values)
 all_there j i width m k [] all narrow = ([], refl)
@@ -318,7 +281,6 @@ all_there j i width m k (x ∷ xs) all narrow =
     let others = all_there (j + 1) i width m k xs all.1 narrow in
     (here.0 ∷ others.0, rw (here.1, others.1) refl)
 
--- so a column of them is passed
 pub numbers_pass : (n i : ℕ) (spec : Spec) (front : List Bool) (m k : ℕ) (rest last : List Bool)
     → same_kind spec.kind kinds.Text ≡ false → head_at i spec.width front ≡ Ok ((m, k), rest)
     → 0 < k → n * k ≤ length rest → m + 2 ^ k < 2 ^ spec.width + 2 → last ≡ drop (n * k) rest
@@ -328,18 +290,13 @@ numbers_pass n i spec front m k rest last other e some long narrow behind =
     all_there 1 i spec.width m k (numbers n k rest) (numbers_fit n k rest long) narrow in
     (values.0, numbers_read n i spec front m k rest last values.0 other e some long values.1 behind)
 
--- ---- factors
-
--- a factor's kind is no text's
 pub no_text : (kind : Kind) → same_kind kind kinds.Count ≡ true → same_kind kind kinds.Text ≡ false
 no_text kind is = ap (λ k. same_kind k kinds.Text) (same_kind_is kind kinds.Count is)
 
--- a fault of a column is one of its factor
-pub factor_refused : (n i : ℕ) (spec : Spec) (front : List Bool) (fault : ReadFault)
+pub factor_refused : (n i : ℕ) (spec : Spec) (front : List Bool) (fault : DataFault)
     → column_at n i spec front ≡ Err fault → agreed_at n i spec front ≡ Err fault
 factor_refused n i spec front fault e = ap (λ r. r >>= agreeing i spec) e
 
--- a factor's column of equal values is read
 factor_read : (n i : ℕ) (spec : Spec) (front : List Bool) (values : List Raw) (last : List Bool)
     → column_at n i spec front ≡ Ok (values, last) → all_equal values ≡ true
     → agreed_at n i spec front ≡ Ok (values, last)
@@ -347,12 +304,10 @@ factor_read n i spec front values last e same =
     ap (λ r. r >>= agreeing i spec) e
     ∙ agreeing_again i spec (values, last) (λ is. all_equal_is values same)
 
--- the number of one value so many times
 count_replicated : (n m : ℕ) → 0 < n → count_of (replicate n (Number m)) ≡ m
 count_replicated zero m some = absurd (omega (arith, some))
 count_replicated (suc n) m some = refl
 
--- a factor's column without increments is passed
 pub factor_equal : (n i : ℕ) (spec : Spec) (front : List Bool) (m k : ℕ) (rest : List Bool)
     → same_kind spec.kind kinds.Count ≡ true → 0 < n
     → head_at i spec.width front ≡ Ok ((m, k), rest) → k ≡ 0 → PassesFactor n i spec front m rest
@@ -365,7 +320,6 @@ factor_equal n i spec front m k rest count some e none =
       count_replicated n m some,
     )
 
--- so is one with increments whose numbers are all the same
 pub factor_agrees : (n i : ℕ) (spec : Spec) (front : List Bool) (m k : ℕ) (rest last : List Bool)
     (first : ℕ) (equal : Bool) → same_kind spec.kind kinds.Count ≡ true
     → head_at i spec.width front ≡ Ok ((m, k), rest) → 0 < k → n * k ≤ length rest
@@ -377,7 +331,6 @@ factor_agrees n i spec front m k rest last first equal count e some long are beh
     (no_text spec.kind count) e some long are.1 behind in
     (are.0, factor_read n i spec front are.0 last found (are.3 ∙ same), are.2)
 
--- one whose numbers differ is refused
 pub factor_differs : (n i : ℕ) (spec : Spec) (front : List Bool) (m k : ℕ) (rest : List Bool)
     (first : ℕ) (equal : Bool) → same_kind spec.kind kinds.Count ≡ true
     → head_at i spec.width front ≡ Ok ((m, k), rest) → 0 < k → n * k ≤ length rest

@@ -1,5 +1,4 @@
--- The index keeps a place for each column that is read, one by one along the course: for the index
--- of compressed data (`Columns::index`).
+-- The index keeps a place for each column along the course.
 use Rattle.std.proofs.Common.{inl, inr, ◌≡◌, ℕ, zero, suc, ◌+◌, ◌*◌, ◌^◌, ◌<◌, ◌≤◌, Bool, true}
 use Rattle.std.proofs.Common.{List, [], ◌∷◌, ◌++◌, length, map, drop, Some, None, Result, Ok, Err}
 use Rattle.std.proofs.Common.{refl, sym, ap, subst, ◌∙◌, arith, append_assoc, length-append}
@@ -8,10 +7,10 @@ use Rattle.std.specs.List.{flat_map}
 use Rattle.std.proofs.lemmas.List.{length-drop}
 use Rattle.bufr_bits.specs.Bits.{bin, bits}
 use Rattle.bufr_bits.specs.BitLaws.{length-bin}
-use Rattle.bufr_answers.specs.Answers.{◌>>=◌}
+use Rattle.bufr_base.specs.Answers.{◌>>=◌}
 use Rattle.bufr_tables.specs.declared.element.Kind.TheVariants as kinds
 use Rattle.bufr_tables.specs.Elements.{same_kind}
-use Rattle.bufr_answers.specs.AnswerLaws.{guard_ok}
+use Rattle.bufr_base.specs.AnswerLaws.{guard_ok}
 use Rattle.bufr_expand.specs.declared.operators.Spec.{Spec}
 use Rattle.bufr_expand.specs.declared.walk.Step.TheVariants as steps
 use Rattle.bufr_expand.specs.declared.walk.Walk.{Walk}
@@ -20,8 +19,8 @@ use Rattle.bufr_expand.specs.Courses.{Course, asks}
 use Rattle.bufr_expand.specs.Walks.{left, items_met, Goes, Counted, IsBelowCount}
 use Rattle.bufr_fields.specs.declared.field.Raw.{Raw}
 use Rattle.bufr_fields.specs.declared.field.Subset.{Subset}
-use Rattle.bufr_fields.specs.declared.fault.ReadFault.{ReadFault}
-use Rattle.bufr_fields.specs.declared.fault.ReadFault.TheVariants as faults
+use Rattle.bufr_fields.specs.declared.fault.DataFault.{DataFault}
+use Rattle.bufr_fields.specs.declared.fault.DataFault.TheVariants as faults
 use Rattle.bufr_data.specs.declared.compressed.index.Place.{Place}
 use Rattle.bufr_data.specs.Plain.{raw_bits, stopped}
 use Rattle.bufr_fields.specs.Steady.{IsReady}
@@ -41,9 +40,6 @@ use Rattle.bufr_data.proofs.AnswerFacts.{guard_err}
 use Rattle.bufr_data.proofs.CompressedFacts.Walks.{agreed_found, agreeing_again}
 use Rattle.bufr_fields.specs.Limits.{most_values}
 
--- ---- the column at a place
-
--- a column is read whatever its field is called
 open_place : (octets : List ℕ) (n i bit : ℕ) (d : ℕ) (spec : Spec) (front : List Bool)
     (x : List Raw × List Bool) → column_at n i spec front ≡ Ok x → front ≡ drop bit (bits octets)
     → column_at n 1 spec (drop bit (bits octets)) ≡ Ok x
@@ -52,7 +48,6 @@ open_place octets n i bit d spec front x e is =
     ap (column_at n 1 spec) (sym is ∙ found.3)
     ∙ column_again n 1 spec x.0 found.0 x.1 found.1 found.2
 
--- a column has six bits at least, so its place is inside the octets
 column_bits : (spec : Spec) (values : List Raw) (column : List Bool) → IsColumn spec values column
     → 6 ≤ length column
 column_bits spec values column (equal minimum form all is) =
@@ -67,7 +62,6 @@ column_bits spec values column (text_column ignored k own form some few short ea
     let size = ap length is ∙ length-append (bits ignored ++ bin 6 k) (flat_map bits own) in
     omega (arith, size, length-append (bits ignored) (bin 6 k), length-bin 6 k)
 
--- a place at which a column is read lies within the octets
 place_inside : (octets : List ℕ) (n bit : ℕ) (spec : Spec) (x : List Raw × List Bool)
     → column_at n 1 spec (drop bit (bits octets)) ≡ Ok x → bit ≤ 8 * length octets
 place_inside octets n bit spec x e =
@@ -82,15 +76,11 @@ place_inside octets n bit spec x e =
       length-fields 8 octets,
     )
 
--- ---- one step
-
--- within the limit on values the answer is what is behind it
-within_is : {A : Type 0} (n i : ℕ) (r : Result A ReadFault)
+within_is : {A : Type 0} (n i : ℕ) (r : Result A DataFault)
     → within_limit {A = Unit {0}} n i (Ok tt) ≡ Ok tt → within_limit n i r ≡ r
 within_is n i r e = rw (guard_ok (nat_lt most_values (i * n)) _ _ tt e).0 refl
 
--- past this limit it is its fault
-past_is : {A : Type 0} (n i : ℕ) (r : Result A ReadFault) (fault : ReadFault)
+past_is : {A : Type 0} (n i : ℕ) (r : Result A DataFault) (fault : DataFault)
     → within_limit {A = Unit {0}} n i (Ok tt) ≡ Err fault → within_limit n i r ≡ Err fault
 past_is n i r fault e =
     elim (guard_err (nat_lt most_values (i * n)) faults.TooLarge fault _ e) [
@@ -98,7 +88,6 @@ past_is n i r fault e =
       | inr none ↦ let bad = none.1 in absurd cc
     ]
 
--- a column that a course asks for is tested for the limit and read
 asked_at : (n i met d : ℕ) (spec : Spec) (more : ℕ → Course) (front : List Bool)
     → columns_at n i (asks met d spec more) front
     ≡ within_limit n i
@@ -107,16 +96,14 @@ asked_at : (n i met d : ℕ) (spec : Spec) (more : ℕ → Course) (front : List
 unfolding columns_at
 asked_at n i met d spec more front = refl
 
--- where the walk stops at a fault, the columns are refused for it
 pub stop_refused : (old new : Walk) (n i : ℕ) (front : List Bool) (why : WalkFault)
-    (fault : ReadFault) → Goes (left old) (Err why) new
+    (fault : DataFault) → Goes (left old) (Err why) new
     → within_limit {A = ColumnsFound} n i (stopped why) ≡ Err fault
     → columns_at n i (left old) front ≡ Err fault
 unfolding columns_at
 stop_refused old new n i front why fault g e =
     let s = stops_there (left old) why new g in ap (λ c. columns_at n i c front) s.1 ∙ e
 
--- where the walk ends, the columns end
 pub end_passes : (old new : Walk) (n i : ℕ) (octets : List ℕ) (front : List Bool)
     → Goes (left old) (Ok steps.End) new
     → PassesPlace n i (left old) octets front None (left new) front
@@ -124,16 +111,14 @@ unfolding columns_at
 end_passes old new n i octets front g =
     (items_met new, ap (λ c. columns_at n i c front) (ends_there (left old) new g))
 
--- a field past the limit refuses the columns
-pub step_past : (c : Course) (n i d : ℕ) (spec : Spec) (front : List Bool) (fault : ReadFault)
+pub step_past : (c : Course) (n i d : ℕ) (spec : Spec) (front : List Bool) (fault : DataFault)
     → Asks c d spec → within_limit {A = Unit {0}} n i (Ok tt) ≡ Err fault
     → columns_at n i c front ≡ Err fault
 step_past c n i d spec front fault a e =
     ap (λ x. columns_at n i x front) a.is ∙ asked_at n i a.met d spec a.more front
     ∙ past_is n i _ fault e
 
--- a column that is refused refuses those from it on
-pub step_refused : (c : Course) (n i d : ℕ) (spec : Spec) (front : List Bool) (fault : ReadFault)
+pub step_refused : (c : Course) (n i d : ℕ) (spec : Spec) (front : List Bool) (fault : DataFault)
     → Asks c d spec → within_limit {A = Unit {0}} n i (Ok tt) ≡ Ok tt
     → agreed_at n i spec front ≡ Err fault → columns_at n i c front ≡ Err fault
 step_refused c n i d spec front fault a room e =
@@ -141,15 +126,13 @@ step_refused c n i d spec front fault a room e =
     ∙ within_is n i _ room
     ∙ ap (λ r. r >>= column_then d spec (λ count rest. columns_at n (i + 1) (a.more count) rest)) e
 
--- one more column in front of the others
-column_joined : (d : ℕ) (spec : Spec) (values : List Raw) (o : Result ColumnsFound ReadFault)
+column_joined : (d : ℕ) (spec : Spec) (values : List Raw) (o : Result ColumnsFound DataFault)
     → (o >>= λ others. Ok (record others
     { columns = record { fxy = d; spec = spec; values = values } ∷ others.columns }))
     ≡ behind_columns (record { fxy = d; spec = spec; values = values } ∷ []) o
 column_joined d spec values (Ok found) = refl
 column_joined d spec values (Err e) = refl
 
--- the column that agrees, and those behind it
 one_agreed : (c later : Course) (octets : List ℕ) (n i d bit : ℕ) (spec : Spec)
     (front rest : List Bool) (values : List Raw) → GoesOn c d spec (count_of values) later
     → within_limit {A = Unit {0}} n i (Ok tt) ≡ Ok tt → agreed_at n i spec front ≡ Ok (values, rest)
@@ -172,7 +155,6 @@ one_agreed c later octets n i d bit spec front rest values on room e is =
           ∙ (λ t. behind_columns (column t ∷ []) (columns_at n (i + 1) (on.after t) rest)),
     )
 
--- a field whose column was passed is a place
 pub field_passes : (old new : Walk) (octets : List ℕ) (n i d bit : ℕ) (spec : Spec)
     (front rest : List Bool) → IsReady old → Goes (left old) (Ok (steps.Field d spec)) new
     → within_limit {A = Unit {0}} n i (Ok tt) ≡ Ok tt → PassesColumn n i spec front rest
@@ -187,7 +169,6 @@ field_passes old new octets n i d bit spec front rest ready g room passes is =
     one_agreed (left old) (left new) octets n i d bit spec front rest passes.0
     (field_goes old new d spec (count_of passes.0) ready g) room agree is
 
--- so is a factor
 pub count_passes : (old mid new : Walk) (octets : List ℕ) (n i d bit number : ℕ) (spec : Spec)
     (front rest : List Bool) → Goes (left old) (Ok (steps.Count d spec)) mid
     → Counted (left mid) number new → within_limit {A = Unit {0}} n i (Ok tt) ≡ Ok tt
@@ -199,7 +180,6 @@ count_passes old mid new octets n i d bit number spec front rest g counted room 
     (count_goes old mid new d spec number g counted) in
     one_agreed (left old) (left new) octets n i d bit spec front rest passes.0 on room passes.1 is
 
--- the number of a factor is within its width
 pub count_is_below : (old mid : Walk) (d : ℕ) (spec : Spec) (n : ℕ)
     → Goes (left old) (Ok (steps.Count d spec)) mid → n < 2 ^ spec.width → IsBelowCount (left mid) n
 count_is_below old mid d spec n g below =
@@ -207,28 +187,22 @@ count_is_below old mid d spec n g below =
     asks_count (left old) d spec mid g in
     subst (λ (x : Course). IsBelowCount x n) (sym a.waiting) below
 
--- a step that counts has a factor's spec
 pub is_count : (old mid : Walk) (d : ℕ) (spec : Spec)
     → Goes (left old) (Ok (steps.Count d spec)) mid → same_kind spec.kind kinds.Count ≡ true
 is_count old mid d spec g = (asks_count (left old) d spec mid g).kind
 
--- ---- one column after the other
-
--- nothing stands before the columns at first
-pub behind_no_column : (o : Result ColumnsFound ReadFault) → o ≡ behind_columns [] o
+pub behind_no_column : (o : Result ColumnsFound DataFault) → o ≡ behind_columns [] o
 behind_no_column (Ok found) = refl
 behind_no_column (Err e) = refl
 
--- one more column behind those before
-behind_more : (cs : List Column) (c : Column) (o : Result ColumnsFound ReadFault)
+behind_more : (cs : List Column) (c : Column) (o : Result ColumnsFound DataFault)
     → behind_columns cs (behind_columns (c ∷ []) o) ≡ behind_columns (cs ++ c ∷ []) o
 behind_more cs c (Ok found) =
     ap (λ xs. Ok (record found { columns = xs })) (sym (append_assoc cs (c ∷ []) found.columns))
 behind_more cs c (Err e) = refl
 
--- one place more
 pub place_kept : (octets : List ℕ) (n i : ℕ) (ps grown : List Place) (p : Place)
-    (whole : Result ColumnsFound ReadFault) (c d : Course) (front rest : List Bool)
+    (whole : Result ColumnsFound DataFault) (c d : Course) (front rest : List Bool)
     → grown ≡ ps ++ p ∷ [] → i ≡ length ps + 1
     → whole ≡ behind_columns (map (column_from octets n) ps) (columns_at n (length ps + 1) c front)
     → PassesPlace n i c octets front (Some p) d rest
@@ -246,9 +220,6 @@ place_kept octets n i ps grown p whole c d front rest is index so_far step =
     (sym (map_grown (column_from octets n) ps grown p is))
     ∙ ap (λ m. behind_columns (map (column_from octets n) grown) (columns_at n m d rest)) next
 
--- ---- the subsets of an index
-
--- so many subsets and one more
 from_suc : (k n : ℕ) (columns : List Column)
     → subsets_from k (suc n) columns ≡ subsets_from k n columns ++ subset_of columns (k + n) ∷ []
 from_suc k zero columns =
@@ -259,7 +230,6 @@ from_suc k (suc n) columns =
     (from_suc (k + 1) n columns
     ∙ ap (λ m. subsets_from (k + 1) n columns ++ subset_of columns m ∷ []) same)
 
--- a subset at the end of those before it is one more
 pub one_subset_more : (i j : ℕ) (columns : List Column) (subsets grown : List Subset) (s : Subset)
     → grown ≡ subsets ++ s ∷ [] → subsets ≡ subsets_from 0 i columns → s ≡ subset_of columns j
     → j ≡ i → grown ≡ subsets_from 0 (i + 1) columns

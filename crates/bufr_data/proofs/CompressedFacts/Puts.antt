@@ -1,4 +1,4 @@
--- The best columns put one after the other: for `write_compressed`.
+-- The best columns, put one by one.
 use Rattle.std.proofs.Common.{◌≡◌, ℕ, zero, suc, ◌+◌, ◌-◌, ◌*◌, ◌%◌, ◌^◌, ◌<◌, ◌≤◌, Bool, true}
 use Rattle.std.proofs.Common.{false, cond, List, [], ◌∷◌, ◌++◌, length, map, take, drop, replicate}
 use Rattle.std.proofs.Common.{get_or, Some, Ok, Err, refl, sym, ap, subst, ◌∙◌, arith, append_assoc}
@@ -9,12 +9,12 @@ use Rattle.std.proofs.lemmas.Bool.{and_parts, lt-ltb, leb-true, le-leb, lt-leb, 
 use Rattle.std.proofs.lemmas.List.{take_more, take_all, drop_all}
 use Rattle.std.proofs.Math.Pow.{pow_mono}
 use Rattle.bufr_bits.specs.Bits.{bin, bits, all_ones}
-use Rattle.bufr_answers.specs.Answers.{Fails}
-use Rattle.bufr_answers.specs.declared.failure.Failure.{Failure}
-use Rattle.bufr_answers.specs.declared.failure.Failure.TheVariants.{Fault, OutOfMemory}
+use Rattle.bufr_base.specs.Answers.{Fails}
+use Rattle.bufr_base.specs.declared.failure.Failure.{Failure}
+use Rattle.bufr_base.specs.declared.failure.Failure.TheVariants.{Fault, OutOfMemory}
 use Rattle.bufr_tables.specs.declared.element.Kind.TheVariants as kinds
 use Rattle.bufr_tables.specs.Elements.{same_kind}
-use Rattle.bufr_answers.specs.AnswerLaws.{bind_ok}
+use Rattle.bufr_base.specs.AnswerLaws.{bind_ok}
 use Rattle.bufr_expand.specs.declared.operators.Spec.{Spec}
 use Rattle.bufr_expand.specs.Trees.{Tree}
 use Rattle.bufr_expand.specs.Courses.{course}
@@ -22,8 +22,8 @@ use Rattle.bufr_fields.specs.declared.field.Raw.{Raw}
 use Rattle.bufr_fields.specs.declared.field.Raw.TheVariants.{Number}
 use Rattle.bufr_fields.specs.declared.field.Field.{Field}
 use Rattle.bufr_fields.specs.declared.field.Subset.{Subset}
-use Rattle.bufr_fields.specs.declared.fault.WriteFault.{WriteFault}
-use Rattle.bufr_fields.specs.declared.fault.WriteFault.TheVariants as misfits
+use Rattle.bufr_fields.specs.declared.fault.MisfitFault.{MisfitFault}
+use Rattle.bufr_fields.specs.declared.fault.MisfitFault.TheVariants as misfits
 use Rattle.bufr_fields.specs.Forms.{number_of, has_form_by, items_of}
 use Rattle.bufr_data.specs.Compressed.{Column}
 use Rattle.bufr_data.specs.Compressed.Reading.{all_equal}
@@ -49,15 +49,9 @@ use Rattle.bufr_data.proofs.ListFacts.{front_is, left_is, map_grown, put_grown}
 use Rattle.bufr_fields.specs.Limits.{most_values}
 use Rattle.bufr_fields.specs.FormLaws.{below_is, form_is}
 
--- ---- bits that stay
-
--- bits that stay through two steps stay
 pub kept_more : (old mid new : List Bool) → Extends old mid → Extends mid new → Extends old new
 kept_more old mid new a b = (a.0 ++ b.0, b.1 ∙ ap (λ xs. xs ++ b.0) a.1 ∙ append_assoc old a.0 b.0)
 
--- ---- numbers
-
--- the least of present numbers with one more, by whether it is missing
 pub least_by : (width : ℕ) (ms : List ℕ) (x : ℕ) (b : Bool) → all_ones width x ≡ b
     → least_step width (least_of ms) x ≡ least_of (ms ++ cond (not b) (x ∷ []) [])
 least_by width [] x true e = rw e refl
@@ -65,18 +59,15 @@ least_by width [] x false e = rw e refl
 least_by width (m ∷ ms) x true e = rw e (ap least_of (sym (append-nil (m ∷ ms))))
 least_by width (m ∷ ms) x false e = rw e (ap (λ n. Some n) (sym (least_push m ms x)))
 
--- it is 0 where there is none
 pub least_or : (ns : List ℕ) → unwrap_or (least_of ns) 0 ≡ least ns
 least_or [] = refl
 least_or (n ∷ ns) = refl
 
--- the greatest of present numbers with one more, by whether it is missing
 pub greatest_by : (width : ℕ) (ms : List ℕ) (x : ℕ) (b : Bool) → all_ones width x ≡ b
     → greatest_step width (greatest ms) x ≡ greatest (ms ++ cond (not b) (x ∷ []) [])
 greatest_by width ms x true e = rw e (ap greatest (sym (append-nil ms)))
 greatest_by width ms x false e = rw e (sym (greatest_push ms x))
 
--- so either of the present numbers at the front, with the one there
 pub present_more : {X : Type 0} → (extreme : List ℕ → X) (step : X → ℕ → X) (width : ℕ)
     → ((ms : List ℕ) (x : ℕ) (b : Bool) → all_ones width x ≡ b
     → step (extreme ms) x ≡ extreme (ms ++ cond (not b) (x ∷ []) []))
@@ -89,13 +80,12 @@ present_more extreme step width more ns i found less so_far =
     ∙ sym (ap extreme (filter-append (λ n. not (all_ones width n)) (take i ns) (x ∷ [])))
     ∙ ap (λ xs. extreme (present width xs)) (sym (take_more ns i 0 less))
 
--- minimum, width and increments fit the fields that they are put in
+-- minimum, width and increments fit their fields
 pub record NumbersPut (width : ℕ) (ns : List ℕ) (minimum k : ℕ) : Type 0 where
   pub below : minimum < 2 ^ width
   pub few : k ≤ 63
   pub fit : AllByRecursion (λ x. x < 2 ^ k) (map (increment_of width minimum k) ns)
 
--- those of the best column fit
 pub numbers_put : (width : ℕ) (ns : List ℕ) → width ≤ 63
     → list_all (λ n. nat_lt n (2 ^ width)) ns ≡ true
     → NumbersPut width ns (least (present width ns))
@@ -113,14 +103,12 @@ numbers_put width ns short forms =
           parts.each;
     }
 
--- what fits everywhere fits at an index
 pub fit_at_index : (p : ℕ) (f : ℕ → ℕ) (ns : List ℕ) (i : ℕ)
     → AllByRecursion (λ y. y < p) (map f ns) → i < length ns → f (get_or ns i 0) < p
 fit_at_index p f [] i all less = absurd (omega (arith, less))
 fit_at_index p f (n ∷ ns) zero all less = all.0
 fit_at_index p f (n ∷ ns) (suc i) all less = fit_at_index p f ns i all.1 (omega (arith, less))
 
--- one more at the sink's end
 pub put_step : {X : Type 0}
     → (f : X → List Bool) (xs grown : List X) (x : X) (old head mid new : List Bool)
     → grown ≡ xs ++ x ∷ [] → mid ≡ old ++ (head ++ flat_map f xs) → new ≡ mid ++ f x
@@ -130,9 +118,6 @@ put_step f xs grown x old head mid new is so_far put =
     put_grown f xs grown x (old ++ head) mid new is before put
     ∙ append_assoc old head (flat_map f grown)
 
--- ---- values at a place
-
--- a view of the values of a place in the subsets at the front, with the one there
 pub values_more : {X : Type 0} → (view : Raw → X) (f : Field) (place : ℕ) (others : List Subset)
     (i : ℕ) (s : Subset) → i < length others → s ≡ get_or others i s
     → map view (values_from f (rows_from place (take (i + 1) others)))
@@ -148,7 +133,6 @@ values_more view f place others i s less is =
     (values_from f (rows_from place (take (i + 1) others))) (first_raw (drop place s.fields))
     (ap (λ vs. f.raw ∷ vs) raws)
 
--- values that differ and can be a column are narrow
 short_of : (spec : Spec) (values : List Raw) → can_be_column spec values ≡ true
     → all_equal values ≡ false → widest spec ≤ 63
 short_of spec values can e =
@@ -156,14 +140,12 @@ short_of spec values can e =
     leb-true _ _ (and_parts (not (same_kind spec.kind kinds.Count))
     (nat_le (widest spec) 63) differ).1
 
--- numbers then have 63 bits at most
 pub short_numbers : (spec : Spec) (values : List Raw) → can_be_column spec values ≡ true
     → all_equal values ≡ false → (spec.kind ≡ kinds.Text → ⊥) → spec.width ≤ 63
 short_numbers spec values can e other =
     let number : same_kind spec.kind kinds.Text ≡ false = other_kind spec.kind kinds.Text other in
     subst (λ n. n ≤ 63) (rw number refl) (short_of spec values can e)
 
--- values of their form have numbers within the width
 pub numbers_below : (spec : Spec) (values : List Raw) → (spec.kind ≡ kinds.Text → ⊥)
     → have_form spec values ≡ true
     → list_all (λ n. nat_lt n (2 ^ spec.width)) (map number_of values) ≡ true
@@ -173,9 +155,6 @@ numbers_below spec (v ∷ values) other e =
     let below = (number_back spec v other (form_is spec v p.0)).1 in
     rw (lt-ltb (number_of v) (2 ^ spec.width) below, numbers_below spec values other p.1) refl
 
--- ---- forms at a place
-
--- a subset that begins like a field has a raw value of its form there
 form_alike : (f : Field) (row : List Field) → begins_like f row ≡ true
     → list_all has_own_form row ≡ true → has_form_by f.spec.kind f.spec.width (first_raw row) ≡ true
 form_alike f [] e forms = absurd cc
@@ -183,7 +162,6 @@ form_alike f (g ∷ gs) e forms =
     ap (λ (s : Spec). has_form_by s.kind s.width g.raw) (sym (like_is f (g ∷ gs) e).1)
     ∙ (and_parts (has_own_form g) (list_all has_own_form gs) forms).0
 
--- so has each subset
 rows_have_forms : (f : Field) (rows : List (List Field)) → list_all (begins_like f) rows ≡ true
     → list_all (list_all has_own_form) rows ≡ true → have_form f.spec (map first_raw rows) ≡ true
 rows_have_forms f [] e forms = refl
@@ -192,13 +170,11 @@ rows_have_forms f (row ∷ rows) e forms =
     let own = and_parts (list_all has_own_form row) (list_all (list_all has_own_form) rows) forms in
     rw (form_alike f row like.0 own.0, rows_have_forms f rows like.1 own.1) refl
 
--- so have all values of a place
 pub place_forms : (f : Field) (rows : List (List Field)) → has_own_form f ≡ true
     → list_all (begins_like f) rows ≡ true → list_all (list_all has_own_form) rows ≡ true
     → have_form f.spec (values_from f rows) ≡ true
 place_forms f rows own e forms = rw (own, rows_have_forms f rows e forms) refl
 
--- later fields have their form too
 drop_forms : (k : ℕ) (fs : List Field) → list_all has_own_form fs ≡ true
     → list_all has_own_form (drop k fs) ≡ true
 drop_forms zero fs e = e
@@ -206,7 +182,6 @@ drop_forms (suc k) [] e = refl
 drop_forms (suc k) (f ∷ fs) e =
     drop_forms k fs (and_parts (has_own_form f) (list_all has_own_form fs) e).1
 
--- so have those of each subset
 pub row_forms : (place : ℕ) (subsets : List Subset)
     → list_all (λ (s : Subset). list_all has_own_form s.fields) subsets ≡ true
     → list_all (list_all has_own_form) (rows_from place subsets) ≡ true
@@ -215,15 +190,12 @@ row_forms place (s ∷ subsets) e =
     let p = and_parts (list_all has_own_form s.fields) _ e in
     rw (drop_forms place s.fields p.0, row_forms place subsets p.1) refl
 
--- so has the field at an index
 pub own_at : (fields : List Field) (k : ℕ) (f : Field) → k < length fields → f ≡ get_or fields k f
     → list_all has_own_form fields ≡ true → has_own_form f ≡ true
 own_at fields k f less is e =
     ap has_own_form is
     ∙ All-get_or (λ g. has_own_form g ≡ true) fields k f less
     (AllPass-from_list_all has_own_form fields e)
-
--- ---- one place after the other
 
 -- the column of the next place
 pub record PlaceHere (f : Field) (fs : List Field) (others : List Subset) (place : ℕ) : Type 0 where
@@ -232,7 +204,6 @@ pub record PlaceHere (f : Field) (fs : List Field) (others : List Subset) (place
   pub next : columns_of (place + 1 + 1) fs (rows_from (place + 1) others)
       ≡ Ok (columns_here fs (rows_from (place + 1) others))
 
--- what is known where a place is a column
 pub place_here : (f : Field) (fs : List Field) (others : List Subset) (place : ℕ) (cs : List Column)
     → columns_of (place + 1) (f ∷ fs) (rows_from place others) ≡ Ok cs → PlaceHere f fs others place
 place_here f fs others place cs e =
@@ -248,7 +219,6 @@ place_here f fs others place cs e =
           (are_here (place + 1 + 1) fs (rows_from (place + 1) others) h.behind rest);
     }
 
--- the best columns are that of this place and the others
 pub best_next : (f : Field) (fs : List Field) (others : List Subset) (place : ℕ)
     → best_bits (columns_here (f ∷ fs) (rows_from place others))
     ≡ best f.spec (values_from f (rows_from place others)) ++ best_bits
@@ -258,12 +228,10 @@ best_next f fs others place =
     ap (λ rows. best f.spec (values_from f (rows_from place others))
     ++ best_bits (columns_here fs rows)) (rows_next place others)
 
--- without fields there is no column
 pub best_none : (rows : List (List Field)) → best_bits (columns_here [] rows) ≡ []
 unfolding columns_here
 best_none rows = refl
 
--- what is known of a place and those behind it
 pub columns_step : (fields : List Field) (others : List Subset) (place : ℕ) (f : Field)
     → place < length fields → f ≡ get_or fields place f
     → columns_of (place + 1) (drop place fields) (rows_from place others)
@@ -274,20 +242,15 @@ columns_step fields others place f less is can =
     (subst (λ fs. columns_of (place + 1) fs (rows_from place others) ≡ Ok
     (columns_here fs (rows_from place others))) (left_is fields place f less is) can)
 
--- ---- each subset fits
-
--- behind a subset that fits the others are tested
 one_fits : (tree : Tree) (j n : ℕ) (s : Subset) (subsets : List Subset)
     → items_of j 1 (course tree 0) s.fields ≡ Ok n
     → each_fits tree j (s ∷ subsets) ≡ each_fits tree (j + 1) subsets
 one_fits tree j n s subsets e = rw e refl
 
--- a subset that does not fit is the fault
-one_fails : (tree : Tree) (j : ℕ) (s : Subset) (subsets : List Subset) (fault : WriteFault)
+one_fails : (tree : Tree) (j : ℕ) (s : Subset) (subsets : List Subset) (fault : MisfitFault)
     → items_of j 1 (course tree 0) s.fields ≡ Err fault → each_fits tree j (s ∷ subsets) ≡ Err fault
 one_fails tree j s subsets fault e = rw e refl
 
--- a subset that fits goes on with those behind it
 pub each_next : (tree : Tree) (k n : ℕ) (subsets : List Subset) (s : Subset) → k < length subsets
     → s ≡ get_or subsets k s → items_of (k + 1) 1 (course tree 0) s.fields ≡ Ok n
     → each_fits tree (k + 1) (drop k subsets) ≡ each_fits tree (k + 1 + 1) (drop (k + 1) subsets)
@@ -295,9 +258,8 @@ each_next tree k n subsets s less is e =
     ap (each_fits tree (k + 1)) (left_is subsets k s less is)
     ∙ one_fits tree (k + 1) n s (drop (k + 1) subsets) e
 
--- one that does not fails for all
 pub each_fails : (tree : Tree) (k : ℕ) (subsets : List Subset) (s : Subset)
-    (failure : Failure WriteFault) → k < length subsets → s ≡ get_or subsets k s
+    (failure : Failure MisfitFault) → k < length subsets → s ≡ get_or subsets k s
     → Fails failure (items_of (k + 1) 1 (course tree 0) s.fields)
     → each_fits tree 1 subsets ≡ each_fits tree (k + 1) (drop k subsets)
     → Fails failure (each_fits tree 1 subsets)
@@ -306,12 +268,10 @@ each_fails tree k subsets s (Fault fault) less is fails so_far =
     so_far ∙ ap (each_fits tree (k + 1)) (left_is subsets k s less is)
     ∙ one_fails tree (k + 1) s (drop (k + 1) subsets) fault fails
 
--- at the end all fit
 pub each_end : (tree : Tree) (k : ℕ) (subsets : List Subset) → length subsets ≤ k
     → each_fits tree (k + 1) (drop k subsets) ≡ Ok tt
 each_end tree k subsets done = ap (each_fits tree (k + 1)) (drop_all k subsets done)
 
--- subsets that fit have raw values of their form
 pub each_has_form : (tree : Tree) (j : ℕ) (subsets : List Subset) (u : Unit {0})
     → each_fits tree j subsets ≡ Ok u
     → list_all (λ (s : Subset). list_all has_own_form s.fields) subsets ≡ true
@@ -323,16 +283,12 @@ each_has_form tree j (s ∷ subsets) u e =
       each_has_form tree (j + 1) subsets u h.2,
     ) refl
 
--- ---- what the sink holds before a loop
-
--- two parts put one after the other
 pub put_two : (old mid new a b : List Bool) → mid ≡ old ++ a → new ≡ mid ++ b
     → new ≡ old ++ (a ++ b ++ [])
 put_two old mid new a b first second =
     second ∙ ap (λ bs. bs ++ b) first ∙ append_assoc old a b
     ∙ ap (λ bs. old ++ bs) (sym (append-nil (a ++ b)))
 
--- the increments with one more
 pub increments_push : (width minimum k : ℕ) (ns : List ℕ) (i : ℕ) → i < length ns
     → map (increment_of width minimum k) (take (i + 1) ns)
     ≡ map (increment_of width minimum k) (take i ns) ++ increment_of width minimum k
@@ -341,7 +297,6 @@ increments_push width minimum k ns i less =
     map_grown (increment_of width minimum k) (take i ns) (take (i + 1) ns) (get_or ns i 0)
     (take_more ns i 0 less)
 
--- `numbers_put` in the words of the code
 pub numbers_put_of : (width : ℕ) (ns : List ℕ) (minimum greatest_of difference k : ℕ) → width ≤ 63
     → list_all (λ n. nat_lt n (2 ^ width)) ns ≡ true → minimum ≡ least (present width ns)
     → greatest_of ≡ greatest (present width ns) → difference ≡ greatest_of - minimum
@@ -353,7 +308,6 @@ numbers_put_of width ns minimum greatest_of difference k short forms low high ap
     (subst (λ n. NumbersPut width ns (least (present width ns)) n) same
     (numbers_put width ns short forms))
 
--- one step of the search for the fewest bits
 pub fewest_next : (k d : ℕ) → k < 64
     → fewest_bits (64 - k) k d
     ≡ cond (nat_le (d + 2) (2 ^ k)) k (fewest_bits (64 - (k + 1)) (k + 1) d)
@@ -361,19 +315,16 @@ unfolding fewest_bits
 fewest_next k d less =
     let some : 64 - k ≡ suc (64 - (k + 1)) = omega (arith, less) in ap (λ m. fewest_bits m k d) some
 
--- at 64 bits the search is done
 pub fewest_done : (k d : ℕ) → 64 ≤ k → k ≤ 64 → fewest_bits (64 - k) k d ≡ 64
 unfolding fewest_bits
 fewest_done k d done within =
     let is : k ≡ 64 = omega (arith, done, within) in ap (λ m. fewest_bits (64 - m) m d) is
 
--- the front of zeros is zeros
 pub zeros_are : (k n : ℕ) → k ≤ n → take {A = ℕ} k (replicate n 0) ≡ replicate k 0
 zeros_are zero n le = refl
 zeros_are (suc k) zero le = absurd (omega (arith, le))
 zeros_are (suc k) (suc n) le = ap (λ (xs : List ℕ). 0 ∷ xs) (zeros_are k n (omega (arith, le)))
 
--- a shift by less than 64 is a power of two
 pub shift_is : (k : ℕ) → k < 64 → 1 * 2 ^ k % 340282366920938463463374607431768211456 ≡ 2 ^ k
 shift_is k less =
     let short : k ≤ 63 = omega (arith, less) in
@@ -383,35 +334,30 @@ shift_is k less =
     ap (λ m. m % 340282366920938463463374607431768211456) one
     ∙ small_mod (2 ^ k) 340282366920938463463374607431768211456 small
 
--- a width that is enough is the fewest
 pub fewest_here : (k d whole : ℕ) → k < 64 → d + 2 ≤ 2 ^ k → whole ≡ fewest_bits (64 - k) k d
     → k ≡ whole
 fewest_here k d whole less fits so_far =
     sym (so_far ∙ fewest_next k d less
     ∙ ap (λ b. cond b k (fewest_bits (64 - (k + 1)) (k + 1) d)) (le-leb (d + 2) (2 ^ k) fits))
 
--- one that is not goes on with the next
 pub fewest_later : (k d whole : ℕ) → k < 64 → 2 ^ k < d + 2 → whole ≡ fewest_bits (64 - k) k d
     → whole ≡ fewest_bits (64 - (k + 1)) (k + 1) d
 fewest_later k d whole less more so_far =
     so_far ∙ fewest_next k d less
     ∙ ap (λ b. cond b k (fewest_bits (64 - (k + 1)) (k + 1) d)) (lt-leb (d + 2) (2 ^ k) more)
 
--- ---- subsets as their first one and the others
-
--- the first of subsets, where there is one
+-- the first subset
 abbrev pub first_in : List Subset → Subset → Subset
 first_in subsets d = get_or subsets 0 d
 
--- those behind it
+-- the subsets after it
 abbrev pub others_in : List Subset → List Subset
 others_in subsets = take (length subsets - 1) (drop 1 subsets)
 
--- the columns of their places
+-- the columns of subsets
 abbrev pub columns_in : List Subset → Subset → List Column
 columns_in subsets d = columns_here (first_in subsets d).fields (rows_from 0 (others_in subsets))
 
--- subsets that are some are the first and the others
 whole_is : (subsets : List Subset) (d : Subset) → (length subsets == 0) ≡ false
     → subsets ≡ first_in subsets d ∷ others_in subsets
 whole_is [] d some = absurd cc
@@ -419,14 +365,12 @@ whole_is (s ∷ subsets) d some =
     let all : length subsets ≤ suc (length subsets) - 1 = omega arith in
     ap (λ ss. s ∷ ss) (sym (take_all (suc (length subsets) - 1) subsets all))
 
--- there are as many columns as fields
 length_here : (fs : List Field) (rows : List (List Field))
     → length (columns_here fs rows) ≡ length fs
 unfolding columns_here
 length_here [] rows = refl
 length_here (f ∷ fs) rows = ap suc (length_here fs (map (drop 1) rows))
 
--- with too many values nothing is written
 pub written_past : (tree : Tree) (subsets : List Subset) (d : Subset) (u : Unit {0})
     → (length subsets == 0) ≡ false → each_fits tree 1 subsets ≡ Ok u
     → columns_of 1 (first_in subsets d).fields (rows_from 0 (others_in subsets))
@@ -441,7 +385,6 @@ written_past tree subsets d u some fit can past =
     (sym (length_here (first_in subsets d).fields (rows_from 0 (others_in subsets)))) past in
     rw (fit, all, lt-ltb most_values (length cs * length subsets) lt) refl
 
--- else the best columns are
 pub written_whole : (tree : Tree) (subsets : List Subset) (d : Subset) (u : Unit {0})
     → (length subsets == 0) ≡ false → each_fits tree 1 subsets ≡ Ok u
     → columns_of 1 (first_in subsets d).fields (rows_from 0 (others_in subsets))
@@ -456,7 +399,6 @@ written_whole tree subsets d u some fit can room =
     (sym (length_here (first_in subsets d).fields (rows_from 0 (others_in subsets)))) room in
     rw (fit, all, le-ltb most_values (length cs * length subsets) le) refl
 
--- the first subset and the others have raw values of their form
 pub first_forms : (tree : Tree) (subsets : List Subset) (d : Subset) (u : Unit {0})
     → (length subsets == 0) ≡ false → each_fits tree 1 subsets ≡ Ok u
     → (list_all has_own_form (first_in subsets d).fields ≡ true)
@@ -466,7 +408,6 @@ first_forms tree subsets d u some fit =
     (ap (list_all (λ (t : Subset). list_all has_own_form t.fields)) (sym (whole_is subsets d some))
     ∙ each_has_form tree 1 subsets u fit)
 
--- minimum, width and the first text of a column
 pub put_text_head : (old first second third : List Bool) (octets : ℕ) (zeros : List ℕ) (raw : Raw)
     → zeros ≡ replicate octets 0 → first ≡ old ++ bits zeros → second ≡ first ++ bin 6 octets
     → third ≡ second ++ bits (octets_of raw)

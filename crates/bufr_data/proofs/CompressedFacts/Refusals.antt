@@ -1,5 +1,4 @@
--- What is refused of compressed data is the first column that cannot stand, by the course: for the
--- law on what messages know of data (`data_hold_subsets`).
+-- Compressed data are refused at the first column that can't be read, by the course.
 use Rattle.std.proofs.Common.{◌≡◌, ℕ, zero, suc, ◌+◌, ◌-◌, ◌*◌, ◌/◌, ◌^◌, ◌<◌, ◌≤◌, Bool, true}
 use Rattle.std.proofs.Common.{false, List, [], ◌∷◌, ◌++◌, length, map, get_or, Option, Some, None}
 use Rattle.std.proofs.Common.{Result, Ok, Err, refl, sym, ap, subst, ◌∙◌, arith, append_assoc, ◌⊎◌}
@@ -10,18 +9,18 @@ use Rattle.std.proofs.lemmas.Bool.{and_parts, cases_lt, le-ltb, lt-ltb, ltb-true
 use Rattle.std.proofs.lemmas.Bool.{eqb-true, eqb-false}
 use Rattle.std.proofs.lemmas.Bool.{not-true}
 use Rattle.std.proofs.Math.Nat.{mul-le-mul_right}
-use Rattle.bufr_answers.specs.Answers.{◌>>=◌}
+use Rattle.bufr_base.specs.Answers.{◌>>=◌}
 use Rattle.bufr_tables.specs.declared.element.Kind.TheVariants as kinds
 use Rattle.bufr_tables.specs.Elements.{same_kind}
-use Rattle.bufr_answers.specs.AnswerLaws.{bind_err, err_is}
+use Rattle.bufr_base.specs.AnswerLaws.{bind_err, err_is}
 use Rattle.bufr_bits.specs.Bits.{bin, number_at, numbers_at}
 use Rattle.bufr_bits.specs.BitLaws.{number_at-bin}
 use Rattle.bufr_expand.specs.declared.operators.Spec.{Spec}
 use Rattle.bufr_expand.specs.Courses.{Course, ends, stops, asks}
 use Rattle.bufr_fields.specs.declared.field.Raw.{Raw}
 use Rattle.bufr_fields.specs.declared.field.Raw.TheVariants.{Number, Text}
-use Rattle.bufr_fields.specs.declared.fault.ReadFault.{ReadFault}
-use Rattle.bufr_fields.specs.declared.fault.ReadFault.TheVariants as faults
+use Rattle.bufr_fields.specs.declared.fault.DataFault.{DataFault}
+use Rattle.bufr_fields.specs.declared.fault.DataFault.TheVariants as faults
 use Rattle.bufr_data.specs.Plain.{raw_at}
 use Rattle.bufr_fields.specs.Forms.{number_of}
 use Rattle.bufr_data.specs.Compressed.{IsColumn, Column, HaveOneCount, AreColumns, field_of}
@@ -45,24 +44,21 @@ use Rattle.bufr_fields.specs.FormLaws.{same_kind_is}
 use Rattle.bufr_data.proofs.AnswerFacts.{guard_err}
 use Rattle.bufr_data.proofs.ListFacts.{all_at}
 
--- where the data end nothing was there
-or_ends_err : {A : Type 0} (i : ℕ) (o : Option A) (fault : ReadFault) → or_ends i o ≡ Err fault
+or_ends_err : {A : Type 0} (i : ℕ) (o : Option A) (fault : DataFault) → or_ends i o ≡ Err fault
     → (o ≡ None) × (fault ≡ faults.DataEnds 0 i)
 or_ends_err i None fault e = (refl, sym (err_is _ _ e))
 or_ends_err i (Some x) fault e = absurd cc
 
--- one answer has one value
 one_some : {A : Type 0} (o : Option A) (x y : A) → o ≡ Some x → o ≡ Some y → x ≡ y
 one_some o x y a b = let e = sym a ∙ b in cc
 
--- an increment that has no value, and those before it
-abbrev pub RangePassed : ℕ → ℕ → ℕ → ℕ → ℕ → List ℕ → ReadFault → Type 0
+-- an increment without a value, and those before it
+abbrev pub RangePassed : ℕ → ℕ → ℕ → ℕ → ℕ → List ℕ → DataFault → Type 0
 RangePassed j i width minimum k xs fault =
     (before : List ℕ) × (x : ℕ) × (behind : List ℕ) × (xs ≡ before ++ x ∷ behind)
     × AllByRecursion (HasValue width minimum k) before
     × (HasValue width minimum k x → ⊥) × (fault ≡ faults.IncrementRange (j + length before) i)
 
--- the step of `value_or`: all ones, or within the field
 value_by : (width minimum k x : ℕ) (ones room : Bool) → (x + 1 == 2 ^ k) ≡ ones
     → nat_lt (minimum + x) (2 ^ width) ≡ room
     → ((raised width minimum k x ≡ None) × (HasValue width minimum k x → ⊥)) ⊎ ((v : Raw)
@@ -80,20 +76,17 @@ value_by width minimum k x false false o r =
       ],
     )
 
--- an increment has no value and is read as none, or has the one that is read
 value_or : (width minimum k x : ℕ)
     → ((raised width minimum k x ≡ None) × (HasValue width minimum k x → ⊥)) ⊎ ((v : Raw)
     × (raised width minimum k x ≡ Some v) × HasValue width minimum k x)
 value_or width minimum k x = value_by width minimum k x _ _ refl refl
 
--- an error behind a value is that of the others
-then_err : (j i : ℕ) (v : Raw) (others : Result (List Raw) ReadFault) (fault : ReadFault)
+then_err : (j i : ℕ) (v : Raw) (others : Result (List Raw) DataFault) (fault : DataFault)
     → value_then j i (Some v) others ≡ Err fault → others ≡ Err fault
 then_err j i v (Ok ws) fault e = absurd cc
 then_err j i v (Err g) fault e = ap (λ f. Err f) (err_is _ _ e)
 
--- an error of increments is that of the first that passes the width
-range_passed : (j i width minimum k : ℕ) (xs : List ℕ) (fault : ReadFault)
+range_passed : (j i width minimum k : ℕ) (xs : List ℕ) (fault : DataFault)
     → all_raised j i width minimum k xs ≡ Err fault → RangePassed j i width minimum k xs fault
 range_passed j i width minimum k [] fault e = absurd cc
 range_passed j i width minimum k (x ∷ xs) fault e =
@@ -130,7 +123,6 @@ range_passed j i width minimum k (x ∷ xs) fault e =
           )
     ]
 
--- and the first that passes the width is the error
 range_again : (j i width minimum k : ℕ) (before : List ℕ) (x : ℕ) (behind : List ℕ)
     → AllByRecursion (HasValue width minimum k) before → (HasValue width minimum k x → ⊥)
     → all_raised j i width minimum k (before ++ x ∷ behind)
@@ -149,15 +141,11 @@ range_again j i width minimum k (y ∷ before) x behind all none =
           (ap (λ l. Err (faults.IncrementRange l i)) same)
     ]
 
--- ---- one column is refused
-
--- where no minimum is read, none stands there
 no_raw : (spec : Spec) (front : List Bool) → raw_at spec front ≡ None
     → (minimum : Raw) (k : ℕ) (rest : List Bool) → Heads spec front minimum k rest → ⊥
 no_raw spec front e minimum k rest h =
     let some = sym e ∙ head_read spec front minimum k rest h in cc
 
--- where no width is read, none stands there
 no_width : (spec : Spec) (front : List Bool) (x : Raw × List Bool) → raw_at spec front ≡ Some x
     → number_at 6 x.1 ≡ None → (minimum : Raw) (k : ℕ) (rest : List Bool)
     → Heads spec front minimum k rest → ⊥
@@ -168,14 +156,12 @@ no_width spec front x first e minimum k rest h =
     ∙ number_at-bin 6 k rest h.few in
     cc
 
--- where increments are not read, none stand there
 none_numbers : (n k : ℕ) (front : List Bool) → numbers_at n k front ≡ None → (xs : List ℕ)
     → Increments n k front xs → ⊥
 none_numbers n k front e xs h =
     let some =
     sym e ∙ ap (numbers_at n k) h.spelt ∙ numbers_at_again k n xs h.rest h.many h.fit in cc
 
--- where texts are not read, none stand there
 none_texts : (n k : ℕ) (front : List Bool) → texts_at n k front ≡ None → (own : List (List ℕ))
     → Texts n k front own → ⊥
 none_texts n k front e own h =
@@ -183,9 +169,8 @@ none_texts n k front e own h =
     sym e ∙ (λ t. texts_at (sym h.many t) k (h.spelt t)) ∙ texts_again k own h.rest h.octets in
     cc
 
--- the fault behind minimum and width is the column's first
 values_refused : (n i : ℕ) (spec : Spec) (front : List Bool) (minimum : Raw) (k : ℕ)
-    (rest : List Bool) (fault : ReadFault) → Heads spec front minimum k rest
+    (rest : List Bool) (fault : DataFault) → Heads spec front minimum k rest
     → values_at n i spec minimum k rest ≡ Err fault → ColumnRefused n i spec front fault
 values_refused n i spec front minimum zero rest fault h e = absurd cc
 values_refused n i spec front (Number minimum) (suc k) rest fault h e =
@@ -220,8 +205,7 @@ values_refused n i spec front (Text ignored) (suc k) rest fault h e =
           ]
     ]
 
--- the fault of a column is its first
-column_refused : (n i : ℕ) (spec : Spec) (front : List Bool) (fault : ReadFault)
+column_refused : (n i : ℕ) (spec : Spec) (front : List Bool) (fault : DataFault)
     → column_at n i spec front ≡ Err fault → ColumnRefused n i spec front fault
 column_refused n i spec front fault e =
     elim (bind_err (or_ends i (raw_at spec front)) _ fault e) [
@@ -239,8 +223,7 @@ column_refused n i spec front fault e =
           ]
     ]
 
--- a column whose values must agree and do not is a factor's
-unequal_err : (i : ℕ) (spec : Spec) (x : List Raw × List Bool) (fault : ReadFault)
+unequal_err : (i : ℕ) (spec : Spec) (x : List Raw × List Bool) (fault : DataFault)
     → agreeing i spec x ≡ Err fault
     → (spec.kind ≡ kinds.Count) × (all_equal x.0 ≡ false) × (fault ≡ faults.UnequalCounts i)
 unequal_err i spec x fault e =
@@ -251,8 +234,7 @@ unequal_err i spec x fault e =
       | inr no_fault ↦ let bad = no_fault.1 in absurd cc
     ]
 
--- the fault of a column, its agreement included, is its first
-pub read_column_refused : (n i : ℕ) (spec : Spec) (front : List Bool) (fault : ReadFault)
+pub read_column_refused : (n i : ℕ) (spec : Spec) (front : List Bool) (fault : DataFault)
     → (column_at n i spec front >>= agreeing i spec) ≡ Err fault
     → ColumnRefused n i spec front fault
 read_column_refused n i spec front fault e =
@@ -265,14 +247,10 @@ read_column_refused n i spec front fault e =
           (λ v all. let yes = all_equal_again v x.0.0 all in let bad = sym yes ∙ is.1 in cc) is.2
     ]
 
--- ---- and a column that is refused is not read
-
--- an answer that is no value is none
 none_by : {A : Type 0} (o : Option A) → ((x : A) → o ≡ Some x → ⊥) → o ≡ None
 none_by None none = refl
 none_by (Some x) none = absurd (none x refl)
 
--- the step of `no_head_read`: the width is not there
 no_width_by : (n i : ℕ) (spec : Spec) (front : List Bool) (x : Raw × List Bool)
     (o : Option (ℕ × List Bool)) → raw_at spec front ≡ Some x → number_at 6 x.1 ≡ o
     → ((minimum : Raw) (k : ℕ) (rest : List Bool) → Heads spec front minimum k rest → ⊥)
@@ -281,7 +259,6 @@ no_width_by n i spec front x None first e none = rw (first, e) refl
 no_width_by n i spec front x (Some y) first e none =
     absurd (none x.0 y.0 y.1 (heads_found spec front x y first e))
 
--- the step of `no_head_read`: the minimum is not there
 no_head_by : (n i : ℕ) (spec : Spec) (front : List Bool) (o : Option (Raw × List Bool))
     → raw_at spec front ≡ o
     → ((minimum : Raw) (k : ℕ) (rest : List Bool) → Heads spec front minimum k rest → ⊥)
@@ -290,25 +267,21 @@ no_head_by n i spec front None e none = rw e refl
 no_head_by n i spec front (Some x) e none =
     no_width_by n i spec front x (number_at 6 x.1) e refl none
 
--- the step of `not_equal_values`
 equal_values_by : (values : List Raw) (b : Bool) → all_equal values ≡ b
     → ((v : Raw) → AllByRecursion (λ w. w ≡ v) values → ⊥) → b ≡ false
 equal_values_by values true e differ = let h = all_equal_is values e in absurd (differ h.0 h.1)
 equal_values_by values false e differ = refl
 
--- values that are not all one value differ
 not_equal_values : (values : List Raw) → ((v : Raw) → AllByRecursion (λ w. w ≡ v) values → ⊥)
     → all_equal values ≡ false
 not_equal_values values differ = equal_values_by values (all_equal values) refl differ
 
--- a column without minimum and width is refused where the data end
 no_head_read : (n i : ℕ) (spec : Spec) (front : List Bool)
     → ((minimum : Raw) (k : ℕ) (rest : List Bool) → Heads spec front minimum k rest → ⊥)
     → column_at n i spec front ≡ Err (faults.DataEnds 0 i)
 no_head_read n i spec front none = no_head_by n i spec front (raw_at spec front) refl none
 
--- the first fault of a column is answered
-pub column_refused_again : (n i : ℕ) (spec : Spec) (front : List Bool) (fault : ReadFault)
+pub column_refused_again : (n i : ℕ) (spec : Spec) (front : List Bool) (fault : DataFault)
     → ColumnRefused n i spec front fault
     → (column_at n i spec front >>= agreeing i spec) ≡ Err fault
 column_refused_again n i spec front fault (no_head none is) =
@@ -358,10 +331,7 @@ column_refused_again n i spec front fault
     rw (spelt, column_again n i spec values column rest many c, count, differ_is)
     (ap (λ f. Err f) (sym is))
 
--- ---- the first column that is refused
-
--- no column at all is the first one refused
-refused_here : (n i : ℕ) (c : Course) (front : List Bool) (fault : ReadFault)
+refused_here : (n i : ℕ) (c : Course) (front : List Bool) (fault : DataFault)
     → NoneByCourse n i c front fault → RefusedByCourse n i c front fault
 refused_here n i c front fault h =
     let same : i ≡ i + 0 = omega arith in
@@ -381,9 +351,8 @@ refused_here n i c front fault h =
       refused = subst (λ k. NoneByCourse n k c front fault) same h;
     }
 
--- the first one refused behind a column is the first of all
 refused_behind : (n i met d : ℕ) (spec : Spec) (more : ℕ → Course) (front : List Bool)
-    (x : List Raw × List Bool) (fault : ReadFault) → 0 < n → ColumnFound n spec front x
+    (x : List Raw × List Bool) (fault : DataFault) → 0 < n → ColumnFound n spec front x
     → (spec.kind ≡ kinds.Count → (v : Raw) × AllByRecursion (λ w. w ≡ v) x.0)
     → RefusedByCourse n (i + 1) (more (count_of x.0)) x.1 fault
     → RefusedByCourse n i (asks met d spec more) front fault
@@ -408,8 +377,7 @@ refused_behind n i met d spec more front x fault some found one r =
       refused = subst (λ k. NoneByCourse n k r.next r.rest fault) same r.refused;
     }
 
--- the fault of columns is that of the first that is refused
-pub columns_refused : (n i : ℕ) (c : Course) (front : List Bool) (fault : ReadFault) → 0 < n
+pub columns_refused : (n i : ℕ) (c : Course) (front : List Bool) (fault : DataFault) → 0 < n
     → columns_at n i c front ≡ Err fault → RefusedByCourse n i c front fault
 unfolding columns_at
 columns_refused n i (ends met) front fault some e = absurd cc
@@ -443,10 +411,7 @@ columns_refused n i (asks met d spec more) front fault some e =
           ]
     ]
 
--- ---- and only that
-
--- past the limit on values the fault is that one
-past_is : (n i : ℕ) (next : Course) (rest : List Bool) (fault : ReadFault) → most_values < i * n
+past_is : (n i : ℕ) (next : Course) (rest : List Bool) (fault : DataFault) → most_values < i * n
     → NoneByCourse n i next rest fault → fault ≡ faults.TooLarge
 past_is n i (ends met) rest fault past h = absurd h
 past_is n i (stops met why) rest fault past (inl h) = h.1
@@ -454,15 +419,13 @@ past_is n i (stops met why) rest fault past (inr h) = absurd (omega (arith, past
 past_is n i (asks met d spec more) rest fault past (inl h) = h.1
 past_is n i (asks met d spec more) rest fault past (inr h) = absurd (omega (arith, past, h.0))
 
--- more fields have more values
 grown : (i l n : ℕ) → most_values < i * n → most_values < (i + l) * n
 grown i l n past =
     let more : i ≤ i + l = omega arith in
     let le : i * n ≤ (i + l) * n = mul-le-mul_right n more in
     omega (arith, past, le)
 
--- where no column follows, its fault is answered
-here_again : (n i : ℕ) (next : Course) (front : List Bool) (fault : ReadFault)
+here_again : (n i : ℕ) (next : Course) (front : List Bool) (fault : DataFault)
     → NoneByCourse n i next front fault → columns_at n i next front ≡ Err fault
 unfolding columns_at
 here_again n i (ends met) front fault h = absurd h
@@ -473,9 +436,8 @@ here_again n i (asks met d spec more) front fault (inl h) =
 here_again n i (asks met d spec more) front fault (inr h) =
     rw (le-ltb _ _ h.0, column_refused_again n i spec front fault h.1) refl
 
--- behind a column that stands, the fault of the others is answered
 step_again : (n i met : ℕ) (x : Column) (more : ℕ → Course) (column others : List Bool)
-    (fault : ReadFault) → 0 < n → length x.values ≡ n → IsColumn x.spec x.values column
+    (fault : DataFault) → 0 < n → length x.values ≡ n → IsColumn x.spec x.values column
     → HaveOneCount x → (most_values < i * n → fault ≡ faults.TooLarge)
     → columns_at n (i + 1) (more (number_of (get_or x.values 0 (Number 0)))) others ≡ Err fault
     → columns_at n i (asks met x.fxy x.spec more) (column ++ others) ≡ Err fault
@@ -495,9 +457,8 @@ step_again n i met x more column others fault some many is one past after =
           ) refl
     ]
 
--- so it is behind all columns before it
 refused_again : (n i : ℕ) (c : Course) (before : List Column) (packed rest : List Bool)
-    (next : Course) (fault : ReadFault) → 0 < n → AreColumns n before packed
+    (next : Course) (fault : DataFault) → 0 < n → AreColumns n before packed
     → Passes c (map (field_of 0) before) next → NoneByCourse n (i + length before) next rest fault
     → columns_at n i c (packed ++ rest) ≡ Err fault
 refused_again n i c [] packed rest next fault some are passed h =
@@ -528,8 +489,7 @@ refused_again n i (asks met d spec more) (x ∷ before) packed rest next fault s
     (ap (λ xs. xs ++ rest) are.2 ∙ append_assoc are.0 are.1 rest)
     ∙ sym (ap (λ c. columns_at n i c (are.0 ++ (are.1 ++ rest))) course) ∙ step
 
--- the first column that is refused has its fault answered
-pub columns_refused_again : (n i : ℕ) (c : Course) (front : List Bool) (fault : ReadFault) → 0 < n
+pub columns_refused_again : (n i : ℕ) (c : Course) (front : List Bool) (fault : DataFault) → 0 < n
     → RefusedByCourse n i c front fault → columns_at n i c front ≡ Err fault
 columns_refused_again n i c front fault some r =
     ap (columns_at n i c) r.spelt

@@ -1,4 +1,4 @@
--- The subsets that an index of compressed data shows, by their numbers: for `SubsetIndex::subset`.
+-- The subsets of an index of compressed data, by number.
 use Rattle.std.proofs.Common.{◌≡◌, ℕ, zero, suc, ◌+◌, ◌<◌, List, length, Some, Result, Ok, Err, sym}
 use Rattle.std.proofs.Common.{ap, ◌∙◌, arith}
 use Rattle.std.specs.Prelude.{slice_get, IfOk}
@@ -10,7 +10,6 @@ use Rattle.bufr_data.specs.Compressed.Indexed.{Indexed}
 use Rattle.bufr_data.specs.Shown.{shown}
 use Rattle.bufr_data.proofs.CompressedFacts.Packed.{length-from}
 
--- the subset at an index of so many
 one_from : (k n i : ℕ) (columns : List Column) → i < n
     → slice_get (subsets_from k n columns) i ≡ Some (subset_of columns (k + i))
 one_from k zero i columns below = absurd (omega (arith, below))
@@ -20,13 +19,11 @@ one_from k (suc n) (suc i) columns below =
     let same : k + 1 + i ≡ k + suc i = omega arith in
     one_from (k + 1) n i columns (omega (arith, below)) ∙ ap (λ j. Some (subset_of columns j)) same
 
--- there are as many as the columns have values
 pub many_shown : (standing : DataIndex) (c : Indexed) (subsets : List Subset)
     → shown standing ≡ subsets → standing ≡ Compressed c → length subsets ≡ c.subsets
 many_shown standing c subsets view is =
     ap length (sym view ∙ ap shown is) ∙ length-from 0 c.subsets c.columns
 
--- the one of a number has the values at that index
 pub one_shown : {E : Type 0} (standing : DataIndex) (c : Indexed) (subsets : List Subset) (i : ℕ)
     (answer : Result Subset E) → shown standing ≡ subsets → standing ≡ Compressed c → i < c.subsets
     → IfOk answer (λ s. s ≡ subset_of c.columns i) → IfOk answer (λ s. slice_get subsets i ≡ Some s)

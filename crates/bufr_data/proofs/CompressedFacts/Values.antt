@@ -1,5 +1,4 @@
--- One value of a column behind its minimum and width: for the subset of an index
--- (`Columns::subset`).
+-- One value of a column after its minimum and width.
 use Rattle.std.proofs.Common.{◌≡◌, ℕ, zero, suc, ◌+◌, ◌-◌, ◌*◌, ◌/◌, ◌<◌, ◌≤◌, Bool, true, false}
 use Rattle.std.proofs.Common.{cond, List, ◌++◌, length, take, drop, replicate, get_or, Option, Some}
 use Rattle.std.proofs.Common.{None, refl, sym, ap, subst, ◌∙◌, arith}
@@ -12,7 +11,7 @@ use Rattle.bufr_bits.specs.BitLaws.{number_at-bin}
 use Rattle.bufr_bits.specs.NumberLaws.{numbers_at_found}
 use Rattle.bufr_tables.specs.declared.element.Kind.TheVariants as kinds
 use Rattle.bufr_tables.specs.Elements.{same_kind}
-use Rattle.bufr_answers.specs.AnswerLaws.{ok_value}
+use Rattle.bufr_base.specs.AnswerLaws.{ok_value}
 use Rattle.bufr_expand.specs.declared.operators.Spec.{Spec}
 use Rattle.bufr_fields.specs.declared.field.Raw.{Raw}
 use Rattle.bufr_fields.specs.declared.field.Raw.TheVariants.{Number, Text}
@@ -30,9 +29,6 @@ use Rattle.bufr_data.proofs.CompressedFacts.Walks.{column_form}
 use Rattle.bufr_data.proofs.ListFacts.{all_at}
 use Rattle.bufr_data.proofs.CompressedFacts.Passed.{octets_none, minimum_there, TextHead, text_raw, number_raw}
 
--- ---- texts
-
--- a column of texts without its minimum has no value
 pub text_without_minimum : (spec : Spec) (index : ℕ) (front : List Bool) (b : ℕ)
     → spec.kind ≡ kinds.Text → b ≡ spec.width / 8 * 8 → length front < b
     → None ≡ one_at spec index front
@@ -40,32 +36,27 @@ text_without_minimum spec index front b is size short =
     let less : length front < spec.width / 8 * 8 = omega (arith, size, short) in
     rw (text_raw spec front is, octets_none (spec.width / 8) front less) refl
 
--- nor has one without its width
 pub text_without_width : (spec : Spec) (index : ℕ) (front mid : List Bool) (b : ℕ)
     → spec.kind ≡ kinds.Text → b ≡ spec.width / 8 * 8 → b ≤ length front → mid ≡ drop b front
     → number_at 6 mid ≡ None → None ≡ one_at spec index front
 text_without_width spec index front mid b is size long left none =
     rw (minimum_there spec front mid b is size long left, none) refl
 
--- behind both the value is read at its place
 behind_width : (spec : Spec) (index : ℕ) (front : List Bool) (k : ℕ) (rest : List Bool)
     → (h : TextHead spec front k rest)
     → one_at spec index front ≡ one_behind spec (Text h.own) k index rest
 behind_width spec index front k rest h = rw (h.minimum, h.width) refl
 
--- texts of more octets than the field have none
 wide_behind : (spec : Spec) (own : List ℕ) (k index : ℕ) (rest : List Bool) → spec.width / 8 < k
     → one_behind spec (Text own) k index rest ≡ None
 wide_behind spec own zero index rest lt = absurd (omega (arith, lt))
 wide_behind spec own (suc k) index rest lt = rw (lt-ltb (spec.width / 8) (suc k) lt) refl
 
--- nor has a column of such texts
 pub text_too_wide : (spec : Spec) (index : ℕ) (front : List Bool) (k : ℕ) (rest : List Bool)
     → TextHead spec front k rest → spec.width / 8 < k → None ≡ one_at spec index front
 text_too_wide spec index front k rest h lt =
     sym (behind_width spec index front k rest h ∙ wide_behind spec h.own k index rest lt)
 
--- a text is there exactly where its octets are
 text_behind : (spec : Spec) (own : List ℕ) (k index : ℕ) (rest : List Bool) → (k ≡ 0 → ⊥)
     → k ≤ spec.width / 8
     → one_behind spec (Text own) k index rest
@@ -73,14 +64,12 @@ text_behind : (spec : Spec) (own : List ℕ) (k index : ℕ) (rest : List Bool) 
 text_behind spec own zero index rest some le = absurd (some refl)
 text_behind spec own (suc k) index rest some le = rw (le-ltb (spec.width / 8) (suc k) le) refl
 
--- past the end there is no text
 nothing_there : (k c : ℕ) (rest : List Bool) → (k ≡ 0 → ⊥) → length rest < c
     → octets_at k (drop c rest) ≡ None
 nothing_there k c rest some short =
     let less : length (drop c rest) < k * 8 =
     omega (arith, length-drop c rest, short, some) in octets_none k (drop c rest) less
 
--- so a text past the end has no value
 pub text_past : (spec : Spec) (index : ℕ) (front : List Bool) (k : ℕ) (rest : List Bool) (c : ℕ)
     → TextHead spec front k rest → (k ≡ 0 → ⊥) → k ≤ spec.width / 8 → c ≡ index * (k * 8)
     → length rest < c → None ≡ one_at spec index front
@@ -90,7 +79,6 @@ text_past spec index front k rest c h some le times short =
     (sym times)
     ∙ ap (option_map (λ x. filled (spec.width / 8) x.0)) (nothing_there k c rest some short))
 
--- a text that is there has its value
 pub text_there_is : (spec : Spec) (index : ℕ) (front : List Bool) (k : ℕ) (rest : List Bool) (c : ℕ)
     (last : List Bool) (o : Option (List ℕ × List Bool)) → TextHead spec front k rest
     → (k ≡ 0 → ⊥) → k ≤ spec.width / 8 → c ≡ index * (k * 8) → last ≡ drop c rest
@@ -103,12 +91,10 @@ text_there_is spec index front k rest c last o h some le times behind there =
     ∙ ap (λ xs. option_map (λ x. filled (spec.width / 8) x.0) (octets_at k xs)) (sym behind)
     ∙ ap (option_map (λ x. filled (spec.width / 8) x.0)) there)
 
--- a text that is read has its octets
 pub own_octets : (k : ℕ) (front : List Bool) (own : List ℕ) (rest : List Bool)
     → octets_at k front ≡ Some (own, rest) → length own ≡ k
 own_octets k front own rest e = (numbers_at_found k 8 front (own, rest) e).0
 
--- a text is filled as the code does
 pub filled_is : (octets : ℕ) (own : List ℕ) (filler : ℕ) (t : Bool)
     → list_all (λ x. x == 255) own ≡ t → filler ≡ cond t 255 32 → length own ≤ octets
     → ◌≡◌ {A = Raw} (Text (take octets own ++ replicate (octets - length own) filler))
@@ -129,14 +115,10 @@ filled_is octets own filler false ones is short =
     ∙ ap (λ f. own ++ replicate (octets - length own) f) is in
     rw ones (ap (λ xs. Text xs) joined)
 
--- ---- numbers
-
--- a field of 64 bits at most has a number where its bits are there
 pub narrow_number : (width : ℕ) (front : List Bool) (x : ℕ × List Bool) → width ≤ 64
     → number_at width front ≡ Some x → field_number_at width front ≡ Some x
 narrow_number width front x le e = rw (le-leb width 64 le) e
 
--- an increment past the end has no value
 pub number_past : (spec : Spec) (index : ℕ) (front mid rest : List Bool) (m k c : ℕ)
     → same_kind spec.kind kinds.Text ≡ false → field_number_at spec.width front ≡ Some (m, mid)
     → number_at 6 mid ≡ Some (k, rest) → (k ≡ 0 → ⊥) → c ≡ index * k → length rest < c
@@ -149,9 +131,6 @@ number_past spec index front mid rest m (suc k) c other first second some times 
     omega (arith, length-drop (index * suc k) rest, short, times) in
     rw (number_raw spec.kind spec.width front other, first, second, lt-ltb _ _ less) refl
 
--- ---- the value of an open place
-
--- the value at an index of a column
 value_at_column : (spec : Spec) (values : List Raw) (column rest : List Bool) (index : ℕ)
     → IsColumn spec values column → index < length values
     → one_at spec index (column ++ rest) ≡ Some (get_or values index (Number 0))
@@ -160,7 +139,6 @@ value_at_column spec values column rest index is inside =
     let first = head_read spec (column ++ rest) one.minimum one.k one.rest one.heads in
     rw (first, number_at-bin 6 one.k one.rest one.heads.few) one.value
 
--- the value at an index of a column at a place
 pub value_there : (octets : List ℕ) (n index : ℕ) (p : Place) → Opens octets n p → index < n
     → one_at p.spec index (drop p.bit (bits octets))
     ≡ Some (get_or (values_of (read_at octets n p)) index (Number 0))
@@ -172,7 +150,6 @@ value_there octets n index p opens inside =
     ∙ value_at_column p.spec x.0.0 found.0 x.0.1 index found.2 short
     ∙ ap (λ vs. Some (get_or vs index (Number 0))) (ap values_of (sym x.1))
 
--- a value at an open place has its spec's form
 pub form_there : (octets : List ℕ) (n index : ℕ) (p : Place) (v : Raw) → Opens octets n p
     → index < n → v ≡ get_or (values_of (read_at octets n p)) index (Number 0)
     → has_form_by p.spec.kind p.spec.width v ≡ true
@@ -187,6 +164,5 @@ form_there octets n index p v opens inside is =
     is ∙ ap (λ vs. get_or vs index (Number 0)) (ap values_of x.1) in
     form_passes p.spec v (subst (HasForm p.spec) (sym same) form)
 
--- the bits before a text, in either order of the factors
 pub behind_is : (a b index k : ℕ) → a ≡ index → b ≡ k → a * (8 * b) ≡ index * (k * 8)
 behind_is a b index k e f = rw (e, f) (omega arith)

@@ -1,5 +1,4 @@
--- Columns along a course: what is read is what stands, for each of the subsets. For the law on what
--- messages know of data (`data_hold_subsets`).
+-- Columns along a course: for every subset, what is read is what the bits hold.
 use Rattle.std.proofs.Common.{◌≡◌, ℕ, suc, ◌+◌, ◌-◌, ◌*◌, ◌/◌, ◌^◌, ◌<◌, ◌≤◌, Bool, true, false}
 use Rattle.std.proofs.Common.{cond, ltb, List, [], ◌∷◌, ◌++◌, length, map, replicate, get_or, Ok}
 use Rattle.std.proofs.Common.{Err, refl, sym, ap, subst, ◌∙◌, arith, append_assoc, length-append}
@@ -8,15 +7,15 @@ use Rattle.std.specs.List.{AllByRecursion, list_all}
 use Rattle.std.proofs.lemmas.Bool.{and_parts, le-ltb, ltb-false, eqb-true, eq-eqb}
 use Rattle.std.proofs.lemmas.List.{length-replicate}
 use Rattle.std.proofs.lemmas.Slice.Eq.{bytes_eq-Decides}
-use Rattle.bufr_answers.specs.Answers.{◌>>=◌}
+use Rattle.bufr_base.specs.Answers.{◌>>=◌}
 use Rattle.bufr_tables.specs.declared.element.Kind.TheVariants as kinds
 use Rattle.bufr_tables.specs.Elements.{same_kind}
-use Rattle.bufr_answers.specs.AnswerLaws.{bind_ok, guard_ok as guarded, ok_is, not_false}
+use Rattle.bufr_base.specs.AnswerLaws.{bind_ok, guard_ok as guarded, ok_is, not_false}
 use Rattle.bufr_expand.specs.declared.operators.Spec.{Spec}
 use Rattle.bufr_expand.specs.Courses.{Course, ends, stops, asks}
 use Rattle.bufr_fields.specs.declared.field.Raw.{Raw}
 use Rattle.bufr_fields.specs.declared.field.Raw.TheVariants.{Number, Text}
-use Rattle.bufr_fields.specs.declared.fault.ReadFault.TheVariants as faults
+use Rattle.bufr_fields.specs.declared.fault.DataFault.TheVariants as faults
 use Rattle.bufr_fields.specs.Forms.{number_of, matches_spec, items_of}
 use Rattle.bufr_fields.specs.Fits.{HasForm, of_text, of_number}
 use Rattle.bufr_expand.specs.Steady.{IsSteady}
@@ -35,29 +34,23 @@ use Rattle.bufr_data.proofs.ListFacts.{all_at, all_joined, all_replicated}
 use Rattle.bufr_fields.specs.Limits.{most_values}
 use Rattle.bufr_fields.specs.FormLaws.{asked_is, asked_passes, same_kind_is}
 
--- ---- the values of a column have its form
-
--- each value has its spec's form
+-- every value fits its spec
 abbrev pub AllForm : Spec → List Raw → Type 0
 AllForm spec values = AllByRecursion (λ v. HasForm spec v) values
 
--- equal values have the form of the minimum
 equal_form : (spec : Spec) (minimum : Raw) (vs : List Raw) → HasForm spec minimum
     → AllByRecursion (λ v. v ≡ minimum) vs → AllForm spec vs
 equal_form spec minimum [] form all = tt
 equal_form spec minimum (v ∷ vs) form all =
     (subst (λ w. HasForm spec w) (sym all.0) form, equal_form spec minimum vs form all.1)
 
--- a number has no text's spec, and 64 bits at most
 number_kind : (spec : Spec) (n : ℕ) → HasForm spec (Number n)
     → (spec.kind ≡ kinds.Text → ⊥) × (spec.width ≤ 64)
 number_kind spec n (of_number m other few below) = (other, few)
 
--- a text has a text's spec
 pub text_kind : (spec : Spec) (os : List ℕ) → HasForm spec (Text os) → spec.kind ≡ kinds.Text
 text_kind spec os (of_text bs is size all) = is
 
--- the value of an increment has its spec's form
 increment_form : (spec : Spec) (minimum k x : ℕ) (v : Raw) → (spec.kind ≡ kinds.Text → ⊥)
     → spec.width ≤ 64 → HasIncrement spec.width minimum k x v → HasForm spec v
 increment_form spec minimum k x v other few (above below room is) =
@@ -66,7 +59,6 @@ increment_form spec minimum k x v other few (missing ones is) =
     subst (λ w. HasForm spec w) (sym is) (of_number (2 ^ spec.width - 1) other few
     (omega (arith, pow_pos spec.width)))
 
--- a text in a column has its spec's form
 text_form : (spec : Spec) (k : ℕ) (own : List ℕ) (v : Raw) → spec.kind ≡ kinds.Text
     → k ≤ spec.width / 8 → HasText (spec.width / 8) k own v → HasForm spec v
 text_form spec k own v is short (is_filled size all other value) =
@@ -83,7 +75,6 @@ text_form spec k own v is short (ones_text ones value) =
     (length-replicate _ _)
     (all_replicated (λ x. x < 256) (spec.width / 8) 255 (omega arith)))
 
--- the values of a column have its spec's form
 pub column_form : (spec : Spec) (values : List Raw) (column : List Bool)
     → IsColumn spec values column → AllForm spec values
 column_form spec values column (equal minimum form same is) =
@@ -96,21 +87,16 @@ column_form spec values column (text_column ignored k own form some few short ea
     pairwise_other (HasText (spec.width / 8) k) (HasForm spec)
     (λ x v. text_form spec k x v (text_kind spec ignored form) short) own values each
 
--- ---- equal values
-
--- raw values that are told the same are one
 same_raw_is : (a b : Raw) → same_raw a b ≡ true → a ≡ b
 same_raw_is (Number a) (Number b) e = ap (λ n. Number n) (eqb-true a b e)
 same_raw_is (Text a) (Text b) e = ap (λ os. Text os) ((bytes_eq-Decides a b).0 e)
 same_raw_is (Number a) (Text b) e = absurd cc
 same_raw_is (Text a) (Number b) e = absurd cc
 
--- a raw value is told the same as itself
 same_raw_again : (a : Raw) → same_raw a a ≡ true
 same_raw_again (Number a) = eq-eqb a a refl
 same_raw_again (Text a) = (bytes_eq-Decides a a).1 refl
 
--- values that are all told the same as one are this one
 pub are_equal : (v : Raw) (vs : List Raw) → list_all (λ w. same_raw w v) vs ≡ true
     → AllByRecursion (λ w. w ≡ v) vs
 are_equal v [] e = tt
@@ -118,7 +104,6 @@ are_equal v (w ∷ vs) e =
     let p = and_parts (same_raw w v) (list_all (λ u. same_raw u v) vs) e in
     (same_raw_is w v p.0, are_equal v vs p.1)
 
--- and the other way round
 are_equal_again : (u v : Raw) (vs : List Raw) → v ≡ u → AllByRecursion (λ w. w ≡ u) vs
     → list_all (λ w. same_raw w v) vs ≡ true
 are_equal_again u v [] is all = refl
@@ -126,21 +111,16 @@ are_equal_again u v (w ∷ vs) is all =
     let same : same_raw w v ≡ true = ap (λ x. same_raw x v) (all.0 ∙ sym is) ∙ same_raw_again v in
     rw (same, are_equal_again u v vs is all.1) refl
 
--- values that are told equal are all one value
 pub all_equal_is : (vs : List Raw) → all_equal vs ≡ true
     → (v : Raw) × AllByRecursion (λ w. w ≡ v) vs
 all_equal_is [] e = (Number 0, tt)
 all_equal_is (v ∷ vs) e = (v, (refl, are_equal v vs e))
 
--- and values that are all one are told equal
 pub all_equal_again : (v : Raw) (vs : List Raw) → AllByRecursion (λ w. w ≡ v) vs
     → all_equal vs ≡ true
 all_equal_again v [] all = refl
 all_equal_again v (w ∷ vs) all = are_equal_again v w vs all.0 all.1
 
--- ---- factors
-
--- the step of `agreeing_again`, by whether it is a factor's
 agreeing_again_by : (i : ℕ) (spec : Spec) (x : List Raw × List Bool) (b : Bool)
     → same_kind spec.kind kinds.Count ≡ b
     → (spec.kind ≡ kinds.Count → (v : Raw) × AllByRecursion (λ w. w ≡ v) x.0)
@@ -149,27 +129,23 @@ agreeing_again_by i spec x false e one = refl
 agreeing_again_by i spec x true e one =
     let h = one (same_kind_is spec.kind kinds.Count e) in rw (all_equal_again h.0 x.0 h.1) refl
 
--- values agree where those of a factor are all one
 pub agreeing_again : (i : ℕ) (spec : Spec) (x : List Raw × List Bool)
     → (spec.kind ≡ kinds.Count → (v : Raw) × AllByRecursion (λ w. w ≡ v) x.0)
     → agreeing i spec x ≡ Ok x
 agreeing_again i spec x one = agreeing_again_by i spec x _ refl one
 
--- the step of `agreed`, by whether it is a factor's
 agreed_by : (spec : Spec) (x : List Raw × List Bool) (b : Bool)
     → same_kind spec.kind kinds.Count ≡ b → (b && not (all_equal x.0)) ≡ false
     → spec.kind ≡ kinds.Count → all_equal x.0 ≡ true
 agreed_by spec x false e agree is = absurd (kinds_differ spec.kind kinds.Count e is)
 agreed_by spec x true e agree is = not_false (all_equal x.0) agree
 
--- values that agree are those that were read, and a factor's are equal
 agreed : (i : ℕ) (spec : Spec) (x y : List Raw × List Bool) → agreeing i spec x ≡ Ok y
     → (x ≡ y) × (spec.kind ≡ kinds.Count → all_equal x.0 ≡ true)
 agreed i spec x y e =
     let g = guarded (same_kind spec.kind kinds.Count && not (all_equal x.0)) _ _ y e in
     (ok_is x y g.1, agreed_by spec x _ refl g.0)
 
--- a column whose values agree is read and stands there, and a factor's values are equal
 pub agreed_found : (n i : ℕ) (spec : Spec) (front : List Bool) (y : List Raw × List Bool)
     → (column_at n i spec front >>= agreeing i spec) ≡ Ok y
     → (column_at n i spec front ≡ Ok y) × ColumnFound n spec front y
@@ -183,20 +159,15 @@ agreed_found n i spec front y e =
       λ is. ap (λ (x : List Raw × List Bool). all_equal x.0) (sym same.0) ∙ same.1 is,
     )
 
--- the number of a factor is its first value's
 pub count_is : (values : List Raw) → 0 < length values
     → count_of values ≡ number_of (get_or values 0 (Number 0))
 count_is [] some = absurd (omega (arith, some))
 count_is (v ∷ vs) some = refl
 
--- ---- what stands is read
-
--- within the limit on values there is room for one field after the other
 limit_step : (i l n : ℕ) → (i + suc l) * n ≤ most_values + n
     → (i * n ≤ most_values) × ((i + 1 + l) * n ≤ most_values + n)
 limit_step i l n h = (omega (arith, h), omega (arith, h))
 
--- a column that stands is read, and then the others
 column_step : (n i met : ℕ) (x : Column) (cs : List Column) (more : ℕ → Course)
     (column others rest : List Bool) (items : ℕ) → 0 < n → length x.values ≡ n
     → IsColumn x.spec x.values column → HaveOneCount x → i * n ≤ most_values
@@ -218,7 +189,6 @@ column_step n i met x cs more column others rest items some many is one room aft
       after,
     ) refl
 
--- columns that stand along a course are read
 pub columns_again : (n i j : ℕ) (c : Course) (cs : List Column) (items : ℕ) (front rest : List Bool)
     → 0 < n → AreColumns n cs front → items_of j i c (map (field_of 0) cs) ≡ Ok items
     → (i + length cs) * n ≤ most_values + n
@@ -245,9 +215,7 @@ columns_again n i j (asks met d spec more) (x ∷ cs) items front rest some are 
     ap (λ xs. columns_at n i (asks met d spec more) (xs ++ rest)) are.2
     ∙ sym (ap (λ c. columns_at n i c ((are.0 ++ are.1) ++ rest)) course) ∙ step
 
--- ---- what is read stands
-
--- columns that were read along a course: each subset has the fields that it asks for
+-- columns read along a course: each subset has the fields that it asks for
 pub record WalkFound (n i : ℕ) (c : Course) (front : List Bool) (f : ColumnsFound) : Type 0 where
   pub packed : List Bool
   pub columns : AreColumns n f.columns packed
@@ -255,7 +223,6 @@ pub record WalkFound (n i : ℕ) (c : Course) (front : List Bool) (f : ColumnsFo
   pub asked : (j k : ℕ) → k < n → items_of j i c (map (field_of k) f.columns) ≡ Ok f.items
   pub room : (i + length f.columns) * n ≤ most_values + n
 
--- the course after a factor, or after another field, is that of each subset
 same_course : (spec : Spec) (more : ℕ → Course) (values : List Raw) (k : ℕ) (b : Bool)
     → same_kind spec.kind kinds.Count ≡ b
     → (same_kind spec.kind kinds.Count ≡ false → (n : ℕ) → more n ≡ more 0)
@@ -271,7 +238,6 @@ same_course spec more values k true e steady agree short =
     all_at (λ w. w ≡ all.0) values 0 (Number 0) all.1 (omega (arith, short)) in
     ap more (count_is values (omega (arith, short)) ∙ ap number_of (first ∙ sym here))
 
--- the column that was read and those after it
 column_joined : (n i met d : ℕ) (spec : Spec) (more : ℕ → Course) (front : List Bool)
     (x : List Raw × List Bool) (f : ColumnsFound) → i * n ≤ most_values
     → (same_kind spec.kind kinds.Count ≡ false → (n : ℕ) → more n ≡ more 0)
@@ -307,7 +273,6 @@ column_joined n i met d spec more front x f room steady found agree after =
       room = omega (arith, after.room);
     }
 
--- columns that are read stand along the course, one field of each for every subset
 pub columns_found : (n i used : ℕ) (c : Course) (front : List Bool) (f : ColumnsFound)
     → IsSteady used c → i * n ≤ most_values + n → columns_at n i c front ≡ Ok f
     → WalkFound n i c front f

@@ -1,5 +1,4 @@
--- Which compressed subsets a writer can write: for the law on what messages know of data
--- (`data_hold_subsets`).
+-- The compressed subsets that can be written.
 use Rattle.std.proofs.Common.{◌≡◌, ℕ, suc, ◌*◌, ◌≤◌, Bool, true, List, [], ◌∷◌, length, map, refl}
 use Rattle.std.proofs.Common.{sym, ap, subst, ◌∙◌, inl, inr}
 use Rattle.std.specs.List.{AllByRecursion}
@@ -20,7 +19,6 @@ use Rattle.bufr_data.proofs.KindFacts.{kinds_differ}
 use Rattle.bufr_data.proofs.CompressedFacts.Packed.{cons_head}
 use Rattle.bufr_fields.specs.Limits.{most_values}
 
--- columns of the same subsets are as many
 as_many : (s : Subset) (subsets : List Subset) (n m : ℕ) (a b : List Column)
     → s ∷ subsets ≡ subsets_from 0 (suc n) a → s ∷ subsets ≡ subsets_from 0 (suc m) b
     → length a ≡ length b
@@ -30,7 +28,6 @@ as_many s subsets n m a b e f =
     sym (length-map a (field_of 0)) ∙ ap (λ (fs : List Field). length fs) fields
     ∙ length-map b (field_of 0)
 
--- `PackedDataCanBeBare`
 pub packed_can_be_bare : (tree : Tree) (subsets : List Subset) (columns : List Column)
     (data_bits : List Bool) → PackedDataCanBeBare tree subsets columns data_bits
 packed_can_be_bare tree [] columns data_bits h can = ([], (h.0, [], refl, refl))
@@ -41,7 +38,6 @@ packed_can_be_bare tree (s ∷ subsets) columns data_bits h can =
     subst (λ k. k * length (s ∷ subsets) ≤ most_values) many h.1.2 in
     (best_bits columns, (h.0, columns, (can.0, room, can.1), refl))
 
--- a column of a narrow field can be written
 narrow_column : (c : Column) → HaveOneCount c → widest c.spec ≤ 63
     → can_be_column c.spec c.values ≡ true
 narrow_column c one short =
@@ -53,7 +49,6 @@ narrow_column c one short =
           can_passes c.spec c.values (narrow (kinds_differ c.spec.kind kinds.Count other) short)
     ]
 
--- so can all columns of narrow fields
 narrow_columns : (n : ℕ) (columns : List Column) (front : List Bool) → AreColumns n columns front
     → AllByRecursion (λ f. widest f.spec ≤ 63) (map (field_of 0) columns)
     → AllByRecursion (CanBeWritten n) columns
@@ -61,7 +56,6 @@ narrow_columns n [] front are short = tt
 narrow_columns n (c ∷ cs) front are short =
     ((are.3, narrow_column c are.5 short.0), narrow_columns n cs are.1 are.6 short.1)
 
--- `NarrowDataCanBePacked`
 pub narrow_can_be_packed : (tree : Tree) (subsets : List Subset) (data_bits : List Bool)
     → NarrowDataCanBePacked tree subsets data_bits
 narrow_can_be_packed tree [] data_bits h short = ([], (refl, tt))

@@ -1,12 +1,11 @@
--- Which subsets are written compressed, and that their columns are the best: for the law on what
--- messages know of data (`data_hold_subsets`).
+-- The subsets that are written compressed have the best columns.
 use Rattle.std.proofs.Common.{◌≡◌, ℕ, zero, suc, ◌+◌, ◌*◌, Bool, true, List, [], ◌∷◌, length, map}
 use Rattle.std.proofs.Common.{drop, get_or, Ok, refl, sym, ap, subst, ◌∙◌, arith}
 use Rattle.std.specs.Prelude.{nat_lt}
 use Rattle.std.specs.List.{AllByRecursion, list_all}
 use Rattle.std.proofs.lemmas.Bool.{and_from, le-ltb, ltb-false, eq-eqb}
 use Rattle.std.proofs.lemmas.List.{at_drop_more, drop_all, length-map}
-use Rattle.bufr_answers.specs.AnswerLaws.{bind_ok, guard_ok, ok_is}
+use Rattle.bufr_base.specs.AnswerLaws.{bind_ok, guard_ok, ok_is}
 use Rattle.bufr_expand.specs.Trees.{Tree}
 use Rattle.bufr_fields.specs.declared.field.Raw.{Raw}
 use Rattle.bufr_fields.specs.declared.field.Raw.TheVariants.{Number}
@@ -25,18 +24,14 @@ use Rattle.bufr_fields.specs.Limits.{most_values}
 use Rattle.bufr_fields.specs.FormLaws.{spec_is_same}
 use Rattle.bufr_fields.specs.CourseLaws.{AreUnrolled, AreAllowed}
 
--- ---- subsets of columns have these columns
-
--- the fields of so many subsets from an index on
+-- the fields of m subsets from index k on
 abbrev fields_from : ℕ → ℕ → List Column → List (List Field)
 fields_from k m columns = map (λ (t : Subset). t.fields) (subsets_from k m columns)
 
--- without columns each subset has ended
 all_empty : (k m : ℕ) → list_all is_empty (fields_from k m []) ≡ true
 all_empty k zero = refl
 all_empty k (suc m) = all_empty (k + 1) m
 
--- each subset begins like the first
 all_like : (k m : ℕ) (f : Field) (c : Column) (cs : List Column) → f.fxy ≡ c.fxy → f.spec ≡ c.spec
     → list_all (begins_like f) (fields_from k m (c ∷ cs)) ≡ true
 all_like k zero f c cs d s = refl
@@ -45,13 +40,11 @@ all_like k (suc m) f c cs d s =
     ap (λ t. same_spec c.spec t) s ∙ spec_is_same c.spec in
     rw (eq-eqb f.fxy c.fxy d, same, all_like (k + 1) m f c cs d s) refl
 
--- behind a column stand the fields of the others
 all_behind : (k m : ℕ) (c : Column) (cs : List Column)
     → map (drop 1) (fields_from k m (c ∷ cs)) ≡ fields_from k m cs
 all_behind k zero c cs = refl
 all_behind k (suc m) c cs = ap (λ rows. map (field_of k) cs ∷ rows) (all_behind (k + 1) m c cs)
 
--- the first values of subsets are those of the column
 values_behind : (k m : ℕ) (c : Column) (cs : List Column) → length c.values ≡ k + m
     → map first_raw (fields_from k m (c ∷ cs)) ≡ drop k c.values
 values_behind k zero c cs size = sym (drop_all k c.values (omega (arith, size)))
@@ -60,7 +53,6 @@ values_behind k (suc m) c cs size =
     (omega (arith, size))) ∙ sym (at_drop_more (λ (vs : List Raw). vs) c.values k (Number 0)
     (omega (arith, size)))
 
--- columns each of which can be written are the columns of their subsets
 pub columns_written : (i m : ℕ) (columns : List Column)
     → AllByRecursion (CanBeWritten (suc m)) columns
     → columns_of i (map (field_of 0) columns) (fields_from 1 m columns) ≡ Ok columns
@@ -78,7 +70,6 @@ columns_written i m (c ∷ cs) all =
     ∙ columns_written (i + 1) m cs all.1)
     ∙ (λ t. Ok (record { fxy = c.fxy; spec = c.spec; values = here t } ∷ cs))
 
--- subsets that fit one by one are counted one by one
 pub each_counted : AreAllowed → (tree : Tree) (j : ℕ) (subsets : List Subset)
     → AllByRecursion (FitsAlone tree) subsets → each_fits tree j subsets ≡ Ok tt
 each_counted law tree j [] fit = refl
@@ -86,7 +77,6 @@ each_counted law tree j (s ∷ subsets) fit =
     rw (fitting_counted law tree j 0 fit.0.0 s.fields fit.0.1)
     (each_counted law tree (j + 1) subsets fit.1)
 
--- so the best columns are what is written
 pub fitting_columns_written : AreAllowed
     → (tree : Tree) (subsets : List Subset) (columns : List Column)
     → AllByRecursion (FitsAlone tree) subsets → AreBestColumns subsets columns
@@ -102,9 +92,6 @@ fitting_columns_written law tree (s ∷ subsets) columns fit are =
       le-ltb most_values (length columns * length (s ∷ subsets)) are.1,
     ) refl
 
--- ---- what is written are the best columns
-
--- columns of places can each be written
 all_can : (i : ℕ) (fs : List Field) (others : List (List Field)) (columns : List Column)
     → columns_of i fs others ≡ Ok columns
     → AllByRecursion (CanBeWritten (1 + length others)) columns
@@ -123,7 +110,6 @@ all_can i (f ∷ fs) others columns e =
     subst (λ cs. AllByRecursion (CanBeWritten (1 + length others)) cs) (sym h.is)
     ((size, h.can), after)
 
--- so can those of the places of subsets
 pub subsets_can : (s : Subset) (subsets : List Subset) (columns : List Column)
     → columns_of 1 s.fields (map (λ (t : Subset). t.fields) subsets) ≡ Ok columns
     → AllByRecursion (CanBeWritten (length (s ∷ subsets))) columns
@@ -133,7 +119,6 @@ subsets_can s subsets columns e =
     omega (arith, length-map subsets (λ (t : Subset). t.fields)) in
     subst (λ l. AllByRecursion (CanBeWritten l) columns) size (all_can 1 s.fields others columns e)
 
--- columns that are packed are the best
 best_pack : (s : Subset) (subsets : List Subset) (columns : List Column) (content : List Bool)
     → columns_of 1 s.fields (map (λ (t : Subset). t.fields) subsets) ≡ Ok columns
     → packed (length (s ∷ subsets)) columns ≡ Ok content
@@ -144,7 +129,6 @@ best_pack s subsets columns content e p =
       sym (ok_is _ _ g.1),
     )
 
--- what is written compressed are the best columns of subsets that fit
 pub written_best : AreUnrolled → (tree : Tree) (subsets : List Subset) (content : List Bool)
     → written_bits tree true subsets ≡ Ok content
     → AllByRecursion (FitsAlone tree) subsets × (columns : List Column)

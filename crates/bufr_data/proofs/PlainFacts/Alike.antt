@@ -1,5 +1,4 @@
--- Plain subsets that are alike, and turns of a replication that are, are passed by their bits alone
--- (`SubsetIndex::index`).
+-- Subsets of one size, and turns of a replication, are skipped by their bits.
 use Rattle.std.proofs.Common.{◌≡◌, ℕ, ◌+◌, ◌*◌, ◌/◌, ◌≤◌, Bool, false, List, [], ◌∷◌, ◌++◌, length}
 use Rattle.std.proofs.Common.{drop, Result, Ok, Err, refl, sym, ap, subst, ◌∙◌, inl, inr, arith}
 use Rattle.std.proofs.lemmas.Bool.{cases_Bool}
@@ -20,7 +19,7 @@ use Rattle.bufr_expand.specs.Walks.{left, items_met, Goes}
 use Rattle.bufr_data.specs.declared.plain.alike.Alike.{Alike}
 use Rattle.bufr_fields.specs.declared.field.Field.{Field}
 use Rattle.bufr_data.specs.Plain.Alike.{TakesBits, TakeAll, IsAlike}
-use Rattle.bufr_fields.specs.declared.fault.ReadFault.{ReadFault}
+use Rattle.bufr_fields.specs.declared.fault.DataFault.{DataFault}
 use Rattle.bufr_fields.specs.FormLaws.{same_kind_is}
 use Rattle.bufr_fields.specs.Steady.{IsReady, WalkAdvances}
 use Rattle.bufr_data.specs.Plain.{SubsetRead, fields_at}
@@ -32,9 +31,6 @@ use Rattle.bufr_data.proofs.PlainFacts.Passed.{text_passes, text_ends, number_pa
 use Rattle.bufr_data.proofs.PlainFacts.Reads.{asked_field, found_is, behind_none}
 use Rattle.bufr_data.proofs.KindFacts.{kinds_differ}
 
--- ---- the bits of one field
-
--- a text takes the bits of its octets
 pub text_takes : (spec : Spec) (b w : ℕ) → spec.kind ≡ kinds.Text → b ≡ 8 * w → w ≡ spec.width / 8
     → TakesBits spec b
 text_takes spec b w is times eighth = record {
@@ -42,7 +38,6 @@ text_takes spec b w is times eighth = record {
   short = λ i front short. text_ends i spec front b w is times eighth short;
 }
 
--- a number of 64 bits at most takes its width
 pub number_takes : (spec : Spec) (b : ℕ) → (spec.kind ≡ kinds.Text → ⊥) → spec.width ≤ 64
     → b ≡ spec.width → TakesBits spec b
 number_takes spec b other few size = record {
@@ -50,37 +45,31 @@ number_takes spec b other few size = record {
   short = λ i front short. number_ends i spec front b other few size short;
 }
 
--- ---- the fields that a walk meets
-
--- a field of which only the descriptor and the spec are known
+-- a field with an unknown number
 abbrev pub untold : ℕ → Spec → Told
 untold d spec = record { fxy = d; spec = spec; number = 0 }
 
--- a field for which a course asks
 one_asked : (met d : ℕ) (spec : Spec) (more : ℕ → Course)
     → After (asks met d spec more) (untold d spec ∷ []) (more 0)
 unfolding After
 one_asked met d spec more = (refl, refl, refl)
 
--- the bits of fields behind fields
 take_joined : (xs ys : List Told) (a b c : ℕ) → c ≡ a + b → TakeAll xs a → TakeAll ys b
     → TakeAll (xs ++ ys) c
 take_joined [] ys a b c sum h g = let same : b ≡ c = omega (arith, sum, h) in subst (TakeAll ys) same g
 take_joined (x ∷ xs) ys a b c sum h g =
     (h.0, h.1 + b, h.2, h.3, take_joined xs ys h.1 b (h.1 + b) refl h.4 g, omega (arith, sum, h.5))
 
--- the fields so far take so many bits, and the walk is behind them
+-- the fields before the walk's place take these bits
 pub record Measured (c : Course) (bits : ℕ) (later : Course) : Type 0 where
   pub fields : List Told
   pub behind : After c fields later
   pub taken : TakeAll fields bits
 
--- at first there is none
 pub none_measured : (c later : Course) → later ≡ c → Measured c 0 later
 unfolding After
 none_measured c later is = record { fields = []; behind = sym is; taken = refl }
 
--- fields more
 more_measured : (c d e : Course) (bits own grown : ℕ) → grown ≡ bits + own → Measured c bits d
     → Measured d own e → Measured c grown e
 more_measured c d e bits own grown sum m n = record {
@@ -89,7 +78,6 @@ more_measured c d e bits own grown sum m n = record {
   taken = take_joined m.fields n.fields bits own grown sum m.taken n.taken;
 }
 
--- one field more
 pub one_measured : (c : Course) (old new : Walk) (bits grown own d : ℕ) (spec : Spec)
     → grown ≡ bits + own → Goes (left old) (Ok (steps.Field d spec)) new → TakesBits spec own
     → Measured c bits (left old) → Measured c grown (left new)
@@ -104,15 +92,11 @@ one_measured c old new bits grown own d spec sum goes takes m =
       taken = (own, 0, a.kind, takes, refl, omega arith);
     })
 
--- ---- bits that hold a subset
-
--- one field more in front of others
-in_front_of : (field : Field) (fields : List Field) (o : Result SubsetRead ReadFault)
+in_front_of : (field : Field) (fields : List Field) (o : Result SubsetRead DataFault)
     → behind_fields (field ∷ []) (behind_fields fields o) ≡ behind_fields (field ∷ fields) o
 in_front_of field fields (Ok found) = refl
 in_front_of field fields (Err e) = refl
 
--- the fields for which a steady course asks, none a count, are passed where their bits are there
 asked_pass : (used i : ℕ) (c later : Course) (fields : List Told) (bits : ℕ) (front : List Bool)
     → IsSteady used c → After c fields later → TakeAll fields bits → bits ≤ length front
     → (read : List Field) × (fields_at 1 i c front
@@ -157,7 +141,6 @@ asked_pass used i (asks m d spec more) later (f ∷ fields) bits front steady as
           (fields_at 1 (i + length (f ∷ fields)) later xs)) rest,
     )
 
--- those up to the end of the course too
 fields_pass : (used met i : ℕ) (c : Course) (fields : List Told) (bits : ℕ) (front : List Bool)
     → IsSteady used c → Allows c fields met → TakeAll fields bits → bits ≤ length front
     → PassesSubset (fields_at 1 i c front) met (drop bits front)
@@ -166,9 +149,6 @@ fields_pass used met i c fields bits front steady allowed taken enough =
     let p = asked_pass used i c (ends met) fields bits front steady allowed taken enough in
     (p.0 ++ [], p.1)
 
--- ---- turns that are passed at once
-
--- a field that has its width in bits takes just these
 width_takes : (spec : Spec) → HasWidth spec → TakesBits spec spec.width
 width_takes spec has =
     elim (cases_Bool (same_kind spec.kind kinds.Text)) [
@@ -183,14 +163,12 @@ width_takes spec has =
           number_takes spec spec.width other few refl
     ]
 
--- so fields whose widths add up take these bits
 widths_take : (fields : List Told) (bits : ℕ) → AddUp fields bits → TakeAll fields bits
 unfolding AddUp
 widths_take [] bits h = h
 widths_take (f ∷ fields) bits h =
     (f.spec.width, h.0, h.1.no_count, width_takes f.spec h.1, widths_take fields h.0 h.2, h.3)
 
--- the fields of turns that a walk has passed at once, behind those before
 pub turns_measured : (c : Course) (old new : Walk) (run : Run) (bits grown : ℕ)
     → grown ≡ bits + run.bits → PassesRun old run new → Measured c bits (left old)
     → Measured c grown (left new)
@@ -201,7 +179,6 @@ turns_measured c old new run bits grown sum passed m =
       taken = widths_take _ _ passed.leads.bits_are;
     })
 
--- turns that a walk has passed at once are passed in bits that hold them
 pub turns_pass : (old new : Walk) (run : Run) (front rest : List Bool) → IsReady old
     → PassesRun old run new → run.bits ≤ length front → rest ≡ drop run.bits front
     → PassesFields run.fields (left old) front (left new) rest
@@ -216,7 +193,6 @@ turns_pass old new run front rest ready passed enough behind i =
           ∙ ap (λ xs. behind_fields p.0 (fields_at 1 (i + run.fields) (left new) xs)) (sym behind),
     )
 
--- and the walk has met an item more at least, and can go on
 pub turns_advance : (old new : Walk) (run : Run) → PassesRun old run new → WalkAdvances old new
 turns_advance old new run passed = record {
   ready = record { answered = passed.answered; steady = passed.steady };
@@ -224,8 +200,6 @@ turns_advance old new run passed = record {
   within = passed.within;
 }
 
--- a subset of a tree all of whose subsets are alike is passed where its bits are there and its
--- items have room, by the laws of unrollings
 pub alike_passes : (tree : Tree) (alike : Alike) (used : ℕ) (front rest : List Bool)
     → ((tree : Tree) (used : ℕ) (fields : List Told) (met : ℕ)
     → used ≤ most_items → Allows (course tree used) fields met → Unrolls tree used fields met)

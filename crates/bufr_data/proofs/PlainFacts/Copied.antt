@@ -1,5 +1,4 @@
--- Bits that are copied: for `copy_bits`, `copy_fields` and `SubsetIndex::put`; and bits whose octets
--- are lent: for `lent_octets`.
+-- Bits that are copied or lent.
 use Rattle.std.proofs.Common.{◌≡◌, ℕ, zero, suc, ◌+◌, ◌-◌, ◌*◌, ◌/◌, ◌%◌, ◌^◌, ◌<◌, ◌≤◌, Bool}
 use Rattle.std.proofs.Common.{false, List, [], ◌∷◌, ◌++◌, length, take, replicate, subst}
 use Rattle.std.proofs.Common.{drop, Some, Result, Ok, Err, refl, sym, ap, ◌∙◌, arith}
@@ -16,7 +15,7 @@ use Rattle.bufr_bits.specs.Ends.{BitPlace, left}
 use Rattle.bufr_bits.specs.OctetLaws.{length-bits, bits-append}
 use Rattle.bufr_data.specs.Subsets.{filled}
 
--- the bits of octets from one on are put behind others, up to the bit at which a reader stands
+-- the bits from `from` to the reader's place are put
 pub record IsPutSoFar (octets : List ℕ) (from end : ℕ) (old : List Bool) (r : BitPlace)
     (new : List Bool) : Type 0 where
   pub of : r.octets ≡ octets
@@ -24,7 +23,6 @@ pub record IsPutSoFar (octets : List ℕ) (from end : ℕ) (old : List Bool) (r 
   pub before : r.place ≤ end
   pub put : new ≡ old ++ take (r.place - from) (drop from (bits octets))
 
--- at first none are put
 pub none_put : (octets : List ℕ) (from end : ℕ) (old : List Bool) (r : BitPlace) → from ≤ end
     → r ≡ record { octets = octets; place = from } → IsPutSoFar octets from end old r old
 none_put octets from end old r onward at =
@@ -38,7 +36,6 @@ none_put octets from end old r onward at =
       put = sym (ap (λ n. old ++ take n (drop from (bits octets))) none ∙ append-nil old);
     }
 
--- up to the end the bits are there
 pub left_long : (octets : List ℕ) (from end : ℕ) (old : List Bool) (r : BitPlace)
     (new : List Bool) → end ≤ 8 * length octets → IsPutSoFar octets from end old r new
     → end - r.place ≤ length (left r)
@@ -52,7 +49,6 @@ left_long octets from end old r new inside so =
       so.before,
     )
 
--- one field more is put
 pub one_more_put : (octets : List ℕ) (from end w n : ℕ) (old mid new : List Bool)
     (r next : BitPlace) → IsPutSoFar octets from end old r mid → r.place + w ≤ end
     → number_at w (left r) ≡ Some (n, left next) → next ≡ record r { place = r.place + w }
@@ -80,7 +76,6 @@ one_more_put octets from end w n old mid new r next so room taken moved put =
           ∙ ap (λ n. old ++ take n all) longer;
     }
 
--- where the reader stands at the end all are put
 pub all_put : (octets : List ℕ) (from end : ℕ) (old : List Bool) (r : BitPlace)
     (new : List Bool) → IsPutSoFar octets from end old r new → end ≤ r.place
     → new ≡ old ++ take (end - from) (drop from (bits octets))
@@ -88,7 +83,6 @@ all_put octets from end old r new so done =
     let same : r.place ≡ end = omega (arith, so.before, done) in
     so.put ∙ ap (λ n. old ++ take (n - from) (drop from (bits octets))) same
 
--- the bits of some octets behind others
 bits_there : (n k : ℕ) (octets : List ℕ) → n + k ≤ length octets
     → bits (take k (drop n octets)) ≡ take (8 * k) (drop (8 * n) (bits octets))
 bits_there n k octets room =
@@ -106,7 +100,6 @@ bits_there n k octets room =
     ap bits (sym (take-append-drop k behind)) ∙ bits-append (take k behind) (drop k behind) in
     sym (ap (take (8 * k)) (there ∙ parted) ∙ take_at (bits (take k behind)) _ (8 * k) own)
 
--- the whole octets from an edge on are put, and then the bits behind them
 pub edge_put : (octets : List ℕ) (from end : ℕ) (old mid new : List Bool) → from ≤ end
     → end ≤ 8 * length octets → from % 8 ≡ 0
     → mid ≡ old ++ bits (take (end / 8 - from / 8) (drop (from / 8) octets))
@@ -132,7 +125,6 @@ edge_put octets from end old mid new onward inside edge whole then =
     ∙ ap (λ xs. old ++ xs) (sym (take-add (8 * k) few all))
     ∙ ap (λ z. old ++ take z all) count
 
--- a number's bits, cut in two
 bits_parted : (t v w n : ℕ) → t ≡ v + w → bin t n ≡ bin v (n / 2 ^ w) ++ bin w n
 unfolding bin
 bits_parted t zero w n e = ap (λ k. bin k n) (omega (arith, e))
@@ -142,19 +134,16 @@ bits_parted (suc t) (suc v) w n e =
     let same : n / 2 ^ w / 2 ^ v ≡ n / 2 ^ t = shr-shr n w v ∙ ap (λ k. n / 2 ^ k) turned in
     rw (same, bits_parted t v w n (omega (arith, e))) refl
 
--- an octet has a number's low bits
 low_bits : (n : ℕ) → bin 8 (n % 256) ≡ bin 8 n
 low_bits n =
     number_same (bin 8 (n % 256)) (bin 8 n) (length-bin 8 (n % 256) ∙ sym (length-bin 8 n))
     (number-bin 8 (n % 256) ∙ omega arith ∙ sym (number-bin 8 n))
 
--- one octet more in front of those that have a number's low bits
 octet_more : (w n : ℕ) (octets : List ℕ) → bits octets ≡ bin w n
     → bits (n / 2 ^ w % 256 ∷ octets) ≡ bin (8 + w) n
 octet_more w n octets e =
     (λ i. low_bits (n / 2 ^ w) i ++ e i) ∙ sym (bits_parted (8 + w) 8 w n refl)
 
--- seven octets of a number are its field of 56 bits
 pub seven_octets : (w n : ℕ) (octets : List ℕ) → w ≤ 56 → 56 ≤ w
     → octets ≡ n / 2 ^ 56 % 256 ∷ n / 2 ^ 48 % 256 ∷ n / 2 ^ 40 % 256 ∷ n / 2 ^ 32 % 256
     ∷ n / 2 ^ 24 % 256 ∷ n / 2 ^ 16 % 256 ∷ n / 2 ^ 8 % 256 ∷ n % 256 ∷ []
@@ -172,20 +161,15 @@ seven_octets w n octets most least is =
     (octet_more 16 n two (octet_more 8 n one (append-nil (bin 8 (n % 256)) ∙ low_bits n))))))
     ∙ ap (λ k. bin k n) wide
 
--- what follows of a call that succeeds
 pub ok_then : {A E P Q : Type 0} (r : Result A E) → (P → Q) → OnOk r P → OnOk r Q
 ok_then (Ok x) f p = f p
 ok_then (Err e) f p = p
 
--- ---- octets that are lent
-
--- zero bits spell zero
 zeros : (n : ℕ) → number (replicate n false) ≡ 0
 unfolding number
 zeros zero = refl
 zeros (suc n) = omega (arith, zeros n)
 
--- zero in a field is zero bits
 bin_zero : (w : ℕ) → bin w 0 ≡ replicate w false
 bin_zero w =
     let below =
@@ -193,7 +177,6 @@ bin_zero w =
     number_same (bin w 0) (replicate w false) (length-bin w 0 ∙ sym (length-replicate w false))
     (number-bin w 0 ∙ small_mod 0 (2 ^ w) (omega (arith, below)) ∙ sym (zeros w))
 
--- bits with a field of zeros behind them, which reaches so far
 fore_filled : (count free : ℕ) (front rest : List Bool) → count ≤ length front
     → free ≡ (8 - count % 8) % 8 → drop count front ≡ bin free 0 ++ rest
     → take (count + free) front ≡ filled (take count front)
@@ -210,8 +193,6 @@ fore_filled count free front rest room is behind =
     ap (take (count + free)) parted ∙ take_at own rest (count + free) size
     ∙ ap (λ xs. take count front ++ xs) (bin_zero free ∙ ap (λ z. replicate z false) few)
 
--- the octets in which bits from one up to another stand, where they begin with an octet and a field
--- of zeros is behind them to an octet's end
 pub lent_there : (octets : List ℕ) (from end n : ℕ) (rest : List Bool) → from ≤ end
     → end ≤ 8 * length octets → from % 8 ≡ 0 → n ≡ 0
     → number_at ((8 - end % 8) % 8) (drop end (bits octets)) ≡ Some (n, rest)

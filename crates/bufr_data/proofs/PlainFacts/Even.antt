@@ -1,13 +1,13 @@
--- The starts of plain subsets that are all alike: each can be reckoned (`Starts`), and where all
--- their bits and items are there, a subset begins at each (`SubsetIndex::index`).
+-- The starts of subsets of one size can be computed, and a subset begins at each if all bits and
+-- items are there.
 use Rattle.std.proofs.Common.{◌≡◌, ℕ, zero, suc, ◌+◌, ◌-◌, ◌*◌, ◌<◌, ◌≤◌, Bool, List, [], ◌∷◌}
 use Rattle.std.proofs.Common.{length, map, drop, Some, Ok, refl, sym, ap, subst, ◌∙◌, arith}
 use Rattle.std.specs.Prelude.{◌^◌, slice_get, IsOk}
 use Rattle.std.proofs.lemmas.List.{drop-drop, length-drop}
 use Rattle.std.proofs.Math.Nat.{mul-le-mul_right}
-use Rattle.bufr_answers.specs.Answers.{Fails}
-use Rattle.bufr_answers.specs.declared.failure.Failure.{Failure}
-use Rattle.bufr_answers.specs.declared.failure.Failure.TheVariants.{Fault, OutOfMemory}
+use Rattle.bufr_base.specs.Answers.{Fails}
+use Rattle.bufr_base.specs.declared.failure.Failure.{Failure}
+use Rattle.bufr_base.specs.declared.failure.Failure.TheVariants.{Fault, OutOfMemory}
 use Rattle.bufr_bits.specs.Bits.{bits}
 use Rattle.bufr_bits.specs.OctetLaws.{length-bits}
 use Rattle.bufr_expand.specs.Courses.{course}
@@ -15,7 +15,7 @@ use Rattle.bufr_expand.specs.Limits.{most_items}
 use Rattle.bufr_expand.specs.Trees.{Tree}
 use Rattle.bufr_expand.specs.Unrolling.{Told, Allows, Unrolls}
 use Rattle.bufr_data.specs.declared.plain.alike.Alike.{Alike}
-use Rattle.bufr_fields.specs.declared.fault.ReadFault.{ReadFault}
+use Rattle.bufr_fields.specs.declared.fault.DataFault.{DataFault}
 use Rattle.bufr_data.specs.declared.plain.index.SubsetStart.{SubsetStart}
 use Rattle.bufr_data.specs.declared.plain.starts.Spacing.{Spacing}
 use Rattle.bufr_data.specs.declared.plain.starts.Spacing.TheVariants.{Even}
@@ -28,15 +28,11 @@ use Rattle.bufr_data.proofs.PlainFacts.Alike.{alike_passes}
 use Rattle.bufr_data.proofs.PlainFacts.Starts.{read_there, here_is}
 use Rattle.bufr_data.proofs.PlainFacts.Subsets.{fields_at_numbered}
 
--- ---- starts that are reckoned
-
--- there are as many as are asked for
 pub many_even : (bit used : ℕ) (each : Alike) (n : ℕ) → length (even_starts bit used each n) ≡ n
 many_even bit used each zero = refl
 many_even bit used each (suc n) =
     ap suc (many_even (bit + each.bits) (used + each.items) each n)
 
--- the one at an index, counted on from the first
 later : ℕ → ℕ → Alike → ℕ → SubsetStart
 later bit used each k = record {
   bit = bit + k * each.bits;
@@ -44,7 +40,6 @@ later bit used each k = record {
   used = used + k * each.items;
 }
 
--- one that has no other before it
 first_even : (bit used : ℕ) (each : Alike) → start_here bit used each ≡ later bit used each 0
 unfolding later
 first_even bit used each =
@@ -52,7 +47,6 @@ first_even bit used each =
     let met : used ≡ used + 0 * each.items = omega arith in
     λ t. record { bit = begins t; end = begins t + each.bits; used = met t }
 
--- one further behind the next
 further : (bit used : ℕ) (each : Alike) (k : ℕ)
     → later (bit + each.bits) (used + each.items) each k ≡ later bit used each (suc k)
 unfolding later
@@ -61,7 +55,6 @@ further bit used each k =
     let met : used + each.items + k * each.items ≡ used + suc k * each.items = omega arith in
     λ t. record { bit = begins t; end = begins t + each.bits; used = met t }
 
--- the start at an index is reckoned from the first
 one_later : (bit used : ℕ) (each : Alike) (n k : ℕ) → k < n
     → slice_get (even_starts bit used each n) k ≡ Some (later bit used each k)
 one_later bit used each zero k below = absurd (omega (arith, below))
@@ -70,7 +63,6 @@ one_later bit used each (suc n) (suc k) below =
     one_later (bit + each.bits) (used + each.items) each n k (omega (arith, below))
     ∙ ap (λ x. Some x) (further bit used each k)
 
--- so it is where no item was met before the first
 pub one_even : (bit : ℕ) (each : Alike) (n k : ℕ) → k < n
     → slice_get (even_starts bit 0 each n) k ≡ Some (start_after bit each k)
 unfolding later
@@ -83,18 +75,14 @@ one_even bit each n k below =
       used = met t;
     }))
 
--- ---- subsets that are passed at once
-
--- the laws of unrollings, as `courses_are_unrollings` states them
+-- the laws of unrollings
 pub record Laws : Type 0 where
   pub unrolled : (tree : Tree) (used : ℕ) (fields : List Told) (met : ℕ) → used ≤ most_items
       → Allows (course tree used) fields met → Unrolls tree used fields met
   pub allowed : (tree : Tree) (used : ℕ) (fields : List Told) (met : ℕ)
       → Unrolls tree used fields met → Allows (course tree used) fields met
 
--- subsets of this tree are alike, and so many, of which the first begins at this bit and before
--- which the message has met so many items, have their items and their bits, with which the octets go
--- on
+-- n subsets of one size begin the bits, with their items after `used` others
 pub record StandAlike (octets : List ℕ) (tree : Tree) (each : Alike) (bit used n : ℕ)
     (front : List Bool) : Type 0 where
   pub laws : Laws
@@ -104,7 +92,6 @@ pub record StandAlike (octets : List ℕ) (tree : Tree) (each : Alike) (bit used
   pub room : used + n * each.items ≤ most_items
   pub enough : n * each.bits ≤ length front
 
--- so it is where so many are passed from the front on
 pub stand_alike : (octets : List ℕ) (tree : Tree) (each : Alike) (bit place n : ℕ)
     → ((tree : Tree) (used : ℕ) (fields : List Told) (met : ℕ)
     → used ≤ most_items → Allows (course tree used) fields met → Unrolls tree used fields met)
@@ -122,7 +109,6 @@ stand_alike octets tree each bit place n unrolled allowed is same inside room en
   enough = enough;
 }
 
--- the first of them is passed
 first_passes : (octets : List ℕ) (tree : Tree) (each : Alike) (bit used n : ℕ) (front : List Bool)
     → StandAlike octets tree each bit used (suc n) front
     → PassesSubset (fields_at 1 1 (course tree used) front) (used + each.items)
@@ -133,7 +119,6 @@ first_passes octets tree each bit used n front h =
     alike_passes tree each used front (drop each.bits front) h.laws.unrolled h.laws.allowed
     h.alike (omega (arith, room)) (omega (arith, enough)) refl
 
--- and the others stand behind it
 others_stand : (octets : List ℕ) (tree : Tree) (each : Alike) (bit used n : ℕ) (front : List Bool)
     → StandAlike octets tree each bit used (suc n) front
     → StandAlike octets tree each (bit + each.bits) (used + each.items) n (drop each.bits front)
@@ -153,7 +138,6 @@ others_stand octets tree each bit used n front h =
       enough = omega (arith, enough, length-drop each.bits front);
     }
 
--- a subset begins at each start, and ends where it is said
 pub alike_begin : (octets : List ℕ) (tree : Tree) (each : Alike) (bit used n : ℕ)
     (front : List Bool) → StandAlike octets tree each bit used n front
     → AllBegin octets tree (even_starts bit used each n)
@@ -167,7 +151,6 @@ alike_begin octets tree each bit used (suc n) front h =
           others,
     )
 
--- those at the starts are all subsets
 pub alike_read : (octets : List ℕ) (tree : Tree) (each : Alike) (bit used j n : ℕ)
     (front : List Bool) → StandAlike octets tree each bit used n front
     → subsets_at (course tree) j n used front
@@ -206,9 +189,6 @@ alike_read octets tree each bit used j (suc n) front h =
       rest = rest t;
     }))
 
--- ---- one subset
-
--- where it is passed, it is all subsets
 pub only_read : (octets : List ℕ) (tree : Tree) (s : SubsetStart) (front rest : List Bool)
     (items : ℕ) → front ≡ drop s.bit (bits octets)
     → PassesSubset (fields_at 1 1 (course tree s.used) front) items rest
@@ -219,7 +199,6 @@ only_read octets tree s front rest items there p =
     let here = here_is octets tree s front rest items there p in
     rw p.1 (λ t. Ok (record { subsets = here t ∷ []; items = items; rest = rest }))
 
--- it begins at the one start, and ends where it is said
 pub only_begins : (octets : List ℕ) (tree : Tree) (bit end items : ℕ) (front rest : List Bool)
     → front ≡ drop bit (bits octets) → bit ≤ end → end ≤ 8 * length octets
     → rest ≡ drop end (bits octets)
@@ -238,24 +217,19 @@ only_begins octets tree bit end items front rest there onward ends behind p =
       tt,
     )
 
--- and where it is refused, so are they
-pub only_fails : (tree : Tree) (used : ℕ) (front : List Bool) (failure : Failure ReadFault)
+pub only_fails : (tree : Tree) (used : ℕ) (front : List Bool) (failure : Failure DataFault)
     → Fails failure (fields_at 1 1 (course tree used) front)
     → Fails failure (subsets_at (course tree) 1 1 used front)
 unfolding subsets_at
 only_fails tree used front (Fault fault) fails = rw fails refl
 only_fails tree used front OutOfMemory fails = tt
 
--- ---- starts as they are kept
-
--- so many starts are kept at even distances
 pub many_kept : (spacing : Spacing) (bit : ℕ) (each : Alike) (count : ℕ)
     (starts : List SubsetStart) → starts_in spacing ≡ starts → spacing ≡ Even bit each count
     → length starts ≡ count
 many_kept spacing bit each count starts view is =
     ap length (sym view ∙ ap starts_in is) ∙ many_even bit 0 each count
 
--- the one at an index is reckoned
 pub one_kept : (spacing : Spacing) (bit : ℕ) (s : SubsetStart) (each : Alike) (count k : ℕ)
     (starts : List SubsetStart) → starts_in spacing ≡ starts → spacing ≡ Even bit each count
     → k < count → s ≡ start_after bit each k → slice_get starts k ≡ Some s
@@ -263,7 +237,6 @@ one_kept spacing bit s each count k starts view is below reckoned =
     ap (λ xs. slice_get xs k) (sym view ∙ ap starts_in is)
     ∙ one_even bit each count k below ∙ ap (λ x. Some x) (sym reckoned)
 
--- it is not too great for its numbers
 pub one_fits : (spacing : Spacing) (bit : ℕ) (each : Alike) (count k : ℕ)
     → HasRoom spacing → spacing ≡ Even bit each count → k < count
     → (bit + (k + 1) * each.bits < 2 ^ 64) × (k * each.items < 2 ^ 64)

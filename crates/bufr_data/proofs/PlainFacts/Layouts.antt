@@ -1,10 +1,9 @@
--- Fields that are laid out are those for which the course of each plain subset asks
--- (`Layout::of`, `PlainSubsets::fields`, `LaidFields`).
+-- The fields of a layout are those that the course of each subset asks for.
 use Rattle.std.proofs.Common.{◌≡◌, ℕ, ◌+◌, ◌≤◌, Bool, true, false, List, [], ◌∷◌, ◌++◌, Option, Some, None}
 use Rattle.std.proofs.Common.{Result, Ok, Err, map, length, drop, refl, sym, ap, subst, ◌∙◌, arith}
 use Rattle.std.specs.Prelude.{IsOk}
 use Rattle.std.proofs.lemmas.List.{drop-drop, length-drop}
-use Rattle.bufr_answers.specs.Answers.{◌>>=◌}
+use Rattle.bufr_base.specs.Answers.{◌>>=◌}
 use Rattle.bufr_tables.specs.declared.element.Kind.TheVariants as kinds
 use Rattle.bufr_tables.specs.Elements.{same_kind}
 use Rattle.bufr_expand.specs.declared.operators.Spec.{Spec}
@@ -19,7 +18,7 @@ use Rattle.bufr_expand.specs.Steady.{IsSteady, course_steady}
 use Rattle.bufr_expand.specs.Walks.{left, items_met, Goes}
 use Rattle.bufr_fields.specs.declared.field.Raw.{Raw}
 use Rattle.bufr_fields.specs.declared.field.Field.{Field}
-use Rattle.bufr_fields.specs.declared.fault.ReadFault.{ReadFault}
+use Rattle.bufr_fields.specs.declared.fault.DataFault.{DataFault}
 use Rattle.bufr_data.specs.declared.plain.index.SubsetStart.{SubsetStart}
 use Rattle.bufr_data.specs.declared.plain.layout.LaidField.{LaidField}
 use Rattle.bufr_data.specs.declared.plain.layout.Layout.{Layout}
@@ -38,25 +37,20 @@ use Rattle.bufr_data.proofs.ListFacts.{all_grown, map_grown}
 use Rattle.bufr_data.proofs.PlainFacts.Handed.{Handed, field_handed}
 use Rattle.bufr_data.proofs.PlainFacts.Reads.{asked_field, found_is}
 
--- ---- the walk that lays them out
-
--- the fields so far are those for which the course asks, none a count, and the walk is behind them
+-- the fields laid out are those that the course asks for, none a count, up to the walk's place
 pub record LaidSoFar (c : Course) (fields : List LaidField) (later : Course) : Type 0 where
   pub behind : After c (map told_laid fields) later
   pub no_count : HaveNoCount fields
 
--- at first there is none
 pub none_laid : (c later : Course) → later ≡ c → LaidSoFar c [] later
 unfolding After
 none_laid c later is = record { behind = sym is; no_count = tt }
 
--- a field for which a course asks
 one_asked : (met : ℕ) (f : LaidField) (more : ℕ → Course)
     → After (asks met f.fxy f.spec more) (told_laid f ∷ []) (more 0)
 unfolding After
 one_asked met f more = (refl, refl, refl)
 
--- one field more
 pub one_laid : (c : Course) (old new : Walk) (fields grown : List LaidField) (f : LaidField)
     → grown ≡ fields ++ f ∷ [] → Goes (left old) (Ok (steps.Field f.fxy f.spec)) new
     → LaidSoFar c fields (left old) → LaidSoFar c grown (left new)
@@ -76,7 +70,6 @@ one_laid c old new fields grown f is goes so_far =
           so_far.no_count a.kind;
     }
 
--- where the walk ends they are those of each subset, by the laws of unrollings
 pub all_laid : (tree : Tree) (old new : Walk) (layout : Layout)
     → ((tree : Tree) (used : ℕ) (fields : List Told) (met : ℕ)
     → used ≤ most_items → Allows (course tree used) fields met → Unrolls tree used fields met)
@@ -98,25 +91,21 @@ all_laid tree old new layout unrolled allowed goes met so_far =
           allowed tree used fields (used + layout.items) (u.0, u.1, u.2, sum, room);
     }
 
--- ---- what is read by them
-
--- what was read, but that items are not counted
-abbrev pub uncounted : Result SubsetRead ReadFault → Result SubsetRead ReadFault
+-- a reading without its number of items
+abbrev pub uncounted : Result SubsetRead DataFault → Result SubsetRead DataFault
 uncounted (Ok found) = Ok (record found { items = 0 })
 uncounted (Err e) = Err e
 
--- a field in front
-abbrev with_front : Field → Result SubsetRead ReadFault → Result SubsetRead ReadFault
+-- a field before others
+abbrev with_front : Field → Result SubsetRead DataFault → Result SubsetRead DataFault
 with_front f o = o >>= λ found. Ok (record found { fields = f ∷ found.fields })
 
--- in front of either
-in_front : (f : Field) (one other : Result SubsetRead ReadFault) → one ≡ uncounted other
+in_front : (f : Field) (one other : Result SubsetRead DataFault) → one ≡ uncounted other
     → with_front f one ≡ uncounted (with_front f other)
 in_front f one (Ok found) is = ap (with_front f) is
 in_front f one (Err e) is = ap (with_front f) is
 
--- a field and those behind it
-field_uncounted : (i d : ℕ) (spec : Spec) (one other : ℕ → List Bool → Result SubsetRead ReadFault)
+field_uncounted : (i d : ℕ) (spec : Spec) (one other : ℕ → List Bool → Result SubsetRead DataFault)
     (o : Option (Raw × List Bool))
     → ((n : ℕ) (rest : List Bool) → one n rest ≡ uncounted (other n rest))
     → field_then 1 i d spec one o ≡ uncounted (field_then 1 i d spec other o)
@@ -125,7 +114,6 @@ field_uncounted i d spec one other (Some x) same =
     in_front (record { fxy = d; spec = spec; raw = x.0 }) (one (number_of x.0) x.1)
     (other (number_of x.0) x.1) (same (number_of x.0) x.1)
 
--- fields that are laid out are read as those for which a steady course asks
 read_as_laid : (used met i : ℕ) (c : Course) (fields : List LaidField) (front : List Bool)
     → IsSteady used c → HaveNoCount fields → Allows c (map told_laid fields) met
     → fields_at 1 i (laid_course fields) front ≡ uncounted (fields_at 1 i c front)
@@ -144,24 +132,21 @@ read_as_laid used met i (asks m d spec more) (f ∷ fields) front steady none as
     read_as_laid m met (i + 1) (more 0) fields rest (steady.3 0) none.1 asked.2
     ∙ ap (λ c. uncounted (fields_at 1 (i + 1) c rest)) (sym (steady.2 kind n)))
 
--- the same fields
-fields_uncounted : (found : Result SubsetRead ReadFault) → fields_of (uncounted found)
+fields_uncounted : (found : Result SubsetRead DataFault) → fields_of (uncounted found)
     ≡ fields_of found
 fields_uncounted (Ok found) = refl
 fields_uncounted (Err e) = refl
 
--- and they are there
-there_uncounted : (found : Result SubsetRead ReadFault) → IsOk found → IsOk (uncounted found)
+there_uncounted : (found : Result SubsetRead DataFault) → IsOk found → IsOk (uncounted found)
 there_uncounted (Ok found) ok = refl
 there_uncounted (Err e) ok = absurd cc
 
--- fields that are laid out are there where a subset is, and are its fields
-pub record Same (fields : List LaidField) (subset : Result SubsetRead ReadFault)
+-- the fields of a layout are those of a subset, if it is there
+pub record Same (fields : List LaidField) (subset : Result SubsetRead DataFault)
     (front : List Bool) : Type 0 where
   pub there : IsOk (fields_at 1 1 (laid_course fields) front)
   pub are : fields_of (fields_at 1 1 (laid_course fields) front) ≡ fields_of subset
 
--- so it is where there is room for the subset's items
 pub laid_fields : (tree : Tree) (layout : Layout) (used : ℕ) (front : List Bool)
     → IsLaid tree layout → used + layout.items ≤ most_items
     → IsOk (fields_at 1 1 (course tree used) front)
@@ -175,7 +160,6 @@ laid_fields tree layout used front laid room ok =
       are = ap fields_of same ∙ fields_uncounted (fields_at 1 1 (course tree used) front);
     }
 
--- so it is at the start of a subset
 pub laid_here : (octets : List ℕ) (tree : Tree) (s : SubsetStart) (kept one other : Layout)
     → one ≡ kept → other ≡ kept → IsLaid tree kept → s.used + one.items ≤ most_items
     → BeginsAtStart octets tree s
@@ -186,16 +170,12 @@ laid_here octets tree s kept one other same_one same_other laid room begins =
     (laid_fields tree kept s.used (drop s.bit (bits octets)) laid
     (subst (λ (l : Layout). s.used + l.items ≤ most_items) same_one room) begins.1)
 
--- ---- one after the other
-
--- where none is laid out none is left
 pub none_left : (fields : List LaidField) (reader : BitPlace) → length fields ≡ 0
     → StandLaid fields reader × (fields_laid fields reader ≡ [])
 unfolding fields_at laid_course
 none_left [] reader is = (refl, refl)
 none_left (f ∷ fields) reader is = absurd (omega (arith, is))
 
--- the first that is laid out is handed out where it is read, and those behind it are left
 pub first_handed : (fields others : List LaidField) (f : LaidField) (reader rest : BitPlace)
     (raw : Raw) → fields ≡ f ∷ others → StandLaid fields reader
     → raw_or_ends 1 1 (raw_at f.spec (ends_of.left reader)) ≡ Ok (raw, ends_of.left rest)
@@ -214,16 +194,12 @@ first_handed (g ∷ fields) others f reader rest raw is stand read =
     (ends_of.left rest) (record { fxy = f.fxy; spec = f.spec; raw = raw }) stand
     (ap (λ fs. fields_at 1 1 (laid_course fs) (ends_of.left reader)) is ∙ step)
 
--- ---- those that are not asked for are passed
-
--- where a field is read and others behind it, it is there
-then_there : (d : ℕ) (spec : Spec) (after : ℕ → List Bool → Result SubsetRead ReadFault)
+then_there : (d : ℕ) (spec : Spec) (after : ℕ → List Bool → Result SubsetRead DataFault)
     (found : Option (Raw × List Bool)) → IsOk (field_then 1 1 d spec after found)
     → IsOk (raw_or_ends 1 1 found)
 then_there d spec after None ok = absurd cc
 then_there d spec after (Some x) ok = refl
 
--- so the first that is laid out is there
 pub first_there : (others : List LaidField) (f : LaidField) (reader : BitPlace)
     → StandLaid (f ∷ others) reader → IsOk (raw_or_ends 1 1 (raw_at f.spec (ends_of.left reader)))
 unfolding fields_at laid_course
@@ -231,12 +207,10 @@ first_there others f reader stand =
     then_there f.fxy f.spec (λ n rest. fields_at 1 2 (laid_course others) rest)
     (raw_at f.spec (ends_of.left reader)) stand
 
--- a reader that moves on by no bits stands where it stood
 pub unmoved : (reader : BitPlace) → moved_on reader 0 ≡ reader
 unmoved reader =
     ap (λ (k : ℕ). record { octets = reader.octets; place = k }) (omega arith)
 
--- at first none is passed
 pub none_passed : (P : ℕ → Bool) (fields : List LaidField) (reader : BitPlace)
     → StandLaid fields reader → PassesLaid P fields fields reader 0
 none_passed P fields reader stand =
@@ -247,7 +221,6 @@ none_passed P fields reader stand =
       passed = ([], tt, ap (fields_laid fields) same);
     }
 
--- one more is passed, which is not asked for, with the bits that it has
 pub one_more_passed : (P : ℕ → Bool) (all fields others : List LaidField) (f : LaidField)
     (reader : BitPlace) (passed size : ℕ) → fields ≡ f ∷ others
     → PassesLaid P all fields reader passed → P f.fxy ≡ false
@@ -282,7 +255,6 @@ one_more_passed P all fields others f reader passed size is so_far unasked takes
           so_far.passed (_, unasked, h.is);
     }
 
--- the first of those that are left is asked for where its descriptor is
 pub first_asked : (P : ℕ → Bool) (fields others : List LaidField) (f : LaidField)
     (reader : BitPlace) → fields ≡ f ∷ others → P f.fxy ≡ true
     → FirstIsAsked P (fields_laid fields reader)

@@ -1,5 +1,4 @@
--- What is known of a plain subset over which the index moves without building its fields
--- (`SubsetIndex::index`).
+-- Passing a subset without building its fields.
 use Rattle.std.proofs.Common.{◌≡◌, ℕ, ◌*◌, ◌/◌, ◌<◌, ◌≤◌, Bool, true, false, List}
 use Rattle.std.proofs.Common.{◌++◌, length, take, drop, Some, None, Result, Ok, Err, refl, sym, ap}
 use Rattle.std.proofs.Common.{◌∙◌, arith, subst}
@@ -10,8 +9,8 @@ use Rattle.bufr_tables.specs.declared.element.Kind.TheVariants as kinds
 use Rattle.bufr_tables.specs.Elements.{same_kind}
 use Rattle.bufr_expand.specs.declared.operators.Spec.{Spec}
 use Rattle.bufr_fields.specs.declared.field.Raw.TheVariants.{Number}
-use Rattle.bufr_fields.specs.declared.fault.ReadFault.{ReadFault}
-use Rattle.bufr_fields.specs.declared.fault.ReadFault.TheVariants as faults
+use Rattle.bufr_fields.specs.declared.fault.DataFault.{DataFault}
+use Rattle.bufr_fields.specs.declared.fault.DataFault.TheVariants as faults
 use Rattle.bufr_expand.specs.Courses.{Course}
 use Rattle.bufr_fields.specs.declared.field.Field.{Field}
 use Rattle.bufr_data.specs.Plain.{SubsetRead, raw_at, field_number_at, fields_at}
@@ -21,17 +20,13 @@ use Rattle.bufr_data.proofs.KindFacts.{other_kind}
 use Rattle.bufr_data.proofs.PlainFacts.Reads.{behind_both}
 use Rattle.bufr_data.proofs.CompressedFacts.Passed.{number_raw, minimum_there, octets_none, text_raw}
 
--- ---- one raw value
-
 -- a spec of no text
 abbrev IsOther : Spec → Type 0
 IsOther spec = spec.kind ≡ kinds.Text → ⊥
 
--- eight times in either order
 eight_times : (b w : ℕ) → b ≡ 8 * w → b ≡ w * 8
 eight_times b w e = omega (arith, e)
 
--- a text that is there is passed
 pub text_passes : (i : ℕ) (spec : Spec) (front rest : List Bool) (b w : ℕ) → spec.kind ≡ kinds.Text
     → b ≡ 8 * w → w ≡ spec.width / 8 → b ≤ length front → rest ≡ drop b front
     → PassesRaw i spec front rest
@@ -39,7 +34,6 @@ text_passes i spec front rest b w is times eighth enough behind =
     let size : b ≡ spec.width / 8 * 8 = eight_times b w times ∙ ap (λ n. n * 8) eighth in
     (_, ap (raw_or_ends 1 i) (minimum_there spec front rest b is size enough behind))
 
--- one that is not ends the data
 pub text_ends : (i : ℕ) (spec : Spec) (front : List Bool) (b w : ℕ) → spec.kind ≡ kinds.Text
     → b ≡ 8 * w → w ≡ spec.width / 8 → length front < b
     → raw_or_ends 1 i (raw_at spec front) ≡ Err (faults.DataEnds 1 i)
@@ -48,24 +42,20 @@ text_ends i spec front b w is times eighth short =
     let less : length front < spec.width / 8 * 8 = omega (arith, size, short) in
     rw (text_raw spec front is, octets_none (spec.width / 8) front less) refl
 
--- a field of 64 bits at most has a number where its bits are there
 there : (width : ℕ) (front : List Bool) → width ≤ 64
     → field_number_at width front ≡ number_at width front
 there width front few = rw (le-leb width 64 few) refl
 
--- a number is the front of enough bits
 number_found : (width : ℕ) (front : List Bool) → width ≤ length front
     → number_at width front ≡ Some (number (take width front), drop width front)
 unfolding number_at
 number_found width front long = rw (le-ltb (length front) width long) refl
 
--- too few bits have none
 number_missing : (width : ℕ) (front : List Bool) → length front < width
     → number_at width front ≡ None
 unfolding number_at
 number_missing width front short = rw (lt-ltb (length front) width short) refl
 
--- a raw value of no text is a number
 raw_number : (spec : Spec) (front : List Bool) → same_kind spec.kind kinds.Text ≡ false
     → spec.width ≤ 64
     → raw_at spec front ≡ option_map (λ x. (Number x.0, x.1)) (number_at spec.width front)
@@ -73,7 +63,6 @@ raw_number spec front other few =
     number_raw spec.kind spec.width front other
     ∙ ap (option_map (λ x. (Number x.0, x.1))) (there spec.width front few)
 
--- one that is there is read
 pub number_taken : (i : ℕ) (spec : Spec) (front rest : List Bool) (n : ℕ)
     → same_kind spec.kind kinds.Text ≡ false → spec.width ≤ 64
     → number_at spec.width front ≡ Some (n, rest)
@@ -82,7 +71,6 @@ number_taken i spec front rest n other few found =
     ap (raw_or_ends 1 i)
     (raw_number spec front other few ∙ ap (option_map (λ x. (Number x.0, x.1))) found)
 
--- one that is not ends the data
 pub number_short : (i : ℕ) (spec : Spec) (front : List Bool)
     → same_kind spec.kind kinds.Text ≡ false → spec.width ≤ 64 → number_at spec.width front ≡ None
     → raw_or_ends 1 i (raw_at spec front) ≡ Err (faults.DataEnds 1 i)
@@ -90,7 +78,6 @@ number_short i spec front other few none =
     ap (raw_or_ends 1 i)
     (raw_number spec front other few ∙ ap (option_map (λ x. (Number x.0, x.1))) none)
 
--- a number that is there is passed
 pub number_passes : (i : ℕ) (spec : Spec) (front rest : List Bool) (b : ℕ) → IsOther spec
     → spec.width ≤ 64 → b ≡ spec.width → b ≤ length front → rest ≡ drop b front
     → PassesRaw i spec front rest
@@ -104,7 +91,6 @@ number_passes i spec front rest b other few size enough behind =
           ∙ ap (λ xs. Some (number (take spec.width front), xs)) same),
     )
 
--- one that is not ends the data
 pub number_ends : (i : ℕ) (spec : Spec) (front : List Bool) (b : ℕ) → IsOther spec → spec.width ≤ 64
     → b ≡ spec.width → length front < b
     → raw_or_ends 1 i (raw_at spec front) ≡ Err (faults.DataEnds 1 i)
@@ -113,10 +99,7 @@ number_ends i spec front b other few size short =
     number_short i spec front (other_kind spec.kind kinds.Text other) few
     (number_missing spec.width front less)
 
--- ---- field after field
-
--- fields were passed
-pub more_passed : (whole : Result SubsetRead ReadFault) (i next : ℕ) (c later : Course)
+pub more_passed : (whole : Result SubsetRead DataFault) (i next : ℕ) (c later : Course)
     (front rest : List Bool) (items : ℕ)
     → (fields : List Field) × (whole ≡ behind_fields fields (fields_at 1 i c front))
     → PassesOn i c front (Some next) later items rest
@@ -127,14 +110,11 @@ more_passed whole i next c later front rest items so_far step = (
       ∙ behind_both so_far.0 step.0 (fields_at 1 next later rest),
 )
 
--- ---- a number that is there
-
--- a number has 64 bits at most, and all of them are there
+-- a number of at most 64 bits is there
 pub record HasBits (width : ℕ) (front : List Bool) : Type 0 where
   pub narrow : width ≤ 64
   pub enough : width ≤ length front
 
--- so say both tests
 both_tests : (few short : Bool) (x : ℕ × List Bool)
     → IsOk (raw_or_ends 1 1 (option_map (λ (y : ℕ × List Bool). (Number y.0, y.1))
     (if few then (if short then None else Some x) else None)))
@@ -143,7 +123,6 @@ both_tests true false x ok = (refl, refl)
 both_tests true true x ok = absurd cc
 both_tests false short x ok = absurd cc
 
--- so it is where it is read
 pub number_has_bits : (spec : Spec) (front : List Bool) → IsOther spec
     → IsOk (raw_or_ends 1 1 (raw_at spec front)) → HasBits spec.width front
 unfolding number_at

@@ -1,10 +1,10 @@
--- One step of a walk is one step of reading: for `read_plain` and `read_subsets`.
-use Rattle.bufr_answers.specs.Answers.{◌>>=◌, Fails}
+-- One step of a walk is one step of reading.
+use Rattle.bufr_base.specs.Answers.{◌>>=◌, Fails}
 use Rattle.std.proofs.Common.{◌≡◌, ℕ, ◌+◌, Bool, List, [], ◌∷◌, ◌++◌, Option, Some, None, Result}
 use Rattle.std.proofs.Common.{Ok, Err, refl, sym, ap, ◌∙◌, arith, length, length-append}
 use Rattle.std.proofs.Common.{append_assoc}
-use Rattle.bufr_answers.specs.declared.failure.Failure.{Failure}
-use Rattle.bufr_answers.specs.declared.failure.Failure.TheVariants.{Fault, OutOfMemory}
+use Rattle.bufr_base.specs.declared.failure.Failure.{Failure}
+use Rattle.bufr_base.specs.declared.failure.Failure.TheVariants.{Fault, OutOfMemory}
 use Rattle.bufr_expand.specs.declared.operators.Spec.{Spec}
 use Rattle.bufr_expand.specs.declared.walk.Step.TheVariants as steps
 use Rattle.bufr_expand.specs.declared.walk.Walk.{Walk}
@@ -13,23 +13,19 @@ use Rattle.bufr_expand.specs.Courses.{Course, asks}
 use Rattle.bufr_expand.specs.Walks.{left, items_met, Goes, IsBelowCount}
 use Rattle.bufr_fields.specs.declared.field.Raw.{Raw}
 use Rattle.bufr_fields.specs.declared.field.Field.{Field}
-use Rattle.bufr_fields.specs.declared.fault.ReadFault.{ReadFault}
+use Rattle.bufr_fields.specs.declared.fault.DataFault.{DataFault}
 use Rattle.bufr_data.specs.Plain.{SubsetRead, raw_at, stopped, fields_at}
 use Rattle.bufr_fields.specs.Forms.{number_of}
 use Rattle.bufr_data.specs.Plain.Reads.{raw_or_ends, behind_fields}
 use Rattle.bufr_fields.specs.StepLaws.{ends_there, stops_there, count_fits, Asks, GoesOn}
 use Rattle.bufr_data.proofs.PlainFacts.{raw_read}
 
--- ---- reading
-
--- one more field in front of the others
-joined : (field : Field) (o : Result SubsetRead ReadFault)
+joined : (field : Field) (o : Result SubsetRead DataFault)
     → (o >>= λ found. Ok (record found { fields = field ∷ found.fields }))
     ≡ behind_fields (field ∷ []) o
 joined field (Ok found) = refl
 joined field (Err e) = refl
 
--- a field that is asked for and there is read
 pub asked_field : (j i met d : ℕ) (spec : Spec) (more : ℕ → Course) (front rest : List Bool)
     (raw : Raw) → raw_at spec front ≡ Some (raw, rest)
     → fields_at j i (asks met d spec more) front
@@ -41,21 +37,18 @@ asked_field j i met d spec more front rest raw e =
     (joined (record { fxy = d; spec = spec; raw = raw })
     (fields_at j (i + 1) (more (number_of raw)) rest))
 
--- one that is not there is the fault
 missing_field : (j i met d : ℕ) (spec : Spec) (more : ℕ → Course) (front : List Bool)
-    (o : Option (Raw × List Bool)) (f : ReadFault) → raw_at spec front ≡ o
+    (o : Option (Raw × List Bool)) (f : DataFault) → raw_at spec front ≡ o
     → raw_or_ends j i o ≡ Err f → fields_at j i (asks met d spec more) front ≡ Err f
 unfolding fields_at
 missing_field j i met d spec more front None f e h = rw e (let same = h in cc)
 missing_field j i met d spec more front (Some x) f e h = absurd cc
 
--- what was read was there
 pub found_is : (j i : ℕ) (o : Option (Raw × List Bool)) (x : Raw × List Bool)
     → raw_or_ends j i o ≡ Ok x → o ≡ Some x
 found_is j i None x e = absurd cc
 found_is j i (Some y) x e = cc
 
--- a field for which the course asks is read
 pub step_is_read : (c later : Course) (i d : ℕ) (spec : Spec) (front rest : List Bool) (raw : Raw)
     → GoesOn c d spec (number_of raw) later
     → raw_or_ends 1 i (raw_at spec front) ≡ Ok (raw, rest)
@@ -68,33 +61,27 @@ step_is_read c later i d spec front rest raw a e =
     ∙ ap (λ x. behind_fields (record { fxy = d; spec = spec; raw = raw } ∷ [])
     (fields_at 1 (i + 1) x rest)) a.after
 
--- where its bits are not there, the fields are refused
 pub step_is_missing : (c : Course) (i d : ℕ) (spec : Spec) (front : List Bool)
-    (e : Failure ReadFault) → Asks c d spec → Fails e (raw_or_ends 1 i (raw_at spec front))
+    (e : Failure DataFault) → Asks c d spec → Fails e (raw_or_ends 1 i (raw_at spec front))
     → Fails e (fields_at 1 i c front)
 step_is_missing c i d spec front OutOfMemory a h = tt
 step_is_missing c i d spec front (Fault f) a h =
     ap (λ x. fields_at 1 i x front) a.is
     ∙ missing_field 1 i a.met d spec a.more front _ f refl h
 
--- where the walk ends, the subset ends
 pub end_is_read : (old new : Walk) (i : ℕ) (front : List Bool) → Goes (left old) (Ok steps.End) new
     → fields_at 1 i (left old) front
     ≡ Ok (record { fields = []; items = items_met new; rest = front })
 unfolding fields_at
 end_is_read old new i front g = ap (λ c. fields_at 1 i c front) (ends_there (left old) new g)
 
--- where it stops, the fields are refused for its fault
-pub stop_is_read : (old new : Walk) (i : ℕ) (front : List Bool) (fault : WalkFault) (f : ReadFault)
+pub stop_is_read : (old new : Walk) (i : ℕ) (front : List Bool) (fault : WalkFault) (f : DataFault)
     → Goes (left old) (Err fault) new → stopped {A = SubsetRead} fault ≡ Err f
     → fields_at 1 i (left old) front ≡ Err f
 unfolding fields_at
 stop_is_read old new i front fault f g e =
     let s = stops_there (left old) fault new g in ap (λ c. fields_at 1 i c front) s.1 ∙ e
 
--- ---- counts that were read
-
--- a count that was read may be told to the walk
 pub count_read_fits : (old mid : Walk) (i d : ℕ) (spec : Spec) (front rest : List Bool) (raw : Raw)
     → Goes (left old) (Ok (steps.Count d spec)) mid
     → raw_or_ends 1 i (raw_at spec front) ≡ Ok (raw, rest) → IsBelowCount (left mid) (number_of raw)
@@ -102,27 +89,21 @@ count_read_fits old mid i d spec front rest raw g e =
     count_fits old mid d spec raw g
     (raw_read spec.kind spec.width front (raw, rest) (found_is 1 i _ _ e)).0
 
--- ---- fields one after the other
-
--- nothing stands before the fields at first
-pub behind_none : (o : Result SubsetRead ReadFault) → o ≡ behind_fields [] o
+pub behind_none : (o : Result SubsetRead DataFault) → o ≡ behind_fields [] o
 behind_none (Ok found) = refl
 behind_none (Err e) = refl
 
--- fields behind those before
-pub behind_both : (fields others : List Field) (o : Result SubsetRead ReadFault)
+pub behind_both : (fields others : List Field) (o : Result SubsetRead DataFault)
     → behind_fields fields (behind_fields others o) ≡ behind_fields (fields ++ others) o
 behind_both fields others (Ok found) =
     ap (λ fs. Ok (record found { fields = fs })) (sym (append_assoc fields others found.fields))
 behind_both fields others (Err e) = refl
 
--- one more field behind those before
-pub behind_more : (fields : List Field) (field : Field) (o : Result SubsetRead ReadFault)
+pub behind_more : (fields : List Field) (field : Field) (o : Result SubsetRead DataFault)
     → behind_fields fields (behind_fields (field ∷ []) o) ≡ behind_fields (fields ++ field ∷ []) o
 behind_more fields field o = behind_both fields (field ∷ []) o
 
--- one field more was read
-pub fields_read : (fields grown : List Field) (field : Field) (whole : Result SubsetRead ReadFault)
+pub fields_read : (fields grown : List Field) (field : Field) (whole : Result SubsetRead DataFault)
     (i : ℕ) (c d : Course) (front rest : List Bool) → grown ≡ fields ++ field ∷ []
     → i ≡ length fields + 1 → whole ≡ behind_fields fields (fields_at 1 (length fields + 1) c front)
     → fields_at 1 i c front ≡ behind_fields (field ∷ []) (fields_at 1 (i + 1) d rest)

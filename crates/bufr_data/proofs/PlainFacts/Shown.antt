@@ -1,5 +1,4 @@
--- The subsets that an index of plain data shows, by their numbers: for `PlainSubsets::fields`
--- and `SubsetIndex::put`.
+-- The subsets of an index of plain data, by number.
 use Rattle.std.proofs.Common.{◌≡◌, ℕ, List, map, Some, sym, ap, subst, ◌∙◌}
 use Rattle.std.specs.Prelude.{slice_get, option_map}
 use Rattle.std.proofs.lemmas.Option.{get_or_from_slice_get, slice_get_within, slice_get-map}
@@ -10,7 +9,6 @@ use Rattle.bufr_data.specs.declared.plain.index.SubsetStart.{SubsetStart}
 use Rattle.bufr_data.specs.Plain.Starts.{fields_of, subset_at, subset_from, BeginsAtStart, AllBegin}
 use Rattle.bufr_data.proofs.ListFacts.{all_at}
 
--- a subset begins at the start of a number
 pub begins_there : (octets : List ℕ) (tree : Tree) (starts : List SubsetStart) (i : ℕ)
     (s : SubsetStart) → AllBegin octets tree starts → slice_get starts i ≡ Some s
     → BeginsAtStart octets tree s
@@ -18,7 +16,6 @@ begins_there octets tree starts i s all is =
     subst (BeginsAtStart octets tree) (get_or_from_slice_get starts i s s is)
     (all_at (BeginsAtStart octets tree) starts i s all (slice_get_within starts i s is))
 
--- the subset of a number is the one that begins at the start of this number
 pub start_shown : (octets : List ℕ) (tree : Tree) (starts : List SubsetStart)
     (subsets : List Subset) (i : ℕ) (s : SubsetStart)
     → map (subset_from octets tree) starts ≡ subsets → slice_get starts i ≡ Some s
@@ -27,7 +24,6 @@ start_shown octets tree starts subsets i s view is =
     ap (λ xs. slice_get xs i) (sym view) ∙ slice_get-map (subset_from octets tree) starts i
     ∙ ap (option_map (subset_from octets tree)) is
 
--- so its fields are those that begin there
 pub fields_shown : (octets : List ℕ) (tree : Tree) (starts : List SubsetStart)
     (subsets : List Subset) (i : ℕ) (s : SubsetStart) (fields : List Field)
     → map (subset_from octets tree) starts ≡ subsets → slice_get starts i ≡ Some s

@@ -1,6 +1,4 @@
--- The index keeps a start for each plain subset that is passed, one after the other
--- (`SubsetIndex::index`), and the bits between where it begins and where it ends are its own
--- (`SubsetIndex::put`).
+-- The index keeps a start for each subset, and the bits from its start to its end are its own.
 use Rattle.std.proofs.Common.{◌≡◌, ℕ, ◌+◌, ◌-◌, ◌*◌, ◌<◌, ◌≤◌, Bool, List, [], ◌∷◌, ◌++◌, length}
 use Rattle.std.proofs.Common.{take, arith, length-append, map, drop, Result, Ok, refl, sym, ap, subst, ◌∙◌}
 use Rattle.std.specs.Prelude.{IsOk}
@@ -9,20 +7,19 @@ use Rattle.bufr_bits.specs.Bits.{bits}
 use Rattle.bufr_expand.specs.Courses.{course}
 use Rattle.bufr_expand.specs.Trees.{Tree}
 use Rattle.bufr_fields.specs.declared.field.Subset.{Subset}
-use Rattle.bufr_fields.specs.declared.fault.ReadFault.{ReadFault}
+use Rattle.bufr_fields.specs.declared.fault.DataFault.{DataFault}
 use Rattle.bufr_data.specs.declared.plain.index.SubsetStart.{SubsetStart}
 use Rattle.bufr_data.specs.Plain.{SubsetRead, SubsetsRead, plain, fields_at, subsets_at}
 use Rattle.bufr_data.specs.Plain.Numbered.{numbered, after}
 use Rattle.bufr_data.specs.Plain.Starts.{rest_of, PassesSubset, fields_of, subset_at, subset_from, BeginsAtStart}
 use Rattle.bufr_data.specs.Plain.Starts.{AllBegin}
 use Rattle.std.proofs.Math.Seq.{take-append_seam}
-use Rattle.bufr_answers.specs.AnswerLaws.{ok_value}
+use Rattle.bufr_base.specs.AnswerLaws.{ok_value}
 use Rattle.std.proofs.lemmas.List.{length-drop}
 use Rattle.bufr_bits.specs.OctetLaws.{length-bits}
 use Rattle.bufr_data.proofs.PlainFacts.{fields_at-found}
 use Rattle.bufr_data.proofs.PlainFacts.Subsets.{fields_at_numbered, one_more}
 
--- what was passed is read from the start on
 pub read_there : (octets : List ℕ) (tree : Tree) (s : SubsetStart) (front rest : List Bool) (items : ℕ)
     → front ≡ drop s.bit (bits octets)
     → (p : PassesSubset (fields_at 1 1 (course tree s.used) front) items rest)
@@ -30,7 +27,6 @@ pub read_there : (octets : List ℕ) (tree : Tree) (s : SubsetStart) (front rest
 read_there octets tree s front rest items is p =
     ap (fields_at 1 1 (course tree s.used)) (sym is) ∙ p.1
 
--- its fields are those of the subset that begins there
 pub here_is : (octets : List ℕ) (tree : Tree) (s : SubsetStart) (front rest : List Bool) (items : ℕ)
     → front ≡ drop s.bit (bits octets)
     → (p : PassesSubset (fields_at 1 1 (course tree s.used) front) items rest)
@@ -38,7 +34,6 @@ pub here_is : (octets : List ℕ) (tree : Tree) (s : SubsetStart) (front rest : 
 here_is octets tree s front rest items is p =
     λ t. record { fields = fields_of (sym (read_there octets tree s front rest items is p) t) }
 
--- one start more stands
 pub one_stands : (octets : List ℕ) (tree : Tree) (s : SubsetStart) (front rest : List Bool)
     (items : ℕ)
     (starts grown : List SubsetStart) → grown ≡ starts ++ s ∷ [] → front ≡ drop s.bit (bits octets)
@@ -51,8 +46,6 @@ one_stands octets tree s front rest items starts grown is there inside behind en
     all_grown (BeginsAtStart octets tree) starts grown s is all
     (inside, subst IsOk (sym read) refl, ends, ap rest_of read ∙ behind)
 
--- a subset ends no sooner than it begins, and the bits from where it begins to where it ends are
--- those of its fields
 pub bits_between : (octets : List ℕ) (tree : Tree) (s : SubsetStart) → BeginsAtStart octets tree s
     → (s.bit ≤ s.end)
     × (take (s.end - s.bit) (drop s.bit (bits octets))
@@ -81,10 +74,9 @@ bits_between octets tree s begins =
           ∙ ap (λ r. plain (fields_of r)) (sym read.1),
     )
 
--- one start more is that of one subset more
 pub one_start : (octets : List ℕ) (tree : Tree) (s : SubsetStart) (n index : ℕ)
     (front rest : List Bool) (items : ℕ) (starts grown : List SubsetStart)
-    (all : Result SubsetsRead ReadFault) → grown ≡ starts ++ s ∷ []
+    (all : Result SubsetsRead DataFault) → grown ≡ starts ++ s ∷ []
     → front ≡ drop s.bit (bits octets) → index < n
     → all ≡ after (map (subset_from octets tree) starts)
     (subsets_at (course tree) (index + 1) (n - index) s.used front)

@@ -1,38 +1,33 @@
--- What is read of one subset after another: for `read_subsets`.
+-- Reading one subset after another.
 use Rattle.std.proofs.Common.{◌≡◌, ℕ, suc, ◌+◌, ◌-◌, ◌<◌, ◌≤◌, Bool, List, [], ◌∷◌, ◌++◌, Option}
 use Rattle.std.proofs.Common.{Some, None, Result, Ok, Err, refl, sym, ap, ◌∙◌, arith, append_assoc}
 use Rattle.std.proofs.lemmas.List.{append-nil}
-use Rattle.bufr_answers.specs.Answers.{◌>>=◌, Fails, result_map}
-use Rattle.bufr_answers.specs.declared.failure.Failure.{Failure}
-use Rattle.bufr_answers.specs.declared.failure.Failure.TheVariants.{Fault, OutOfMemory}
+use Rattle.bufr_base.specs.Answers.{◌>>=◌, Fails, result_map}
+use Rattle.bufr_base.specs.declared.failure.Failure.{Failure}
+use Rattle.bufr_base.specs.declared.failure.Failure.TheVariants.{Fault, OutOfMemory}
 use Rattle.bufr_expand.specs.declared.operators.Spec.{Spec}
 use Rattle.bufr_expand.specs.declared.walk.WalkFault.{WalkFault}
 use Rattle.bufr_expand.specs.declared.walk.WalkFault.TheVariants as walks
 use Rattle.bufr_expand.specs.Courses.{Course, ends, stops, asks}
 use Rattle.bufr_fields.specs.declared.field.Raw.{Raw}
 use Rattle.bufr_fields.specs.declared.field.Subset.{Subset}
-use Rattle.bufr_fields.specs.declared.fault.ReadFault.{ReadFault}
+use Rattle.bufr_fields.specs.declared.fault.DataFault.{DataFault}
 use Rattle.bufr_data.specs.Plain.{SubsetRead, SubsetsRead, raw_at, field_then, stopped, fields_at}
 use Rattle.bufr_data.specs.Plain.{subsets_at}
 use Rattle.bufr_fields.specs.Forms.{number_of}
 use Rattle.bufr_data.specs.Plain.Numbered.{failure_of_subset, numbered, after}
 
--- ---- the number of a subset is told by its faults alone
-
--- a fault at which a walk stops has no number of a subset
 stopped_numbered : {A : Type 0} (j : ℕ) (fault : WalkFault)
     → stopped {A = A} fault ≡ numbered j (stopped {A = A} fault)
 stopped_numbered j walks.TooLarge = refl
 stopped_numbered j (walks.EffectiveRange d) = refl
 
--- a value that is changed keeps its number
-ok_numbered : {A B : Type 0} (j : ℕ) (f : A → B) (x : Result A ReadFault)
+ok_numbered : {A B : Type 0} (j : ℕ) (f : A → B) (x : Result A DataFault)
     → (numbered j x >>= λ a. Ok (f a)) ≡ numbered j (x >>= λ a. Ok (f a))
 ok_numbered j f (Ok a) = refl
 ok_numbered j f (Err e) = refl
 
--- the step of `fields_at_numbered` at one field
-field_numbered : (j i d : ℕ) (spec : Spec) (one other : ℕ → List Bool → Result SubsetRead ReadFault)
+field_numbered : (j i d : ℕ) (spec : Spec) (one other : ℕ → List Bool → Result SubsetRead DataFault)
     (x : Option (Raw × List Bool))
     → ((n : ℕ) (rest : List Bool) → other n rest ≡ numbered j (one n rest))
     → field_then j i d spec other x ≡ numbered j (field_then 1 i d spec one x)
@@ -44,7 +39,6 @@ field_numbered j i d spec one other (Some x) same =
     record found { fields = record { fxy = d; spec = spec; raw = x.0 } ∷ found.fields })
     (one (number_of x.0) x.1))
 
--- a subset is read in the same way whatever its number, which its faults tell
 pub fields_at_numbered : (j i : ℕ) (c : Course) (text : List Bool)
     → fields_at j i c text ≡ numbered j (fields_at 1 i c text)
 unfolding fields_at
@@ -55,20 +49,15 @@ fields_at_numbered j i (asks met d spec more) text =
     (λ n rest. fields_at j (i + 1) (more n) rest) (raw_at spec text)
     (λ n rest. fields_at_numbered j (i + 1) (more n) rest)
 
--- a failure of a subset of a number
-pub fails_numbered : {A : Type 0} (j : ℕ) (failure : Failure ReadFault) (x : Result A ReadFault)
+pub fails_numbered : {A : Type 0} (j : ℕ) (failure : Failure DataFault) (x : Result A DataFault)
     → Fails failure x → Fails (failure_of_subset j failure) (numbered j x)
 fails_numbered j (Fault f) x fails = ap (numbered j) fails
 fails_numbered j OutOfMemory x fails = tt
 
--- ---- subset after subset
-
--- one of so many is behind
 one_less : (n index : ℕ) → index < n → n - index ≡ suc (n - (index + 1))
 one_less n index h = omega arith
 
--- a subset behind those before it, and then the others
-join_after : (before : List Subset) (s : Subset) (x : Result SubsetsRead ReadFault)
+join_after : (before : List Subset) (s : Subset) (x : Result SubsetsRead DataFault)
     → after before (x >>= λ others. Ok (record others { subsets = s ∷ others.subsets }))
     ≡ after (before ++ s ∷ []) x
 join_after before s (Ok others) =
@@ -76,9 +65,8 @@ join_after before s (Ok others) =
     (sym (append_assoc before (s ∷ []) others.subsets))
 join_after before s (Err e) = refl
 
--- one subset more was read
 pub one_more : (course : ℕ → Course) (n index used : ℕ) (text : List Bool) (before : List Subset)
-    (all : Result SubsetsRead ReadFault) (first : SubsetRead) → index < n
+    (all : Result SubsetsRead DataFault) (first : SubsetRead) → index < n
     → all ≡ after before (subsets_at course (index + 1) (n - index) used text)
     → fields_at (index + 1) 1 (course used) text ≡ Ok first
     → all
@@ -91,9 +79,8 @@ one_more course n index used text before all first below is found =
     (join_after before (record { fields = first.fields })
     (subsets_at course (index + 1 + 1) (n - (index + 1)) first.items first.rest))
 
--- the next subset cannot be read
 pub one_fails : (course : ℕ → Course) (n index used : ℕ) (text : List Bool) (before : List Subset)
-    (all : Result SubsetsRead ReadFault) (failure : Failure ReadFault) → index < n
+    (all : Result SubsetsRead DataFault) (failure : Failure DataFault) → index < n
     → all ≡ after before (subsets_at course (index + 1) (n - index) used text)
     → Fails failure (fields_at (index + 1) 1 (course used) text) → Fails failure all
 unfolding subsets_at
@@ -101,9 +88,8 @@ one_fails course n index used text before all (Fault fault) below is fails =
     is ∙ rw (one_less n index below, fails) refl
 one_fails course n index used text before all OutOfMemory below is fails = tt
 
--- all were read
 pub all_read : (course : ℕ → Course) (j n index used : ℕ) (text : List Bool) (before : List Subset)
-    (all : Result SubsetsRead ReadFault) → n ≤ index
+    (all : Result SubsetsRead DataFault) → n ≤ index
     → all ≡ after before (subsets_at course j (n - index) used text)
     → all ≡ Ok (record { subsets = before; items = used; rest = text })
 unfolding subsets_at
@@ -111,7 +97,6 @@ all_read course j n index used text before all past is =
     let none : n - index ≡ 0 = omega arith in
     is ∙ rw (none, append-nil before) refl
 
--- a view of what was read fails as the reading does
 pub fails_map : {A B F : Type 0} (failure : Failure F) (f : A → B) (x : Result A F)
     → Fails failure x → Fails failure (result_map f x)
 fails_map (Fault fault) f x fails = ap (result_map f) fails

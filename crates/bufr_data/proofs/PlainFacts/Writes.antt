@@ -1,16 +1,15 @@
--- The bits and the items of fields and of subsets that are written in turn: for `write_plain` and
--- `write_subsets`.
-use Rattle.bufr_answers.specs.Answers.{Fails, result_map}
+-- The bits and items of fields and subsets written in turn.
+use Rattle.bufr_base.specs.Answers.{Fails, result_map}
 use Rattle.std.proofs.Common.{◌≡◌, ℕ, ◌+◌, ◌<◌, ◌≤◌, Bool, true, List, [], ◌∷◌, ◌++◌, length, take}
 use Rattle.std.proofs.Common.{drop, get_or, Result, Ok, refl, sym, ap, subst, ◌∙◌}
 use Rattle.std.proofs.lemmas.List.{take_all, drop_all}
-use Rattle.bufr_answers.specs.declared.failure.Failure.{Failure}
-use Rattle.bufr_answers.specs.declared.failure.Failure.TheVariants.{Fault, OutOfMemory}
+use Rattle.bufr_base.specs.declared.failure.Failure.{Failure}
+use Rattle.bufr_base.specs.declared.failure.Failure.TheVariants.{Fault, OutOfMemory}
 use Rattle.bufr_expand.specs.declared.operators.Spec.{Spec}
 use Rattle.bufr_expand.specs.Courses.{Course, ends, stops, asks}
 use Rattle.bufr_fields.specs.declared.field.Field.{Field}
 use Rattle.bufr_fields.specs.declared.field.Subset.{Subset}
-use Rattle.bufr_fields.specs.declared.fault.WriteFault.{WriteFault}
+use Rattle.bufr_fields.specs.declared.fault.MisfitFault.{MisfitFault}
 use Rattle.bufr_fields.specs.Forms.{number_of, matches_spec, items_of, items_of_all}
 use Rattle.bufr_data.specs.Plain.{plain, plain_subsets}
 use Rattle.bufr_data.specs.Subsets.{has_own_form}
@@ -20,9 +19,6 @@ use Rattle.bufr_fields.specs.Fits.{HasForm}
 use Rattle.bufr_fields.specs.FormLaws.{asked_is, form_passes}
 use Rattle.bufr_data.proofs.ListFacts.{front_is, left_is, put_grown}
 
--- ---- fields one after the other
-
--- the bits that were put with those of one more
 pub bits_step : {X : Type 0} → (f : X → List Bool) (k : ℕ) (xs : List X) (x : X)
     (old mid new : List Bool) → k < length xs → x ≡ get_or xs k x
     → mid ≡ old ++ flat_map f (take k xs) → new ≡ mid ++ f x
@@ -30,36 +26,29 @@ pub bits_step : {X : Type 0} → (f : X → List Bool) (k : ℕ) (xs : List X) (
 bits_step f k xs x old mid new h is so_far put =
     put_grown f (take k xs) (take (k + 1) xs) x old mid new (front_is xs k x h is) so_far put
 
--- at the end they are those of all
 pub bits_end : (k : ℕ) (fields : List Field) (old new : List Bool) → length fields ≤ k
     → new ≡ old ++ plain (take k fields) → new ≡ old ++ plain fields
 bits_end k fields old new h so_far = so_far ∙ ap (λ fs. old ++ plain fs) (take_all k fields h)
 
--- ---- subsets one after the other
-
--- behind a subset that fits the others are counted
 one_more : (course : ℕ → Course) (j used n : ℕ) (s : Subset) (rest : List Subset)
     → items_of j 1 (course used) s.fields ≡ Ok n
     → items_of_all course j used (s ∷ rest) ≡ items_of_all course (j + 1) n rest
 unfolding items_of_all
 one_more course j used n s rest e = rw e refl
 
--- one that does not fails for all
 one_fails : (course : ℕ → Course) (j used : ℕ) (s : Subset) (rest : List Subset)
-    (e : Failure WriteFault) → Fails e (items_of j 1 (course used) s.fields)
+    (e : Failure MisfitFault) → Fails e (items_of j 1 (course used) s.fields)
     → Fails e (items_of_all course j used (s ∷ rest))
 unfolding items_of_all
 one_fails course j used s rest OutOfMemory h = tt
 one_fails course j used s rest (Fault f) h = rw h refl
 
--- no subset adds no items
 none_left : (course : ℕ → Course) (j used : ℕ) → items_of_all course j used [] ≡ Ok used
 unfolding items_of_all
 none_left course j used = refl
 
--- the subsets from the next one on
 pub subsets_step : (course : ℕ → Course) (k used n : ℕ) (subsets : List Subset) (s : Subset)
-    (whole : Result ℕ WriteFault) → k < length subsets → s ≡ get_or subsets k s
+    (whole : Result ℕ MisfitFault) → k < length subsets → s ≡ get_or subsets k s
     → whole ≡ items_of_all course (k + 1) used (drop k subsets)
     → items_of (k + 1) 1 (course used) s.fields ≡ Ok n
     → whole ≡ items_of_all course (k + 1 + 1) n (drop (k + 1) subsets)
@@ -67,9 +56,8 @@ subsets_step course k used n subsets s whole h is so_far e =
     so_far ∙ ap (λ ss. items_of_all course (k + 1) used ss) (left_is subsets k s h is)
     ∙ one_more course (k + 1) used n s (drop (k + 1) subsets) e
 
--- where one fails, what is written fails
 pub subsets_fail : (course : ℕ → Course) (k used : ℕ) (subsets : List Subset) (s : Subset)
-    (whole : Result ℕ WriteFault) (e : Failure WriteFault) → k < length subsets
+    (whole : Result ℕ MisfitFault) (e : Failure MisfitFault) → k < length subsets
     → s ≡ get_or subsets k s → whole ≡ items_of_all course (k + 1) used (drop k subsets)
     → Fails e (items_of (k + 1) 1 (course used) s.fields)
     → Fails e (result_map (λ items. plain_subsets subsets) whole)
@@ -79,9 +67,8 @@ subsets_fail course k used subsets s whole (Fault f) h is so_far fails =
     ∙ ap (λ ss. items_of_all course (k + 1) used ss) (left_is subsets k s h is)
     ∙ one_fails course (k + 1) used s (drop (k + 1) subsets) (Fault f) fails)
 
--- at the end all are written
 pub subsets_end : (course : ℕ → Course) (k used : ℕ) (subsets : List Subset)
-    (whole : Result ℕ WriteFault) → length subsets ≤ k
+    (whole : Result ℕ MisfitFault) → length subsets ≤ k
     → whole ≡ items_of_all course (k + 1) used (drop k subsets)
     → result_map (λ items. plain_subsets subsets) whole ≡ Ok (plain_subsets subsets)
 subsets_end course k used subsets whole h so_far =
@@ -89,15 +76,11 @@ subsets_end course k used subsets whole h so_far =
     (so_far ∙ ap (λ ss. items_of_all course (k + 1) used ss) (drop_all k subsets h)
     ∙ none_left course (k + 1) used)
 
--- ---- fields that were counted have their forms
-
--- a field that is asked for has a raw value of its form
 own_form : (d : ℕ) (spec : Spec) (f : Field) → matches_spec d spec f ≡ true → has_own_form f ≡ true
 own_form d spec f e =
     let is = asked_is d spec f e in
     form_passes f.spec f.raw (subst (λ (x : Spec). HasForm x f.raw) (sym is.1) is.2)
 
--- so has each field that is counted
 pub counted_forms : (j i : ℕ) (c : Course) (fields : List Field) (n : ℕ)
     → items_of j i c fields ≡ Ok n → list_all has_own_form fields ≡ true
 unfolding items_of

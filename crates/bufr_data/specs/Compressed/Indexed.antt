@@ -1,36 +1,37 @@
--- Compressed data that are indexed: where each column begins, and its values there.
+-- The index of compressed data: where each column begins, and its values (FM 94 BUFR, regulation
+-- 94.6.3).
 use Rattle.std.specs.Prelude.{◌≡◌, ℕ, zero, suc, ◌+◌, ◌*◌, ◌/◌, ◌≤◌, Bool, List, [], ◌∷◌, ◌++◌}
 use Rattle.std.specs.Prelude.{drop, length, Option, Some, None, option_map, Result, Ok, Err, IsOk}
 use Rattle.std.specs.Prelude.{nat_lt, if◌then◌else◌}
 use Rattle.std.specs.List.{AllByRecursion}
 use Rattle.bufr_bits.specs.Bits.{bits, number_at, octets_at}
-use Rattle.bufr_answers.specs.Answers.{result_map}
+use Rattle.bufr_base.specs.Answers.{result_map}
 use Rattle.bufr_expand.specs.Courses.{Course, course}
 use Rattle.bufr_expand.specs.Trees.{Tree}
 use Rattle.bufr_fields.specs.declared.field.Raw.{Raw}
 use Rattle.bufr_fields.specs.declared.field.Raw.TheVariants.{Number, Text}
 use Rattle.bufr_expand.specs.declared.operators.Spec.{Spec}
 use Rattle.bufr_data.specs.declared.compressed.index.Place.{Place}
-use Rattle.bufr_fields.specs.declared.fault.ReadFault.{ReadFault}
+use Rattle.bufr_fields.specs.declared.fault.DataFault.{DataFault}
 use Rattle.bufr_data.specs.Plain.{raw_at}
 use Rattle.bufr_data.specs.Compressed.{Column}
 use Rattle.bufr_data.specs.Compressed.Reading.{ColumnsFound, raised, filled, column_at, columns_at}
 
--- what an index shows: how many subsets there are, and their columns
+-- what contracts see of an index: the number of subsets, and the columns
 pub record Indexed : Type 0 where
   pub subsets : ℕ
   pub columns : List Column
 
--- the values that were read of a column
-abbrev pub values_of : Result (List Raw × List Bool) ReadFault → List Raw
+-- the values that were read
+abbrev pub values_of : Result (List Raw × List Bool) DataFault → List Raw
 values_of (Ok x) = x.0
 values_of (Err e) = []
 
 -- what is read at a place
-abbrev pub read_at : List ℕ → ℕ → Place → Result (List Raw × List Bool) ReadFault
+abbrev pub read_at : List ℕ → ℕ → Place → Result (List Raw × List Bool) DataFault
 read_at octets n p = column_at n 1 p.spec (drop p.bit (bits octets))
 
--- the column of so many subsets at a place
+-- the column of n subsets at a place
 abbrev pub column_from : List ℕ → ℕ → Place → Column
 column_from octets n p = record {
   fxy = p.fxy;
@@ -38,11 +39,11 @@ column_from octets n p = record {
   values = values_of (read_at octets n p);
 }
 
--- a column of so many subsets stands at a place
+-- a column of n subsets begins at a place
 abbrev pub Opens : List ℕ → ℕ → Place → Type 0
 Opens octets n p = (p.bit ≤ 8 * length octets) × IsOk (read_at octets n p)
 
--- a column is read at each place
+-- a column begins at every place
 abbrev pub AllOpen : List ℕ → ℕ → List Place → Type 0
 AllOpen octets n places = AllByRecursion (Opens octets n) places
 
@@ -51,9 +52,9 @@ pub record Ahead : Type 0 where
   pub index : Indexed
   pub rest : List Bool
 
--- the index of so many subsets at the front of the bits, or the first fault; without subsets
--- nothing is walked
-abbrev pub index_at : Tree → ℕ → List Bool → Result Ahead ReadFault
+-- the index of the subsets that begin the bits, or the first fault; without subsets it reads
+-- nothing
+abbrev pub index_at : Tree → ℕ → List Bool → Result Ahead DataFault
 index_at tree zero front =
     Ok (record { index = record { subsets = 0; columns = [] }; rest = front })
 index_at tree (suc n) front =
@@ -68,12 +69,12 @@ index_at tree (suc n) front =
 
 -- ---- one value of a column
 
--- the value of an increment that is there
+-- the value of an increment, if it is there
 abbrev pub raised_of : ℕ → ℕ → ℕ → Option (ℕ × List Bool) → Option Raw
 raised_of width minimum k None = None
 raised_of width minimum k (Some x) = raised width minimum k x.0
 
--- the value at this index behind R0 and NBINC: R0, or that of the increment or the text there
+-- the value at an index after R0 and NBINC: R0, or that of the increment or text there
 abbrev pub one_behind : Spec → Raw → ℕ → ℕ → List Bool → Option Raw
 one_behind spec minimum zero index rest = Some minimum
 one_behind spec (Number minimum) (suc k) index rest =
@@ -83,25 +84,25 @@ one_behind spec (Text ignored) (suc k) index rest =
     else option_map (λ x. filled (spec.width / 8) x.0)
     (octets_at (suc k) (drop (index * (suc k * 8)) rest))
 
--- the value at an index behind the width
+-- the value at an index after NBINC
 abbrev pub one_after_width : Spec → Raw → ℕ → Option (ℕ × List Bool) → Option Raw
 one_after_width spec minimum index None = None
 one_after_width spec minimum index (Some k) = one_behind spec minimum k.0 index k.1
 
--- the value at an index behind the minimum
+-- the value at an index after the minimum
 abbrev pub one_after_minimum : Spec → ℕ → Option (Raw × List Bool) → Option Raw
 one_after_minimum spec index None = None
 one_after_minimum spec index (Some x) = one_after_width spec x.0 index (number_at 6 x.1)
 
--- the value at this index of the column at the front of bits
+-- the value at an index in the column that begins the bits
 abbrev pub one_at : Spec → ℕ → List Bool → Option Raw
 one_at spec index front = one_after_minimum spec index (raw_at spec front)
 
 -- ---- indexing
 
--- these columns, and then those that are found
-abbrev pub behind_columns : List Column → Result ColumnsFound ReadFault
-    → Result ColumnsFound ReadFault
+-- these columns, and then those found
+abbrev pub behind_columns : List Column → Result ColumnsFound DataFault
+    → Result ColumnsFound DataFault
 behind_columns columns (Ok found) = Ok (record found { columns = columns ++ found.columns })
 behind_columns columns (Err e) = Err e
 

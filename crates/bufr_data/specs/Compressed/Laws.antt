@@ -9,7 +9,7 @@ use Rattle.bufr_data.specs.Compressed.{IsColumn}
 use Rattle.bufr_data.specs.Compressed.Reading.{column_at}
 use Rattle.bufr_data.specs.Compressed.Best.{best, can_be_column}
 
--- values that are read of one place stand in a column, and are so many
+-- values that are read are those of a column, one for each subset
 abbrev pub ColumnReadIsHeld : Type 0
 ColumnReadIsHeld =
     (n i : ℕ) (spec : Spec) (front : List Bool) (values : List Raw) (rest : List Bool)
@@ -17,19 +17,19 @@ ColumnReadIsHeld =
     → (column : List Bool) × (length values ≡ n) × IsColumn spec values column
     × (front ≡ column ++ rest)
 
--- values that stand in a column are read, and no others
+-- the values of a column are read, and no others
 abbrev pub HeldColumnIsRead : Type 0
 HeldColumnIsRead = (n i : ℕ) (spec : Spec) (values : List Raw) (column rest : List Bool)
     → length values ≡ n → IsColumn spec values column
     → column_at n i spec (column ++ rest) ≡ Ok (values, rest)
 
--- values that can be a column stand in the best one
+-- values that can share a column are those of the best one
 abbrev pub BestIsColumn : Type 0
 BestIsColumn = (spec : Spec) (values : List Raw) → 0 < length values
     → AllByRecursion (λ v. HasForm spec v) values → can_be_column spec values ≡ true
     → IsColumn spec values (best spec values)
 
--- where numbers stand in a column they stand in the best one, and no column of them is shorter
+-- numbers of a column are those of the best one, which is at most as long
 abbrev pub BestIsShortest : Type 0
 BestIsShortest = (spec : Spec) (values : List Raw) (column : List Bool)
     → (spec.kind ≡ kinds.Text → ⊥) → 0 < length values → IsColumn spec values column

@@ -1,13 +1,11 @@
--- The starts of plain subsets, as they are kept: listed, or, where all subsets are alike, at even
--- distances in bits and in items.
+-- The starts of plain subsets: listed, or evenly spaced in bits and in items.
 use Rattle.std.specs.Prelude.{ℕ, zero, suc, ◌+◌, ◌*◌, ◌<◌, ◌^◌, List, [], ◌∷◌}
 use Rattle.bufr_data.specs.declared.plain.alike.Alike.{Alike}
 use Rattle.bufr_data.specs.declared.plain.index.SubsetStart.{SubsetStart}
 use Rattle.bufr_data.specs.declared.plain.starts.Spacing.{Spacing}
 use Rattle.bufr_data.specs.declared.plain.starts.Spacing.TheVariants.{Listed, Even}
 
--- where a subset begins and ends that has so many before it, all alike, of which the first begins at
--- this bit
+-- the start of the subset with `before` others before it, all of one size, the first at this bit
 abbrev pub start_after : ℕ → Alike → ℕ → SubsetStart
 start_after bit each before = record {
   bit = bit + before * each.bits;
@@ -15,22 +13,22 @@ start_after bit each before = record {
   used = before * each.items;
 }
 
--- the start of a subset of these bits at a bit, before which the message has met so many items
+-- the start of a subset at a bit, with `used` items of the message before it
 abbrev pub start_here : ℕ → ℕ → Alike → SubsetStart
 start_here bit used each = record { bit = bit; end = bit + each.bits; used = used }
 
--- the starts of so many subsets, of which the first begins there
+-- the starts of evenly spaced subsets, the first at this bit
 abbrev pub even_starts : ℕ → ℕ → Alike → ℕ → List SubsetStart
 even_starts bit used each zero = []
 even_starts bit used each (suc n) =
     start_here bit used each ∷ even_starts (bit + each.bits) (used + each.items) each n
 
--- the starts that are kept
+-- the starts of a spacing
 abbrev pub starts_in : Spacing → List SubsetStart
 starts_in (Listed starts) = starts.items
 starts_in (Even bit each count) = even_starts bit 0 each count
 
--- no start is too great for its numbers
+-- the numbers of evenly spaced starts fit in 64 bits
 abbrev pub HasRoom : Spacing → Type 0
 HasRoom (Listed starts) = Unit {0}
 HasRoom (Even bit each count) =

@@ -1,5 +1,5 @@
--- The fields that each plain subset of a tree has, laid out once, where no count decides which they
--- are (FM 94 BUFR, regulations 94.5.4 and 94.5.5).
+-- Layouts: the fields of every plain subset of a tree, if no count decides them (FM 94 BUFR,
+-- regulations 94.5.4 and 94.5.5).
 use Rattle.std.specs.Prelude.{◌≡◌, ℕ, ◌+◌, ◌≤◌, false, List, [], ◌∷◌, map, Option, Some, None}
 use Rattle.std.specs.Prelude.{Ok}
 use Rattle.std.specs.List.{AllByRecursion}
@@ -14,15 +14,15 @@ use Rattle.bufr_expand.specs.Unrolling.{Told, Allows}
 use Rattle.bufr_expand.specs.Limits.{most_items}
 use Rattle.bufr_data.specs.declared.plain.layout.LaidField.{LaidField}
 use Rattle.bufr_data.specs.declared.plain.layout.Layout.{Layout}
-use Rattle.bufr_data.specs.declared.plain.plan.Plan.{Plan}
-use Rattle.bufr_data.specs.declared.plain.plan.Plan.TheVariants.{Unserved, Served, Laid, Unlaid}
+use Rattle.bufr_data.specs.declared.plain.plan.FieldLayout.{FieldLayout}
+use Rattle.bufr_data.specs.declared.plain.plan.FieldLayout.TheVariants.{Unserved, Served, Laid, Unlaid}
 
--- the course that asks for these fields one after the other, whatever their numbers are
+-- the course that asks for these fields, whatever their numbers are
 unfoldable pub laid_course : List LaidField → Course
 laid_course [] = ends 0
 laid_course (f ∷ fields) = asks 0 f.fxy f.spec (λ number. laid_course fields)
 
--- a field as an unrolling tells of it, whose number is not known
+-- a field of a layout as unrollings have it, with 0 for its unknown number
 abbrev pub told_laid : LaidField → Told
 told_laid f = record { fxy = f.fxy; spec = f.spec; number = 0 }
 
@@ -30,21 +30,21 @@ told_laid f = record { fxy = f.fxy; spec = f.spec; number = 0 }
 abbrev pub HaveNoCount : List LaidField → Type 0
 HaveNoCount fields = AllByRecursion (λ f. same_kind f.spec.kind kinds.Count ≡ false) fields
 
--- each subset of this tree has these fields, none a count, and so many items: however many items
--- the message has met before, its course asks for just them, where there is room for the items
+-- every subset of this tree has these fields, none a count, and these items: its course asks for
+-- exactly them, if the message has room
 pub record IsLaid (tree : Tree) (layout : Layout) : Type 0 where
   pub no_count : HaveNoCount layout.fields
   pub asked : (used : ℕ) → used + layout.items ≤ most_items
       → Allows (course tree used) (map told_laid layout.fields) (used + layout.items)
 
--- the fields of a tree's subsets are as they are laid out, where they are
-abbrev pub IsPlan : Tree → Plan → Type 0
-IsPlan tree Unserved = Unit {0}
-IsPlan tree Served = Unit {0}
-IsPlan tree (Laid layout) = IsLaid tree layout.value
-IsPlan tree Unlaid = Unit {0}
+-- a known layout is the layout of the tree's subsets
+abbrev pub IsFieldLayout : Tree → FieldLayout → Type 0
+IsFieldLayout tree Unserved = Unit {0}
+IsFieldLayout tree Served = Unit {0}
+IsFieldLayout tree (Laid layout) = IsLaid tree layout.value
+IsFieldLayout tree Unlaid = Unit {0}
 
--- a walk has told this field, which is no count, or its end
+-- a walk returned this field, which is no count, or its end
 abbrev pub TellsNext : Walk → Option LaidField → Walk → Type 0
 TellsNext old (Some f) new = Goes (left old) (Ok (steps.Field f.fxy f.spec)) new
 TellsNext old None new = Goes (left old) (Ok steps.End) new

@@ -1,4 +1,4 @@
--- Where no field stands in the data (FM 94 BUFR, regulation 94.1.3).
+-- Bits without a field (FM 94 BUFR, regulation 94.1.3).
 use Rattle.std.specs.Prelude.{◌≡◌, ◌≤◌, ◌%◌, Bool, List, ◌++◌}
 use Rattle.bufr_tables.specs.declared.element.Kind.TheVariants as kinds
 use Rattle.bufr_expand.specs.declared.operators.Spec.{Spec}
@@ -7,13 +7,13 @@ use Rattle.bufr_data.specs.Plain.{raw_bits}
 use Rattle.bufr_fields.specs.Fits.{HasForm}
 use Rattle.bufr_fields.specs.Limits.{most_raw_bits}
 
--- no field of this spec stands at the front of the bits
+-- the bits do not begin with a field of this spec
 abbrev pub BeginsWithNone : Spec → List Bool → Type 0
 BeginsWithNone spec front = (raw : Raw) (rest : List Bool) → HasForm spec raw
     → front ≡ raw_bits spec.width raw ++ rest → ⊥
 
--- the limits by which a field stands wherever there are as many bits as it has: a text has whole
--- octets, and a number at most 64 bits
+-- a spec whose field is in any bits that are long enough: a text of whole octets, or a number of at
+-- most 64 bits
 pub record IsWithinLimits (spec : Spec) : Type 0 where
   pub whole_octets : spec.kind ≡ kinds.Text → spec.width % 8 ≡ 0
   pub few_bits : (spec.kind ≡ kinds.Text → ⊥) → spec.width ≤ most_raw_bits

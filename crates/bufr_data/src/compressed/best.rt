@@ -1,4 +1,4 @@
-//! The best column of the values of one place.
+//! Writes the best column of a field's values; of numbers no column is shorter.
 
 ghost use Rattle.std.specs.Prelude.{◌≡◌, ◌+◌, ◌^◌, ◌<◌, ◌≤◌, ◌/◌, ◌∷◌, ◌++◌, ◌==◌, map, drop, true};
 ghost use Rattle.std.specs.Prelude.{false, OnOk, IfOk, nat_lt};
@@ -17,14 +17,14 @@ ghost use Rattle.bufr_fields.specs.Limits.{most_increment_bits};
 
 use crate::compressed::places::are_equal;
 use crate::plain::write::put_raw;
-use bufr_answers::OutOfMemory;
+use bufr_base::OutOfMemory;
 use bufr_bits::BitSink;
 use bufr_expand::Spec;
 use bufr_fields::{Field, Raw, Subset, is_greatest};
 use bufr_tables::Kind;
 use std::alloc::Global;
 
-/// Puts the best column of the values at a place: those of a field and of the other subsets there.
+/// Appends the column of a field and of the other subsets' fields at its place.
 pub(crate) fn put_best(
     alloc: Global,
     field: &Field,
@@ -53,11 +53,10 @@ pub(crate) fn put_best(
     }
 }
 
-/// As many zero octets as a text column's minimum has at most.
+/// The minimum of a column of texts, at its longest.
 const ZEROS: [u8; 63] = [0; 63];
 
-/// Puts the best column of texts that are not all the same: each whole, behind a minimum of zero
-/// bits.
+/// Appends a column of texts that differ: a minimum of zeros, and then each text whole.
 fn put_texts(
     field: &Field,
     others: &[Subset],
@@ -79,7 +78,6 @@ fn put_texts(
     Ok(())
 }
 
-/// Puts the octets of a subset's text at a place.
 fn put_text_at(subset: &Subset, place: usize, sink: &mut BitSink) -> Result<(), OutOfMemory>
     ensures put { OnOk result (sink.new ≡ sink.old ++ bits
         (octets_of (first_raw (drop place subset.now.fields)))) }
@@ -94,7 +92,6 @@ fn put_text_at(subset: &Subset, place: usize, sink: &mut BitSink) -> Result<(), 
     }
 }
 
-/// Puts the octets of a text.
 fn put_text(raw: &Raw, sink: &mut BitSink) -> Result<(), OutOfMemory>
     ensures put { OnOk result (sink.new ≡ sink.old ++ bits (octets_of raw.now)) }
     ensures kept { Extends sink.old sink.new }
@@ -105,7 +102,6 @@ fn put_text(raw: &Raw, sink: &mut BitSink) -> Result<(), OutOfMemory>
     }
 }
 
-/// The numbers at a place.
 fn numbers_from(
     alloc: Global,
     field: &Field,
@@ -132,7 +128,7 @@ fn number_at(subset: &Subset, place: usize) -> u64
     }
 }
 
-/// Puts the best column of numbers that are not all the same.
+/// Appends a column of numbers that differ.
 fn put_numbers(width: u32, numbers: &[u64], sink: &mut BitSink) -> Result<(), OutOfMemory>
     requires narrow { width ≤ most_increment_bits }
     requires forms { list_all (λ n. nat_lt n (2 ^ width)) numbers.now ≡ true }
@@ -149,7 +145,7 @@ fn put_numbers(width: u32, numbers: &[u64], sink: &mut BitSink) -> Result<(), Ou
     Ok(())
 }
 
-/// The increment of `k` bits of a number above a minimum: all ones where the number is missing.
+/// Returns the increment of a number; all ones means missing.
 fn increment(width: u32, minimum: u64, k: u32, number: u64) -> u64
     requires { k < 2 ^ 6 }
     ensures { result ≡ increment_of width minimum k number }
@@ -161,7 +157,6 @@ fn increment(width: u32, minimum: u64, k: u32, number: u64) -> u64
     }
 }
 
-/// The least of the numbers that are not missing; 0 where there is none.
 fn least_present(width: u32, numbers: &[u64]) -> u64
     ensures { result ≡ least (present width numbers.now) }
 {
@@ -184,7 +179,6 @@ fn lesser(width: u32, found: Option<u64>, number: u64) -> Option<u64>
     }
 }
 
-/// The greatest of the numbers that are not missing; 0 where there is none.
 fn greatest_present(width: u32, numbers: &[u64]) -> u64
     ensures { result ≡ greatest (present width numbers.now) }
 {
@@ -205,7 +199,7 @@ fn greater(width: u32, found: u64, number: u64) -> u64
     }
 }
 
-/// The fewest bits, at least 1, in which a difference is less than all ones.
+/// Returns the fewest bits, at least 1, that hold a difference below all ones.
 fn fewest_bits(difference: u64) -> u32
     ensures { result ≡ bests.fewest_bits most_increment_bits 1 difference }
 {

@@ -1,4 +1,4 @@
-//! The fields of a compressed subset, one at a time.
+//! Hands out the fields of a compressed subset.
 
 ghost use Rattle.std.specs.Prelude.{◌≡◌, ◌++◌, true, IfOk, IfSome, OnOk};
 ghost use Rattle.std.specs.Bool.{OnTrue, OnFalse};
@@ -8,15 +8,14 @@ ghost use Rattle.bufr_data.specs.Subsets.{Extends, has_own_form};
 
 use crate::compressed::index::{Place, value};
 use crate::plain::write::put_raw;
-use bufr_answers::OutOfMemory;
+use bufr_base::OutOfMemory;
 use bufr_bits::BitSink;
 use bufr_expand::Asks;
 use bufr_fields::Field;
 use std::alloc::Global;
 use std::marker::Model;
 
-/// The fields of a compressed subset that are left: the values at its index in the columns that are
-/// left.
+/// A reader of the fields left in a compressed subset: one value of each column.
 #[derive(Debug, Drop)]
 pub(crate) struct ColumnFields<'v> {
     pub(crate) octets: &'v [u8],
@@ -38,8 +37,7 @@ impl<'v> Model for ColumnFields<'v> {
 }
 
 impl<'v> ColumnFields<'v> {
-    /// The first of the fields that are left, and then those behind it are left; `None` where none
-    /// is. It can only run out of memory, where a text is copied; then all stay left.
+    /// Hands out the next field, or `None` at the end. After `OutOfMemory` it is still left.
     pub(crate) fn next(&mut self, alloc: Global) -> Result<Option<Field>, OutOfMemory>
         ensures first { IfOk result (λ found. HandsOut self.old found self.new) }
         ensures formed { IfOk result (λ found. IfSome found (λ f. has_own_form f ≡ true)) }
@@ -56,9 +54,7 @@ impl<'v> ColumnFields<'v> {
         }))
     }
 
-    /// The first of the fields that are left and are asked for, and then those behind it are left;
-    /// `None` where none is asked for, and then none is left. It can only run out of memory, as
-    /// `next`. Those that are not asked for are not read.
+    /// Hands out the next chosen field and skips the others unread.
     pub(crate) fn next_asked<A: Asks>(
         &mut self,
         alloc: Global,
@@ -69,7 +65,7 @@ impl<'v> ColumnFields<'v> {
         self.next(alloc)
     }
 
-    /// Passes the first of the fields that are left, where it is not asked for; it is not read.
+    /// Skips the next field if it is not chosen.
     fn pass_first<A: Asks>(&mut self) -> bool
         ensures passed { OnTrue result (PassesFirst A.is_asked self.old self.new) }
         ensures unmoved { OnFalse result (self.new ≡ self.old) }
@@ -85,8 +81,7 @@ impl<'v> ColumnFields<'v> {
         true
     }
 
-    /// Puts the bits of all fields that are left at a sink's end, as plain data have them. Each is
-    /// built and let go. `OutOfMemory` where a growth was refused; some of the bits may then be put.
+    /// Appends the bits of all fields as plain data, or a part if memory runs out.
     pub(crate) fn put(mut self, alloc: Global, sink: &mut BitSink) -> Result<(), OutOfMemory>
         ensures put { OnOk result (sink.new ≡ sink.old ++ plain self.entry) }
         ensures kept { Extends sink.old sink.new }

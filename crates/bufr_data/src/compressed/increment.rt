@@ -1,4 +1,4 @@
-//! Increments of numbers in compressed data.
+//! Adds increments to minimums.
 
 ghost use Rattle.std.specs.Prelude.{◌≡◌, ◌≤◌, ◌<◌, ◌+◌, ◌^◌, option_map, IfSome, nat_lt};
 ghost use Rattle.bufr_fields.specs.declared.field.Raw.TheVariants.{Number};
@@ -7,8 +7,8 @@ ghost use Rattle.bufr_fields.specs.Limits.{most_raw_bits};
 
 use bufr_fields::{MOST_RAW_BITS, is_greatest};
 
-/// The number of an increment of `k` bits above a minimum in a field of so many bits: all ones
-/// where the increment is all ones. `None` where the sum passes the field's greatest number.
+/// Adds an increment of `k` bits to a minimum of `width` bits; all ones stay all ones. `None` if
+/// the sum does not fit.
 pub(crate) fn raised(width: u32, minimum: u64, k: u32, increment: u64) -> Option<u64>
     requires narrow { width ≤ most_raw_bits }
     requires few { k < 2 ^ 6 }
@@ -26,7 +26,7 @@ pub(crate) fn raised(width: u32, minimum: u64, k: u32, increment: u64) -> Option
     }
 }
 
-/// The greatest number of a field of so many bits.
+/// Returns the greatest number of `width` bits.
 fn greatest(width: u32) -> u64
     requires { width ≤ most_raw_bits }
     ensures { result + 1 ≡ 2 ^ width }
@@ -38,7 +38,7 @@ fn greatest(width: u32) -> u64
     }
 }
 
-/// Whether no increment of `k` bits passes the greatest number of a field of so many bits.
+/// Returns whether no increment of `k` bits is too large.
 pub(crate) fn never_passes(width: u32, minimum: u64, k: u32) -> bool
     requires narrow { width ≤ most_raw_bits }
     requires few { k < 2 ^ 6 }

@@ -1,9 +1,9 @@
-//! Compressed data, one subset at a time.
+//! Finds the columns of compressed data.
 
 ghost use Rattle.std.specs.Prelude.{◌≡◌, ◌-◌, ◌<◌, ◌≤◌, map, get_or, true, Bool, List, Ok, Err};
 ghost use Rattle.std.specs.Prelude.{IfOk, IfErr, OnErr, OnOk, OnSome, ◌+◌, ◌++◌};
 ghost use Rattle.bufr_bits.specs.Ends.{left};
-ghost use Rattle.bufr_answers.specs.Answers.{Gives};
+ghost use Rattle.bufr_base.specs.Answers.{Gives};
 ghost use Rattle.bufr_expand.specs.Walks as walks;
 ghost use Rattle.bufr_expand.specs.Limits.{most_items};
 ghost use Rattle.bufr_fields.specs.declared.field.Raw.TheVariants.{Number};
@@ -22,17 +22,17 @@ ghost use Rattle.bufr_data.specs.Subsets.{Extends};
 use crate::compressed::fields::ColumnFields;
 use crate::compressed::pass::{pass_column, pass_factor};
 use crate::compressed::value::column_value;
-use crate::fields::{Fields, StandingFields};
+use crate::fields::{FieldSource, Fields};
 use crate::plain::read::fault_of;
-use bufr_answers::{Failure, Items, OutOfMemory};
+use bufr_base::{Failure, Items, OutOfMemory};
 use bufr_bits::{BitReader, BitSink};
 use bufr_expand::{Spec, Step, Template, Walk, WalkFault};
-use bufr_fields::{MOST_VALUES, Raw, ReadFault, Subset};
+use bufr_fields::{DataFault, MOST_VALUES, Raw, Subset};
 use bufr_tables::Fxy;
 use std::alloc::Global;
 use std::marker::Model;
 
-/// Where a column begins.
+/// A place of a column: its field and its first bit.
 #[derive(Clone, Copy, Debug, PartialEq)]
 pub(crate) struct Place {
     pub(crate) fxy: Fxy,
@@ -40,7 +40,7 @@ pub(crate) struct Place {
     pub(crate) bit: u128,
 }
 
-/// The columns of compressed subsets. It keeps where each column begins, and borrows the octets.
+/// An index of the columns of compressed subsets.
 #[derive(Debug, Drop)]
 pub struct Columns<'a> {
     octets: &'a [u8],
@@ -64,19 +64,16 @@ impl<'a> Model for Columns<'a> {
 }
 
 impl<'a> Columns<'a> {
-    /// The columns of so many subsets at the front of the bits (94.6.3). The reader moves past
-    /// exactly their bits; on an error it stays where it is. The first fault is answered, at one
-    /// field in this order: V6 `TooLarge` where an item would be the 16,777,217th or with this
-    /// field there would be more than 67,108,864 values, V1 `EffectiveRange`, V2 `DataEnds` with
-    /// subset 0 where minimum or width are not all there, V5 `CharIncrement`, V2 where the
-    /// increments are not all there, V4 `IncrementRange` with the subset, from 1, V3
-    /// `UnequalCounts`. `OutOfMemory` where a growth was refused.
+    /// Finds the columns of `subsets` subsets (94.6.3) and moves the reader past them. The fault is
+    /// the first, at one field in this order: V6 `TooLarge`, V1 `EffectiveRange`, V2 `DataEnds`
+    /// with subset 0 in the minimum or the width, V5 `CharIncrement`, V2 in the increments, V4
+    /// `IncrementRange`, V3 `UnequalCounts`.
     pub fn index(
         alloc: Global,
         template: &Template,
         reader: &mut BitReader<'a>,
         subsets: u16,
-    ) -> Result<Columns<'a>, Failure<ReadFault>>
+    ) -> Result<Columns<'a>, Failure<DataFault>>
         ensures exact { Gives {Y = Ahead} (λ c. record { index = c; rest = left reader.new }) result
             (index_at template.now subsets (left reader.old)) }
         ensures octets { reader.new.octets ≡ reader.old.octets }
@@ -98,76 +95,75 @@ impl<'a> Columns<'a> {
         }
     }
 
-    /// How many subsets there are.
+    /// Returns the number of subsets.
     pub fn count(&self) -> u16
         ensures { result ≡ self.now.subsets }
     {
         self.subsets
     }
 
-    /// The subset of this number, from 1. `OutOfMemory` where a growth was refused.
+    /// Builds a subset by its number, from 1.
     pub fn subset(&self, alloc: Global, number: u16) -> Result<Subset, OutOfMemory>
         requires first { 1 ≤ number }
         requires last { number ≤ self.now.subsets }
         ensures { IfOk result (λ s. s ≡ subset_of self.now.columns (number - 1)) }
     {
-        let fields = self.fields(number).rest(alloc)?;
+        self.subset_at(alloc, number - 1)
+    }
+
+    /// Builds the subset at an index, from 0. `OutOfMemory` where a growth was refused.
+    pub(crate) fn subset_at(&self, alloc: Global, index: u16) -> Result<Subset, OutOfMemory>
+        requires { index < self.now.subsets }
+        ensures { IfOk result (λ s. s ≡ subset_of self.now.columns index) }
+    {
+        let fields = self.fields(index).rest(alloc)?;
         Ok(Subset { fields })
     }
 
-    /// The fields of the subset of this number, from 1.
-    pub(crate) fn fields(&self, number: u16) -> Fields<'_>
-        requires first { 1 ≤ number }
-        requires last { number ≤ self.now.subsets }
-        ensures { result ≡ (subset_of self.now.columns (number - 1)).fields }
+    pub(crate) fn fields(&self, index: u16) -> Fields<'_>
+        requires { index < self.now.subsets }
+        ensures { result ≡ (subset_of self.now.columns index).fields }
     {
         Fields {
-            standing: StandingFields::Compressed(self.column_fields(number)),
+            standing: FieldSource::Compressed(self.column_fields(index)),
             room: self.places.len(),
         }
     }
 
-    /// Puts the bits of the subset of this number, from 1, at a sink's end, as plain data have
-    /// them. One field at a time is built. `OutOfMemory` where a growth was refused; some of the
-    /// bits may then be put.
     pub(crate) fn put(
         &self,
         alloc: Global,
-        number: u16,
+        index: u16,
         sink: &mut BitSink,
     ) -> Result<(), OutOfMemory>
-        requires first { 1 ≤ number }
-        requires last { number ≤ self.now.subsets }
+        requires { index < self.now.subsets }
         ensures put { OnOk result (sink.new
-            ≡ sink.old ++ plain (subset_of self.now.columns (number - 1)).fields) }
+            ≡ sink.old ++ plain (subset_of self.now.columns index).fields) }
         ensures kept { Extends sink.old sink.new }
     {
-        self.column_fields(number).put(alloc, sink)
+        self.column_fields(index).put(alloc, sink)
     }
 
-    /// The fields of the subset of this number, from 1, in the columns.
-    fn column_fields(&self, number: u16) -> ColumnFields<'_>
-        requires first { 1 ≤ number }
-        requires last { number ≤ self.now.subsets }
-        ensures { result ≡ (subset_of self.now.columns (number - 1)).fields }
+    fn column_fields(&self, index: u16) -> ColumnFields<'_>
+        requires { index < self.now.subsets }
+        ensures { result ≡ (subset_of self.now.columns index).fields }
     {
         ColumnFields {
             octets: self.octets,
             subsets: self.subsets,
             places: self.places.as_slice(),
-            index: number - 1,
+            index,
         }
     }
 }
 
-/// Where the columns of so many subsets begin, the first at the front of the bits. After an error
-/// the reader may have moved on.
+/// Finds the columns; after an error the reader may have moved.
 fn column_places(
     alloc: Global,
     template: &Template,
     reader: &mut BitReader,
     subsets: u16,
-) -> Result<Vec<Place>, Failure<ReadFault>>
+) -> Result<Vec<Place>, Failure<DataFault>>
     ensures exact { Gives {Y = Ahead} (λ places. record {
       index = record {
         subsets = subsets;
@@ -194,13 +190,13 @@ fn column_places(
     }
 }
 
-/// Where the column of field `i` begins, which is passed, or `None` at the end of the subsets.
+/// Passes the column of field `i`, or returns `None` at the end.
 fn next_place(
     walk: &mut Walk,
     reader: &mut BitReader,
     n: u16,
     i: u64,
-) -> Result<Option<Place>, ReadFault>
+) -> Result<Option<Place>, DataFault>
     requires ready { IsReady walk.old }
     requires some { 0 < n }
     requires few { i ≤ most_items + 1 }
@@ -233,19 +229,19 @@ fn next_place(
     }
 }
 
-/// Nothing, where `i` fields of `n` subsets are no more values than compressed data may have.
-fn within_limit(n: u16, i: u64) -> Result<(), ReadFault>
+/// Checks the limit on values.
+fn within_limit(n: u16, i: u64) -> Result<(), DataFault>
     requires { i ≤ most_items + 1 }
     ensures { result ≡ reading.within_limit n i (Ok tt) }
 {
     if i * u64::from(n) > MOST_VALUES {
-        return Err(ReadFault::TooLarge);
+        return Err(DataFault::TooLarge);
     }
     Ok(())
 }
 
-/// The fault of field `i` of `n` subsets, at which the walk stops.
-fn stop_fault(fault: WalkFault, n: u16, i: u64) -> ReadFault
+/// Returns the fault if the walk stops; the limit on values comes first.
+fn stop_fault(fault: WalkFault, n: u16, i: u64) -> DataFault
     requires { i ≤ most_items + 1 }
     ensures { reading.within_limit {A = ColumnsFound} n i (stopped fault) ≡ Err result }
 {
@@ -255,8 +251,6 @@ fn stop_fault(fault: WalkFault, n: u16, i: u64) -> ReadFault
     }
 }
 
-/// The value at this index in the column of so many subsets that begins at a place. It has its
-/// spec's form.
 pub(crate) fn value(
     alloc: Global,
     octets: &[u8],
@@ -275,14 +269,13 @@ pub(crate) fn value(
     Ok(value.unwrap())
 }
 
-/// All subsets, from the first on.
 pub(crate) fn all_subsets(alloc: Global, columns: &Columns) -> Result<Items<Subset>, OutOfMemory>
     ensures { IfOk result (λ subsets. subsets ≡ subsets_from 0 columns.now.subsets
         columns.now.columns) }
 {
     let mut subsets = Vec::new(alloc);
     for index in 0..columns.subsets {
-        subsets.push(columns.subset(alloc, index + 1)?)?;
+        subsets.push(columns.subset_at(alloc, index)?)?;
     }
     Ok(Items::from_vec(subsets))
 }

@@ -1,4 +1,4 @@
-//! Moving past one column of compressed data.
+//! Passes columns. After a fault the reader may have moved.
 
 ghost use Rattle.std.specs.Prelude.{◌≡◌, ◌≤◌, ◌<◌, ◌*◌, ◌^◌, length, drop, List, Ok, Err, IfOk};
 ghost use Rattle.std.specs.Prelude.{IfErr, OnOk, true, false, ◌==◌, ◌&&◌, if◌then◌else◌};
@@ -15,17 +15,16 @@ ghost use Rattle.bufr_fields.specs.Limits.{most_raw_bits};
 use crate::compressed::increment::{never_passes, raised};
 use bufr_bits::BitReader;
 use bufr_expand::Spec;
-use bufr_fields::{MOST_RAW_BITS, ReadFault};
+use bufr_fields::{DataFault, MOST_RAW_BITS};
 use bufr_tables::Kind;
 
-/// Moves past the column of field `i` in `n` subsets, which is no factor. Where no column stands
-/// there the reader may have moved on.
+/// Passes the column of field `i` in `n` subsets, which is no factor.
 pub(crate) fn pass_column(
     reader: &mut BitReader,
     spec: Spec,
     n: u16,
     i: u64,
-) -> Result<(), ReadFault>
+) -> Result<(), DataFault>
     ensures ok { OnOk result (PassesColumn n i spec (left reader.old) (left reader.new)) }
     ensures err { IfErr result (λ fault. column_at n i spec (left reader.old) ≡ Err fault) }
     ensures octets { reader.new.octets ≡ reader.old.octets }
@@ -37,15 +36,14 @@ pub(crate) fn pass_column(
     }
 }
 
-/// The same of a column of texts, none of which is read.
-fn pass_texts(reader: &mut BitReader, spec: Spec, n: u16, i: u64) -> Result<(), ReadFault>
+fn pass_texts(reader: &mut BitReader, spec: Spec, n: u16, i: u64) -> Result<(), DataFault>
     requires { spec.kind ≡ Text }
     ensures ok { OnOk result (PassesColumn n i spec (left reader.old) (left reader.new)) }
     ensures err { IfErr result (λ fault. column_at n i spec (left reader.old) ≡ Err fault) }
     ensures octets { reader.new.octets ≡ reader.old.octets }
     ensures onward { reader.old.place ≤ reader.new.place }
 {
-    let ends = ReadFault::DataEnds(0, i);
+    let ends = DataFault::DataEnds(0, i);
     let octets = u64::from(spec.width / 8);
     if !reader.pass(8 * u128::from(octets)) {
         return Err(ends);
@@ -55,7 +53,7 @@ fn pass_texts(reader: &mut BitReader, spec: Spec, n: u16, i: u64) -> Result<(), 
         Some(k) => k,
     };
     if k > octets {
-        return Err(ReadFault::CharIncrement(i));
+        return Err(DataFault::CharIncrement(i));
     }
     if reader.pass(8 * u128::from(k) * u128::from(n)) {
         Ok(())
@@ -64,8 +62,8 @@ fn pass_texts(reader: &mut BitReader, spec: Spec, n: u16, i: u64) -> Result<(), 
     }
 }
 
-/// The same of a column of numbers, which are read only where an increment may pass the width.
-fn pass_numbers(reader: &mut BitReader, spec: Spec, n: u16, i: u64) -> Result<(), ReadFault>
+/// Passes a column of numbers, and reads them only if one may be too large.
+fn pass_numbers(reader: &mut BitReader, spec: Spec, n: u16, i: u64) -> Result<(), DataFault>
     requires { same_kind spec.kind Text ≡ false }
     ensures ok { OnOk result (PassesColumn n i spec (left reader.old) (left reader.new)) }
     ensures err { IfErr result (λ fault. column_at n i spec (left reader.old) ≡ Err fault) }
@@ -76,7 +74,7 @@ fn pass_numbers(reader: &mut BitReader, spec: Spec, n: u16, i: u64) -> Result<()
     if k == 0 {
         return Ok(());
     }
-    let ends = ReadFault::DataEnds(0, i);
+    let ends = DataFault::DataEnds(0, i);
     let bits = u128::from(n) * u128::from(k);
     if never_passes(spec.width, minimum, k) {
         return if reader.pass(bits) { Ok(()) } else { Err(ends) };
@@ -88,14 +86,13 @@ fn pass_numbers(reader: &mut BitReader, spec: Spec, n: u16, i: u64) -> Result<()
     Ok(())
 }
 
-/// Moves past the column of field `i` in `n` subsets, which is a factor, and tells its one number.
-/// Where no column stands there, or its values differ, the reader may have moved on.
+/// Passes the column of a factor and returns its one number.
 pub(crate) fn pass_factor(
     reader: &mut BitReader,
     spec: Spec,
     n: u16,
     i: u64,
-) -> Result<u64, ReadFault>
+) -> Result<u64, DataFault>
     requires counts { same_kind spec.kind Count ≡ true }
     requires some { 0 < n }
     ensures ok { IfOk result (λ number. PassesFactor n i spec (left reader.old) number
@@ -110,18 +107,18 @@ pub(crate) fn pass_factor(
         return Ok(minimum);
     }
     if reader.left() < u128::from(n) * u128::from(k) {
-        return Err(ReadFault::DataEnds(0, i));
+        return Err(DataFault::DataEnds(0, i));
     }
     let (number, equal) = read_increments(reader, spec.width, minimum, k, n, i)?;
     if equal {
         Ok(number)
     } else {
-        Err(ReadFault::UnequalCounts(i))
+        Err(DataFault::UnequalCounts(i))
     }
 }
 
-/// The minimum R0 and the width NBINC of a column of numbers.
-fn column_head(reader: &mut BitReader, width: u32, i: u64) -> Result<(u64, u32), ReadFault>
+/// Reads the minimum R0 and the width NBINC.
+fn column_head(reader: &mut BitReader, width: u32, i: u64) -> Result<(u64, u32), DataFault>
     ensures ok { IfOk result (λ head. head_at i width (left reader.old)
         ≡ Ok (head, left reader.new)) }
     ensures narrow { OnOk result (width ≤ most_raw_bits) }
@@ -131,7 +128,7 @@ fn column_head(reader: &mut BitReader, width: u32, i: u64) -> Result<(u64, u32),
     ensures octets { reader.new.octets ≡ reader.old.octets }
     ensures onward { reader.old.place ≤ reader.new.place }
 {
-    let ends = ReadFault::DataEnds(0, i);
+    let ends = DataFault::DataEnds(0, i);
     if width > MOST_RAW_BITS {
         return Err(ends);
     }
@@ -145,7 +142,7 @@ fn column_head(reader: &mut BitReader, width: u32, i: u64) -> Result<(u64, u32),
     }
 }
 
-/// The first of the numbers of `n` increments, and whether all numbers are the same.
+/// Reads `n` increments; returns the first number, and whether all are equal.
 fn read_increments(
     reader: &mut BitReader,
     width: u32,
@@ -153,7 +150,7 @@ fn read_increments(
     k: u32,
     n: u16,
     i: u64,
-) -> Result<(u64, bool), ReadFault>
+) -> Result<(u64, bool), DataFault>
     requires narrow { width ≤ most_raw_bits }
     requires few { k < 2 ^ 6 }
     requires enough { n * k ≤ length (left reader.old) }
@@ -170,11 +167,11 @@ fn read_increments(
     let mut equal = true;
     for j in 0..n {
         let increment = match reader.take(k) {
-            None => return Err(ReadFault::DataEnds(0, i)),
+            None => return Err(DataFault::DataEnds(0, i)),
             Some(increment) => increment,
         };
         let number = match raised(width, minimum, k, increment) {
-            None => return Err(ReadFault::IncrementRange(u64::from(j) + 1, i)),
+            None => return Err(DataFault::IncrementRange(u64::from(j) + 1, i)),
             Some(number) => number,
         };
         first = first_number(j, first, number);
@@ -183,7 +180,6 @@ fn read_increments(
     Ok((first, equal))
 }
 
-/// The first number, once the number at this index is known.
 fn first_number(index: u16, first: u64, number: u64) -> u64
     ensures { result ≡ (if index == 0 then number else first) }
 {

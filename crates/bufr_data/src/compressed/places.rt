@@ -1,4 +1,4 @@
-//! The places of subsets that are written compressed.
+//! Checks that subsets can share columns.
 
 ghost use Rattle.std.specs.Prelude.{◌≡◌, ◌∷◌, ◌==◌, ◌&&◌, map, drop, Ok, Err, OnOk, IfErr};
 ghost use Rattle.std.specs.List.{list_all};
@@ -9,12 +9,12 @@ ghost use Rattle.bufr_fields.specs.Forms.{same_spec};
 ghost use Rattle.bufr_data.specs.Compressed.Places.{rows_from, values_from, columns_here};
 
 use bufr_expand::Spec;
-use bufr_fields::{Field, MOST_INCREMENT_BITS, Raw, Subset, WriteFault, is_same};
+use bufr_fields::{Field, MOST_INCREMENT_BITS, MisfitFault, Raw, Subset, is_same};
 use bufr_tables::Kind;
 
-/// Nothing, where each place of the first subset's fields can stand in one column with those of the
-/// other subsets, and none of these has more; else E2 with the first place that cannot, from 1.
-pub(crate) fn check_places(fields: &[Field], others: &[Subset]) -> Result<(), WriteFault>
+/// Checks that the other subsets have the fields of the first, no more, and values that can share a
+/// column; else returns E2 with the first field that fails, from 1.
+pub(crate) fn check_places(fields: &[Field], others: &[Subset]) -> Result<(), MisfitFault>
     ensures ok { OnOk result (columns_of 1 fields.now (rows_from 0 others.now)
         ≡ Ok (columns_here fields.now (rows_from 0 others.now))) }
     ensures err { IfErr result (λ fault. columns_of 1 fields.now (rows_from 0 others.now)
@@ -22,18 +22,16 @@ pub(crate) fn check_places(fields: &[Field], others: &[Subset]) -> Result<(), Wr
 {
     for (place, field) in fields.iter().enumerate() {
         if !is_one_place(field, others, place) {
-            return Err(WriteFault::NotCompressible(place as u64 + 1));
+            return Err(MisfitFault::NotCompressible(place as u64 + 1));
         }
     }
     if have_ended(others, fields.len()) {
         Ok(())
     } else {
-        Err(WriteFault::NotCompressible(fields.len() as u64 + 1))
+        Err(MisfitFault::NotCompressible(fields.len() as u64 + 1))
     }
 }
 
-/// Whether a field of the first subset and those of the others at its place can stand in one
-/// column.
 fn is_one_place(field: &Field, others: &[Subset], place: usize) -> bool
     ensures { result ≡ (list_all (begins_like field.now) (rows_from place others.now)
         && best.can_be_column field.now.spec (values_from field.now (rows_from place others.now))) }
@@ -42,8 +40,7 @@ fn is_one_place(field: &Field, others: &[Subset], place: usize) -> bool
         && (are_equal(&field.raw, others, place) || can_differ(field.spec))
 }
 
-/// Whether differing values of this spec can stand in a column: no factor, and at most 63 bits or,
-/// of a text, 63 octets.
+/// Returns whether values may differ: in no factor, and in at most 63 bits, or 63 octets of a text.
 fn can_differ(spec: Spec) -> bool
     ensures { result ≡ best.can_differ spec }
 {
@@ -54,7 +51,6 @@ fn can_differ(spec: Spec) -> bool
     }
 }
 
-/// Whether the other subsets have a field of this descriptor and this spec at a place.
 fn are_alike(field: &Field, others: &[Subset], place: usize) -> bool
     ensures { result ≡ list_all (begins_like field.now) (rows_from place others.now) }
 {
@@ -81,7 +77,6 @@ fn is_like(field: &Field, own: &Field) -> bool
     field.fxy == own.fxy && is_same(own.spec, field.spec)
 }
 
-/// Whether the other subsets have this value at a place.
 pub(crate) fn are_equal(raw: &Raw, others: &[Subset], place: usize) -> bool
     ensures { result ≡ reading.all_equal (raw.now ∷ map first_raw (rows_from place others.now)) }
 {
@@ -112,7 +107,6 @@ fn same_raw(a: &Raw, b: &Raw) -> bool
     }
 }
 
-/// Whether the other subsets have no field from a place on.
 fn have_ended(others: &[Subset], place: usize) -> bool
     ensures { result ≡ list_all is_empty (rows_from place others.now) }
 {

@@ -1,4 +1,4 @@
-//! One value of a column of compressed data.
+//! Reads one value of a column.
 
 ghost use Rattle.std.specs.Prelude.{◌≡◌, ◌≤◌, ◌<◌, ◌*◌, ◌/◌, length, drop, option_map, get_or};
 ghost use Rattle.std.specs.Prelude.{false, IfOk, Some};
@@ -11,14 +11,14 @@ ghost use Rattle.bufr_data.specs.Compressed.Reading as reading;
 ghost use Rattle.bufr_data.specs.Compressed.Indexed.{one_at};
 
 use crate::compressed::increment::raised;
-use bufr_answers::{Items, OutOfMemory};
+use bufr_base::{Items, OutOfMemory};
 use bufr_bits::BitReader;
 use bufr_expand::Spec;
 use bufr_fields::{MOST_RAW_BITS, Raw, are_ones};
 use bufr_tables::Kind;
 use std::alloc::Global;
 
-/// The value at this index of the column at the front of the bits, where there is one.
+/// Reads the value at `index` of the column, or returns `None` if there is none.
 pub(crate) fn column_value(
     alloc: Global,
     reader: &mut BitReader,
@@ -33,7 +33,6 @@ pub(crate) fn column_value(
     }
 }
 
-/// The same of a column of numbers.
 fn number_value(reader: &mut BitReader, spec: Spec, index: u16) -> Option<u64>
     requires { same_kind spec.kind Text ≡ false }
     ensures { option_map (λ n. raws.Number n) result ≡ one_at spec index (left reader.old) }
@@ -53,7 +52,6 @@ fn number_value(reader: &mut BitReader, spec: Spec, index: u16) -> Option<u64>
     raised(spec.width, minimum, k, increment)
 }
 
-/// The same of a column of texts.
 fn text_value(
     alloc: Global,
     reader: &mut BitReader,
@@ -89,8 +87,7 @@ fn text_value(
     }
 }
 
-/// A text in a field of so many octets, which it does not pass: filled with spaces, or all ones
-/// where it is all ones.
+/// Fills a text with spaces, or with ones if it is all ones.
 fn filled(mut own: Vec<u8>, octets: u64) -> Result<Items<u8>, OutOfMemory>
     requires { length own.items ≤ octets }
     ensures { IfOk result (λ text. raws.Text text ≡ reading.filled octets own.items) }

@@ -1,8 +1,8 @@
-//! Writing subsets column by column.
+//! Writes subsets column by column.
 
 ghost use Rattle.std.specs.Prelude.{◌≡◌, ◌++◌, ◌∷◌, length, map, true, Ok, OnOk};
 ghost use Rattle.std.specs.List.{list_all};
-ghost use Rattle.bufr_answers.specs.Answers.{Gives};
+ghost use Rattle.bufr_base.specs.Answers.{Gives};
 ghost use Rattle.bufr_data.specs.Compressed.Best.{best_bits, columns_of};
 ghost use Rattle.bufr_data.specs.Data.{each_fits, written_bits};
 ghost use Rattle.bufr_data.specs.Compressed.Places.{rows_from, columns_here};
@@ -10,23 +10,21 @@ ghost use Rattle.bufr_data.specs.Subsets.{Appends, Extends, has_own_form};
 
 use crate::compressed::best::put_best;
 use crate::compressed::places::check_places;
-use bufr_answers::{Failure, OutOfMemory};
+use bufr_base::{Failure, OutOfMemory};
 use bufr_bits::BitSink;
 use bufr_expand::Template;
-use bufr_fields::{Field, MOST_VALUES, Subset, WriteFault, fit_fields};
+use bufr_fields::{Field, MOST_VALUES, MisfitFault, Subset, fit_fields};
 use std::alloc::Global;
 
-/// Puts the best column of each place of the subsets at the sink's end, one after the other. On an
-/// error the sink is as before. The first fault is answered: subset by subset E1 `DoesNotFit`, and
-/// E3 `TooLarge` where an item would be the subset's 16,777,217th; then E2 `NotCompressible` with
-/// the field at which the subsets cannot stand in one column; then E3 where there are more than
-/// 67,108,864 values. `OutOfMemory` where a growth was refused.
+/// Appends the best column of each field. The fault is the first: subset by subset E1 `DoesNotFit`
+/// or E3 `TooLarge`; then E2 `NotCompressible` with the first field that can't be one column; then
+/// E3 above 67,108,864 values.
 pub fn write_compressed(
     alloc: Global,
     template: &Template,
     subsets: &[Subset],
     sink: &mut BitSink,
-) -> Result<(), Failure<WriteFault>>
+) -> Result<(), Failure<MisfitFault>>
     ensures { Appends sink.old sink.new result (written_bits template.now true subsets.now) }
 {
     fit_each(alloc, template, subsets)?;
@@ -39,7 +37,7 @@ pub fn write_compressed(
         return Err(Failure::Fault(fault));
     }
     if fields.len() as u128 * subsets.len() as u128 > u128::from(MOST_VALUES) {
-        return Err(Failure::Fault(WriteFault::TooLarge));
+        return Err(Failure::Fault(MisfitFault::TooLarge));
     }
     let len = sink.len_bits();
     match put_columns(alloc, fields, others, sink) {
@@ -51,12 +49,11 @@ pub fn write_compressed(
     }
 }
 
-/// Nothing, where each subset fits by itself, or the first misfit.
 fn fit_each(
     alloc: Global,
     template: &Template,
     subsets: &[Subset],
-) -> Result<(), Failure<WriteFault>>
+) -> Result<(), Failure<MisfitFault>>
     ensures { Gives (λ u. u) result (each_fits template.now 1 subsets.now) }
 {
     for (index, subset) in subsets.iter().enumerate() {
@@ -71,7 +68,7 @@ fn fit_each(
     Ok(())
 }
 
-/// Puts the best columns of the first subset's fields and of the other subsets at their places.
+/// Appends the columns of the fields, with the values of the other subsets.
 fn put_columns(
     alloc: Global,
     fields: &[Field],

@@ -1,43 +1,40 @@
-//! Plain subsets that are all alike: where a template asks for no count, each has as many bits and
-//! as many items as any other.
+//! Finds the common size of plain subsets: without counts, all have equal bits and items.
 
 ghost use Rattle.std.specs.Prelude.{IfOk, IfSome};
 ghost use Rattle.bufr_data.specs.Plain.Alike.{IsAlike, IsKnown};
 
 use crate::plain::pass::bits_of;
-use bufr_answers::OutOfMemory;
+use bufr_base::OutOfMemory;
 use bufr_bits::BitReader;
 use bufr_expand::{Step, Template, Walk};
 use std::alloc::Global;
 
-/// How many bits and how many items each plain subset of a template has.
+/// A size that all plain subsets have.
 #[derive(Clone, Copy, Debug, PartialEq)]
 pub(crate) struct Alike {
     pub(crate) bits: u64,
     pub(crate) items: u64,
 }
 
-// It is moved as two words, with no octets between them that nobody wrote.
+// The size moves as two words, without padding.
 const _: () = prove!(size_of::<Alike>() == 16);
 
-/// What is known of the plain subsets of a template: not asked yet, or not by as many bits as there
-/// were; or what each has; or that it takes a count, or a field that has no spec, to say.
+/// A common size, if known. `Unasked` may also mean that too few bits were there; `Varied` that
+/// there is none.
 #[derive(Clone, Copy, Debug, PartialEq)]
-pub(crate) enum Likeness {
+pub(crate) enum FixedSize {
     Unasked,
     Same(Alike),
     Varied,
 }
 
-impl Likeness {
-    /// What is to be known of the plain subsets of a template, where each has at most as many bits
-    /// as a reader has left, and as 64 bits can count. The template is walked once, and no data are
-    /// read.
+impl FixedSize {
+    /// Walks the template once to find the common size, if the reader has that many bits left.
     fn within(
         alloc: Global,
         template: &Template,
         reader: &BitReader,
-    ) -> Result<Likeness, OutOfMemory>
+    ) -> Result<FixedSize, OutOfMemory>
         ensures { IfOk result (IsKnown template.now) }
     {
         let most = reader.left().min(u64::MAX as u128) as u64;
@@ -51,20 +48,19 @@ impl Likeness {
             match walk.next() {
                 Ok(Step::Field(_, spec)) => match bits_of(spec) {
                     Some(more) if more <= most - bits => bits += more,
-                    Some(_) => return Ok(Likeness::Unasked),
-                    None => return Ok(Likeness::Varied),
+                    Some(_) => return Ok(FixedSize::Unasked),
+                    None => return Ok(FixedSize::Varied),
                 },
                 Ok(Step::End) => {
                     let items = walk.items();
-                    return Ok(Likeness::Same(Alike { bits, items }));
+                    return Ok(FixedSize::Same(Alike { bits, items }));
                 }
-                Ok(Step::Count(_, _)) | Err(_) => return Ok(Likeness::Varied),
+                Ok(Step::Count(_, _)) | Err(_) => return Ok(FixedSize::Varied),
             }
         }
     }
 
-    /// What each plain subset of the template has, where that is known: it is found out, and kept,
-    /// where it was not asked yet.
+    /// Returns the common size, and finds it on the first call.
     pub(crate) fn ask(
         &mut self,
         alloc: Global,
@@ -75,12 +71,12 @@ impl Likeness {
         ensures found { IfOk result (λ found. IfSome found (IsAlike template.now)) }
         ensures kept { IsKnown template.now self.new }
     {
-        if let Likeness::Unasked = self {
-            *self = Likeness::within(alloc, template, reader)?;
+        if let FixedSize::Unasked = self {
+            *self = FixedSize::within(alloc, template, reader)?;
         }
         match self {
-            Likeness::Same(each) => Ok(Some(*each)),
-            Likeness::Unasked | Likeness::Varied => Ok(None),
+            FixedSize::Same(each) => Ok(Some(*each)),
+            FixedSize::Unasked | FixedSize::Varied => Ok(None),
         }
     }
 }

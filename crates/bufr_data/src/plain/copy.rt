@@ -1,19 +1,18 @@
-//! Bits that are copied as they stand, or lent.
+//! Copies bits, or lends their octets.
 
 ghost use Rattle.std.specs.Prelude.{◌≡◌, ◌-◌, ◌*◌, ◌^◌, ◌<◌, ◌≤◌, ◌++◌, drop, length, take, IfSome};
 ghost use Rattle.std.specs.Prelude.{OnOk, OnErr};
 ghost use Rattle.bufr_bits.specs.Bits.{bin, bits};
 ghost use Rattle.bufr_data.specs.Subsets.{Extends, filled};
 
-use bufr_answers::OutOfMemory;
+use bufr_base::OutOfMemory;
 use bufr_bits::{BitReader, BitSink};
 
-/// How many bits are copied at a time, seven octets: wherever they begin, they stand in eight.
+/// Seven octets, which always lie within eight.
 const BITS_AT_ONCE: u32 = 56;
 
-/// Puts the bits of octets from one bit up to another at a sink's end: where they begin with an
-/// octet all whole octets at once, and else seven octets at a time. `OutOfMemory` where a growth was
-/// refused; some of the bits may then be put.
+/// Appends the bits from `from` to `end`: whole octets at once if `from` is a multiple of 8, else
+/// seven at a time. If memory runs out, a part may stay.
 pub(crate) fn copy_bits(
     octets: &[u8],
     from: u128,
@@ -35,7 +34,7 @@ pub(crate) fn copy_bits(
     copy_fields(octets, end - end % 8, end, sink)
 }
 
-/// The same, a field of seven octets after the other, and then the bits that are left.
+/// Appends the bits seven octets at a time.
 fn copy_fields(octets: &[u8], from: u128, end: u128, sink: &mut BitSink) -> Result<(), OutOfMemory>
     requires onward { from ≤ end }
     requires inside { end ≤ 8 * length octets.now }
@@ -51,8 +50,7 @@ fn copy_fields(octets: &[u8], from: u128, end: u128, sink: &mut BitSink) -> Resu
     Ok(())
 }
 
-/// Puts a number at a sink's end, in a field of seven octets at most. These are put as octets, which
-/// takes less than half the time. `OutOfMemory` where a growth was refused; nothing is then put.
+/// Appends a number; seven whole octets are faster as octets.
 fn put_field(width: u32, number: u64, sink: &mut BitSink) -> Result<(), OutOfMemory>
     requires width { width ≤ 56 }
     requires fits { number < 2 ^ width }
@@ -65,8 +63,8 @@ fn put_field(width: u32, number: u64, sink: &mut BitSink) -> Result<(), OutOfMem
     sink.put_bytes(&number.to_be_bytes()[1..])
 }
 
-/// The octets that the bits from one up to another are, where they begin with an octet and have
-/// zero bits behind them to an octet's end. No memory is taken.
+/// Lends the octets of these bits, if `from` is a multiple of 8 and zero bits follow `end` in its
+/// octet.
 pub(crate) fn lent_octets(octets: &[u8], from: u128, end: u128) -> Option<&[u8]>
     requires onward { from ≤ end }
     requires inside { end ≤ 8 * length octets.now }

@@ -1,17 +1,17 @@
-//! The fields of a plain subset, one at a time.
+//! Hands out the fields of a plain subset along a walk.
 
 ghost use Rattle.std.specs.Prelude.{IfOk};
 ghost use Rattle.bufr_data.specs.Handed.{HandsOut, HandsOutAsked};
 
 use crate::plain::read::read_field;
-use bufr_answers::OutOfMemory;
+use bufr_base::OutOfMemory;
 use bufr_bits::BitReader;
 use bufr_expand::{Asks, Walk};
 use bufr_fields::Field;
 use std::alloc::Global;
 use std::marker::Model;
 
-/// The fields of a plain subset that are left: what a walk over the template meets in the bits.
+/// A reader of the fields left in a plain subset, by a walk over the template.
 #[derive(Debug, Drop)]
 pub(crate) struct PlainFields<'v> {
     pub(crate) walk: Walk<'v>,
@@ -32,8 +32,7 @@ impl<'v> Model for PlainFields<'v> {
 }
 
 impl<'v> PlainFields<'v> {
-    /// The first of the fields that are left, and then those behind it are left; `None` where none
-    /// is. It can only run out of memory, where a text is copied; then none is left.
+    /// Hands out the next field, or `None` at the end. After `OutOfMemory` no field is left.
     pub(crate) fn next(&mut self, alloc: Global) -> Result<Option<Field>, OutOfMemory>
         ensures { IfOk result (λ found. HandsOut self.old found self.new) }
     {
@@ -53,9 +52,7 @@ impl<'v> PlainFields<'v> {
         }
     }
 
-    /// The first of the fields that are left and are asked for, and then those behind it are left;
-    /// `None` where none is asked for, and then none is left. It can only run out of memory, as
-    /// `next`. None is met behind the last that can be asked for, where the walk tells which that is.
+    /// Hands out the next chosen field; stops early if the walk shows that none is left.
     pub(crate) fn next_asked<A: Asks>(
         &mut self,
         alloc: Global,

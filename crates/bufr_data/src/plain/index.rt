@@ -1,9 +1,9 @@
-//! Plain data, one subset at a time.
+//! Finds the plain subsets of a message.
 
 ghost use Rattle.std.specs.Prelude.{◌≡◌, ◌+◌, ◌-◌, ◌*◌, ◌^◌, ◌<◌, ◌≤◌, map, length, slice_get, false, Bool, List};
 ghost use Rattle.std.specs.Prelude.{Some, IfOk, IfErr, IfSome, OnErr};
 ghost use Rattle.bufr_bits.specs.Ends.{left};
-ghost use Rattle.bufr_answers.specs.Answers.{Gives, Fails};
+ghost use Rattle.bufr_base.specs.Answers.{Gives, Fails};
 ghost use Rattle.bufr_expand.specs.Courses.{course};
 ghost use Rattle.bufr_fields.specs.declared.field.Subset.{Subset};
 ghost use Rattle.bufr_data.specs.Plain.Alike.{IsAlike};
@@ -11,7 +11,7 @@ ghost use Rattle.bufr_data.specs.Data.{subsets_in};
 ghost use Rattle.bufr_data.specs.Plain.{fields_at};
 ghost use Rattle.bufr_data.specs.Plain.Starts.{PassesSubset, AllBegin, subset_from};
 
-use crate::fields::{Fields, StandingFields};
+use crate::fields::{FieldSource, Fields};
 use crate::plain::alike::Alike;
 use crate::plain::fields::PlainFields;
 use crate::plain::laid_fields::LaidFields;
@@ -20,19 +20,19 @@ use crate::plain::pass::pass_subset;
 use crate::plain::read::FIELDS_WITH_ROOM;
 use crate::plain::read_each::of_subset;
 use crate::plain::starts::{Spacing, Starts};
-use bufr_answers::{Failure, OutOfMemory};
+use bufr_base::{Failure, OutOfMemory};
 use bufr_bits::BitReader;
 use bufr_expand::laws::courses_are_unrollings;
 use bufr_expand::{MOST_ITEMS, Template, Walk};
-use bufr_fields::ReadFault;
+use bufr_fields::DataFault;
 use std::alloc::Global;
 use std::marker::Model;
 use std::rc::Rc;
 
-/// The most octets whose bits 64 bits can count. No machine holds more.
+/// The most octets whose bits fit in 64 bits; no machine has more.
 const MOST_COUNTED_OCTETS: usize = usize::MAX / 8;
 
-/// Where a subset begins and where it ends, and how many items the message has met before it.
+/// A subset's first bit, the bit after it, and the items of the message before it.
 #[derive(Clone, Copy, Debug, PartialEq)]
 pub(crate) struct SubsetStart {
     pub(crate) bit: u128,
@@ -40,8 +40,7 @@ pub(crate) struct SubsetStart {
     pub(crate) used: u64,
 }
 
-/// The plain subsets of a message. It keeps where each begins, and borrows the octets. Where the
-/// fields of each are laid out, it shares them.
+/// An index of the plain subsets in some octets, with their layout if there is one.
 #[derive(Debug, Drop)]
 pub(crate) struct PlainSubsets<'a> {
     pub(crate) octets: &'a [u8],
@@ -65,22 +64,21 @@ impl<'a> Model for PlainSubsets<'a> {
 }
 
 impl<'a> PlainSubsets<'a> {
-    /// The fields of the subset of this number, from 1. They are met by a walk where they are not
-    /// laid out, and else no memory is taken. `OutOfMemory` where a growth was refused.
-    pub(crate) fn fields(&self, alloc: Global, number: usize) -> Result<Fields<'_>, OutOfMemory>
-        requires first { 1 ≤ number }
-        requires last { number ≤ length self.now }
+    /// Returns the fields of the subset at an index, from 0: by the layout, without memory, or by a
+    /// walk.
+    pub(crate) fn fields(&self, alloc: Global, index: usize) -> Result<Fields<'_>, OutOfMemory>
+        requires { index < length self.now }
         ensures { IfOk result (λ fields.
-            slice_get self.now (number - 1) ≡ Some (record { fields = fields })) }
+            slice_get self.now index ≡ Some (record { fields = fields })) }
     {
-        let start = self.starts.at(number);
+        let start = self.starts.at(index);
         match &self.layout {
             Some(layout) if layout.has_room(start.used) => {
                 let reader = BitReader::at(self.octets, start.bit);
                 let fields = layout.fields.as_slice();
                 let laid = LaidFields { fields, reader };
                 Ok(Fields {
-                    standing: StandingFields::Laid(laid),
+                    standing: FieldSource::Laid(laid),
                     room: fields.len(),
                 })
             }
@@ -94,7 +92,7 @@ impl<'a> PlainSubsets<'a> {
                     done: false,
                 };
                 Ok(Fields {
-                    standing: StandingFields::Plain(met),
+                    standing: FieldSource::Plain(met),
                     room,
                 })
             }
@@ -102,16 +100,14 @@ impl<'a> PlainSubsets<'a> {
     }
 }
 
-/// Where so many subsets begin, whose data the bits begin with. On an error the reader stays where
-/// it is. Where it is known what each subset has, and all their bits and items are there, they are
-/// passed at once, with no memory.
+/// Finds the starts of `count` subsets, at once if their common size is known.
 pub(crate) fn starts_of(
     alloc: Global,
     template: &Template,
     alike: Option<Alike>,
     reader: &mut BitReader,
     count: u16,
-) -> Result<Starts, Failure<ReadFault>>
+) -> Result<Starts, Failure<DataFault>>
     requires { IfSome alike (IsAlike template.now) }
     ensures exact { Gives {Y = List Subset × List Bool}
         (λ starts. (map (subset_from reader.old.octets template.now) starts, left reader.new))
@@ -142,13 +138,12 @@ pub(crate) fn starts_of(
     }
 }
 
-/// Where the one subset begins, whose data the bits begin with. After an error the reader may have
-/// moved on.
+/// Finds the start of a single subset; after an error the reader may have moved.
 fn only_start(
     alloc: Global,
     template: &Template,
     reader: &mut BitReader,
-) -> Result<Starts, Failure<ReadFault>>
+) -> Result<Starts, Failure<DataFault>>
     requires counted { 8 * length reader.old.octets < 2 ^ 64 }
     ensures exact { Gives {Y = List Subset × List Bool}
         (λ starts. (map (subset_from reader.old.octets template.now) starts, left reader.new))
@@ -167,15 +162,14 @@ fn only_start(
     })
 }
 
-/// Where so many subsets begin, each of which is passed by itself. After an error the reader may
-/// have moved on. Where there is one alone no list is made.
+/// Finds the starts one by one; after an error the reader may have moved.
 fn starts_in_turn(
     alloc: Global,
     template: &Template,
     alike: Option<Alike>,
     reader: &mut BitReader,
     count: u16,
-) -> Result<Starts, Failure<ReadFault>>
+) -> Result<Starts, Failure<DataFault>>
     requires { IfSome alike (IsAlike template.now) }
     ensures exact { Gives {Y = List Subset × List Bool}
         (λ starts. (map (subset_from reader.old.octets template.now) starts, left reader.new))
@@ -201,10 +195,8 @@ fn starts_in_turn(
     })
 }
 
-/// How many items the message has met behind the subset of this number, where it had met `used`
-/// before. The reader moves past exactly its bits; after an error it may have moved on. Where all
-/// subsets are alike it is passed by its bits alone, where these are there and the message has room
-/// for its items, and is walked only to be refused.
+/// Passes one subset and returns the items of the message after it. It walks a subset of known size
+/// only to find its fault.
 fn pass_one(
     alloc: Global,
     template: &Template,
@@ -212,7 +204,7 @@ fn pass_one(
     alike: Option<Alike>,
     number: u64,
     used: u64,
-) -> Result<u64, Failure<ReadFault>>
+) -> Result<u64, Failure<DataFault>>
     requires { IfSome alike (IsAlike template.now) }
     ensures ok { IfOk result (λ items. PassesSubset
         (fields_at 1 1 (course template.now used) (left reader.old)) items (left reader.new)) }
@@ -234,7 +226,6 @@ fn pass_one(
     }
 }
 
-/// The bit at which a reader stands, which is no further than its octets end.
 fn bit_of(reader: &BitReader) -> u128
     ensures is { result ≡ reader.now.place }
     ensures inside { result ≤ 8 * length reader.now.octets }

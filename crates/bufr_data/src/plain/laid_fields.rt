@@ -1,4 +1,4 @@
-//! The fields of a plain subset, one at a time, where they are laid out.
+//! Hands out the fields of a plain subset by its layout.
 
 ghost use Rattle.std.specs.Prelude.{◌≡◌, ◌≤◌, Bool, List, length, drop, Some, Ok, IfOk, IsOk, IfSome, IfNone};
 ghost use Rattle.bufr_bits.specs.Ends.{left};
@@ -13,7 +13,7 @@ ghost use Rattle.bufr_data.specs.Plain.Starts.{PassesRaw};
 use crate::plain::layout::LaidField;
 use crate::plain::pass::bits_of;
 use crate::plain::read::read_raw;
-use bufr_answers::OutOfMemory;
+use bufr_base::OutOfMemory;
 use bufr_bits::BitReader;
 use bufr_expand::{Asks, Spec};
 use bufr_fields::{Field, NumberField};
@@ -21,8 +21,7 @@ use bufr_tables::Kind;
 use std::alloc::Global;
 use std::marker::Model;
 
-/// The fields of a plain subset that are left, where it is known which they are: the template is
-/// not walked. Contracts see the list of the fields.
+/// A reader of the fields left in a plain subset with a layout. Contracts see the list of fields.
 #[derive(Debug, Drop)]
 pub struct LaidFields<'v> {
     pub(crate) fields: &'v [LaidField],
@@ -42,8 +41,7 @@ impl<'v> Model for LaidFields<'v> {
 }
 
 impl<'v> LaidFields<'v> {
-    /// The first of the fields that are left, and then those behind it are left; `None` where none
-    /// is. It can only run out of memory, where a text is copied; then none is left.
+    /// Hands out the next field, or `None` at the end. After `OutOfMemory` no field is left.
     // A call would move each field through memory.
     #[inline(always)]
     pub(crate) fn next(&mut self, alloc: Global) -> Result<Option<Field>, OutOfMemory>
@@ -69,9 +67,8 @@ impl<'v> LaidFields<'v> {
         }
     }
 
-    /// The first of the fields that are left and are asked for, and then those behind it are left;
-    /// `None` where none is asked for, and then none is left. It can only run out of memory, as
-    /// `next`. What no clause says: those that are not asked for are not read.
+    /// Hands out the next chosen field, or `None` if none is left, and skips the others unread.
+    /// After `OutOfMemory` no field is left.
     // A call would move each field through memory.
     #[inline(always)]
     pub fn next_asked<A: Asks>(&mut self, alloc: Global) -> Result<Option<Field>, OutOfMemory>
@@ -81,9 +78,8 @@ impl<'v> LaidFields<'v> {
         self.next(alloc)
     }
 
-    /// The first of the fields that are left and are asked for, where it is a number, and then those
-    /// behind it are left. `None` where it is a text, and where none is asked for; then those before
-    /// it are passed, and `next_asked` goes on. No field is built.
+    /// Hands out the next chosen field if it is a number. `None` at a text, for `next_asked` to
+    /// take, and at the end.
     // A call would move each field through memory.
     #[inline(always)]
     pub fn next_asked_number<A: Asks>(&mut self) -> Option<NumberField>
@@ -105,7 +101,7 @@ impl<'v> LaidFields<'v> {
         })
     }
 
-    /// Passes the fields in front that are not asked for, all at once; none of them is read.
+    /// Skips to the next chosen field.
     #[inline(always)]
     fn pass_unasked<A: Asks>(&mut self)
         ensures passed { PassesUnasked A.is_asked self.old self.new }
@@ -117,8 +113,7 @@ impl<'v> LaidFields<'v> {
     }
 }
 
-/// The same spec, of which each part is copied by itself: a copy of the whole takes the octets
-/// between its parts along, and these are slow to be moved on.
+/// Copies a spec part by part, since a copy of its padding is slow.
 #[inline(always)]
 fn by_parts(spec: Spec) -> Spec
     ensures { result ≡ spec }
@@ -137,8 +132,7 @@ fn by_parts(spec: Spec) -> Spec
     }
 }
 
-/// The number of a field of this spec, which is there at the front of the bits. `None` where it is a
-/// text; the reader then stays where it is.
+/// Reads a number that is there; at a text returns `None` without moving.
 #[inline(always)]
 fn read_number(spec: Spec, reader: &mut BitReader) -> Option<u64>
     requires { IsOk (raw_or_ends 1 1 (raw_at spec (left reader.old))) }
@@ -152,7 +146,7 @@ fn read_number(spec: Spec, reader: &mut BitReader) -> Option<u64>
     }
 }
 
-/// Moves a reader on by so many bits, which are left.
+/// Skips `bits` bits.
 fn move_on(reader: &mut BitReader, bits: u128)
     requires { bits ≤ length (left reader.old) }
     ensures { reader.new ≡ moved_on reader.old bits }
@@ -162,14 +156,14 @@ fn move_on(reader: &mut BitReader, bits: u128)
     }
 }
 
-/// The fields from the first on that is asked for, and how many bits those before it have.
+/// Finds the first chosen field, and the bits before it.
 fn first_asked<'f, A: Asks>(fields: &'f [LaidField], reader: &BitReader) -> (&'f [LaidField], u128)
     requires { StandLaid fields.now reader.now }
     ensures passed { PassesLaid A.is_asked fields.now result.0.now reader.now result.1 }
     ensures asked { FirstIsAsked A.is_asked
         (fields_laid result.0.now (moved_on reader.now result.1)) }
 {
-    // So many bits are a number: the sum stays below it.
+    // The bits left bound the sum.
     let _most = reader.left();
     let mut bits = 0u128;
     let mut left = fields;
@@ -183,7 +177,7 @@ fn first_asked<'f, A: Asks>(fields: &'f [LaidField], reader: &BitReader) -> (&'f
     (left, bits)
 }
 
-/// How many bits a field of this spec has that is there.
+/// Returns the bits of a field that is there.
 fn standing_bits(spec: Spec) -> u128
     ensures { (front : List Bool) → IsOk (raw_or_ends 1 1 (raw_at spec front))
         → (result ≤ length front) × PassesRaw 1 spec front (drop result front) }

@@ -1,5 +1,4 @@
-//! The fields that each plain subset of a template has, laid out once: where a template asks for no
-//! count, they are the same in all subsets, whatever the data are.
+//! Lays out the fields of plain subsets: without counts, all have the same.
 
 ghost use Rattle.std.specs.Prelude.{◌≡◌, ◌+◌, ◌≤◌, IfOk, IfSome};
 ghost use Rattle.std.specs.Bool.{OnTrue};
@@ -7,23 +6,23 @@ ghost use Rattle.bufr_expand.specs.Limits.{most_items};
 ghost use Rattle.bufr_data.specs.Plain.Layouts.{IsLaid, TellsNext};
 ghost use Rattle.bufr_fields.specs.Steady.{IsReady};
 
-use bufr_answers::{Items, OutOfMemory};
+use bufr_base::{Items, OutOfMemory};
 use bufr_expand::laws::courses_are_unrollings;
 use bufr_expand::{MOST_ITEMS, Spec, Step, Template, Walk};
 use bufr_tables::Fxy;
 use std::alloc::Global;
 
-/// How many fields of a subset are laid out at most.
+/// The most fields of a layout.
 const MOST_LAID_FIELDS: usize = 4096;
 
-/// A field that each subset has, by its descriptor and its spec.
+/// A field of every subset.
 #[derive(Clone, Copy, Debug, PartialEq)]
 pub(crate) struct LaidField {
     pub(crate) fxy: Fxy,
     pub(crate) spec: Spec,
 }
 
-/// The fields that each plain subset of a template has, in their order, and how many items it has.
+/// A layout: the fields of every subset in order, and the number of its items.
 #[derive(Debug, Drop)]
 pub(crate) struct Layout {
     pub(crate) fields: Items<LaidField>,
@@ -31,9 +30,8 @@ pub(crate) struct Layout {
 }
 
 impl Layout {
-    /// The fields that each plain subset of a template has, where it takes no count to say them,
-    /// each has a spec, and there are 4,096 at most. The template is walked once, and no data are
-    /// read.
+    /// Walks the template once. `None` if there is a count, a field without a spec, or too many
+    /// fields.
     pub(crate) fn of(alloc: Global, template: &Template) -> Result<Option<Layout>, OutOfMemory>
         ensures { IfOk result (λ found. IfSome found (IsLaid template.now)) }
     {
@@ -53,7 +51,7 @@ impl Layout {
         }
     }
 
-    /// Whether a message that has met so many items has room for those of one subset more.
+    /// Returns whether the message has room for one more subset.
     pub(crate) fn has_room(&self, used: u64) -> bool
         ensures { OnTrue result (used + self.now.items ≤ most_items) }
     {
@@ -61,8 +59,7 @@ impl Layout {
     }
 }
 
-/// The next field of a walk, or `None` at its end; refused where it asks for a count, and where it
-/// stops.
+/// Returns the next field of a walk, `None` at its end, or an error at a count or fault.
 fn next_laid(walk: &mut Walk) -> Result<Option<LaidField>, ()>
     requires { IsReady walk.old }
     ensures { IfOk result (λ next. TellsNext walk.old next walk.new) }

@@ -1,9 +1,9 @@
-//! Moving past one plain subset, of which only the counts are read.
+//! Passes plain subsets and reads only their counts. After a fault the reader may have moved.
 
 ghost use Rattle.std.specs.Prelude.{◌≡◌, ◌+◌, ◌≤◌, true, Ok, Err, IfOk, IfErr, OnOk, IfSome};
 ghost use Rattle.std.specs.Prelude.{IfNone, OnSome};
 ghost use Rattle.bufr_bits.specs.Ends.{left};
-ghost use Rattle.bufr_answers.specs.Answers.{Fails};
+ghost use Rattle.bufr_base.specs.Answers.{Fails};
 ghost use Rattle.bufr_tables.specs.declared.element.Kind.TheVariants.{Count};
 ghost use Rattle.bufr_tables.specs.Elements.{same_kind};
 ghost use Rattle.bufr_expand.specs.Courses.{course};
@@ -17,22 +17,20 @@ ghost use Rattle.bufr_data.specs.Plain.Starts.{PassesSubset};
 ghost use Rattle.bufr_fields.specs.Steady.{IsReady, WalkAdvances};
 
 use crate::plain::read::fault_of;
-use bufr_answers::Failure;
+use bufr_base::Failure;
 use bufr_bits::BitReader;
 use bufr_expand::{Spec, Step, Template, Walk};
-use bufr_fields::{MOST_RAW_BITS, ReadFault};
+use bufr_fields::{DataFault, MOST_RAW_BITS};
 use bufr_tables::Kind;
 use std::alloc::Global;
 
-/// How many items the message has met behind the subset at the front of the bits, where it had met
-/// `used` before. The reader moves past exactly the subset's bits; after an error it may have moved
-/// on.
+/// Passes a subset and returns the items of the message after it.
 pub(crate) fn pass_subset(
     alloc: Global,
     template: &Template,
     reader: &mut BitReader,
     used: u64,
-) -> Result<u64, Failure<ReadFault>>
+) -> Result<u64, Failure<DataFault>>
     ensures ok { IfOk result (λ items. PassesSubset
         (fields_at 1 1 (course template.now used) (left reader.old)) items (left reader.new)) }
     ensures err { IfErr result (λ e. Fails e
@@ -51,10 +49,9 @@ pub(crate) fn pass_subset(
     }
 }
 
-/// Moves past all turns that are left of a replication, where these are what comes next, each has
-/// the same fields whatever the data are, and all their bits are there; and else past field `i` of
-/// the subset. It answers the number of the next field, or that there is no field `i`.
-fn pass_next(walk: &mut Walk, reader: &mut BitReader, i: u64) -> Result<Option<u64>, ReadFault>
+/// Passes all turns left of a replication if they have one size, else field `i`, and returns the
+/// number of the next field, or `None` at the end.
+fn pass_next(walk: &mut Walk, reader: &mut BitReader, i: u64) -> Result<Option<u64>, DataFault>
     requires ready { IsReady walk.old }
     requires counted { i ≤ walks.items_met walk.old + 1 }
     ensures ok { IfOk result (λ next. PassesOn i (walks.left walk.old) (left reader.old) next
@@ -89,8 +86,7 @@ fn pass_next(walk: &mut Walk, reader: &mut BitReader, i: u64) -> Result<Option<u
     }
 }
 
-/// Moves past the raw value of field `i` of the subset, which is not read.
-fn pass_raw(spec: Spec, reader: &mut BitReader, i: u64) -> Result<(), ReadFault>
+fn pass_raw(spec: Spec, reader: &mut BitReader, i: u64) -> Result<(), DataFault>
     ensures ok { OnOk result (PassesRaw i spec (left reader.old) (left reader.new)) }
     ensures err { IfErr result (λ fault.
         raw_or_ends 1 i (raw_at spec (left reader.old)) ≡ Err fault) }
@@ -99,11 +95,10 @@ fn pass_raw(spec: Spec, reader: &mut BitReader, i: u64) -> Result<(), ReadFault>
 {
     match bits_of(spec) {
         Some(bits) if reader.pass(bits as u128) => Ok(()),
-        _ => Err(ReadFault::DataEnds(1, i)),
+        _ => Err(DataFault::DataEnds(1, i)),
     }
 }
 
-/// How many bits a field of this spec has: octets where it is a text, and else 64 bits at most.
 pub(crate) fn bits_of(spec: Spec) -> Option<u64>
     ensures takes { IfSome result (TakesBits spec) }
     ensures never { IfNone result (NoBitsHold spec) }
@@ -115,8 +110,7 @@ pub(crate) fn bits_of(spec: Spec) -> Option<u64>
     }
 }
 
-/// The number of field `i` of the subset, which is a count.
-fn take_count(spec: Spec, reader: &mut BitReader, i: u64) -> Result<u64, ReadFault>
+fn take_count(spec: Spec, reader: &mut BitReader, i: u64) -> Result<u64, DataFault>
     requires { same_kind spec.kind Count ≡ true }
     ensures ok { IfOk result (λ number.
         raw_or_ends 1 i (raw_at spec (left reader.old)) ≡ Ok (Number number, left reader.new)) }
@@ -126,10 +120,10 @@ fn take_count(spec: Spec, reader: &mut BitReader, i: u64) -> Result<u64, ReadFau
     ensures onward { reader.old.place ≤ reader.new.place }
 {
     if spec.width > MOST_RAW_BITS {
-        return Err(ReadFault::DataEnds(1, i));
+        return Err(DataFault::DataEnds(1, i));
     }
     match reader.take(spec.width) {
-        None => Err(ReadFault::DataEnds(1, i)),
+        None => Err(DataFault::DataEnds(1, i)),
         Some(number) => Ok(number),
     }
 }

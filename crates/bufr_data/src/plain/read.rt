@@ -1,8 +1,8 @@
-//! Reading subsets that stand one after the other.
+//! Reads one plain subset.
 
 ghost use Rattle.std.specs.Prelude.{◌≡◌, ◌≤◌, ℕ, Bool, List, Err, OnErr, OnSome, IfOk, IfErr};
 ghost use Rattle.bufr_bits.specs.Ends.{left};
-ghost use Rattle.bufr_answers.specs.Answers.{Gives, Fails};
+ghost use Rattle.bufr_base.specs.Answers.{Gives, Fails};
 ghost use Rattle.bufr_expand.specs.Courses.{course};
 ghost use Rattle.bufr_expand.specs.Walks as walks;
 ghost use Rattle.bufr_data.specs.Compressed.Reading.{ColumnsFound};
@@ -10,24 +10,22 @@ ghost use Rattle.bufr_data.specs.Plain.{SubsetRead, raw_at, stopped, fields_at};
 ghost use Rattle.bufr_data.specs.Plain.Reads.{raw_or_ends, Reads};
 ghost use Rattle.bufr_fields.specs.Steady.{IsReady, WalkAdvances};
 
-use bufr_answers::{Failure, Items};
+use bufr_base::{Failure, Items};
 use bufr_bits::BitReader;
 use bufr_expand::{Spec, Step, Template, Walk, WalkFault};
-use bufr_fields::{Field, MOST_RAW_BITS, Raw, ReadFault, Subset};
+use bufr_fields::{DataFault, Field, MOST_RAW_BITS, Raw, Subset};
 use bufr_tables::Kind;
 use std::alloc::Global;
 
-/// The subset at the front of the bits, and how many items the message has met by then, where it
-/// had met `used` before. The reader moves past exactly the subset's bits; on an error it stays
-/// where it is. The first fault is answered: V1 `EffectiveRange` with the element whose spec is out
-/// of range, V2 `DataEnds` with subset 1 and the field whose bits are not all there, V6 `TooLarge`
-/// where an item would be the message's 16,777,217th. `OutOfMemory` where a growth was refused.
+/// Reads a subset, moves the reader past it, and returns it with the items of the message after it;
+/// `used` come before. The fault is the first: V1 `EffectiveRange`, V2 `DataEnds` with subset 1 and
+/// the field, or V6 `TooLarge`.
 pub fn read_plain(
     alloc: Global,
     template: &Template,
     reader: &mut BitReader,
     used: u64,
-) -> Result<(Subset, u64), Failure<ReadFault>>
+) -> Result<(Subset, u64), Failure<DataFault>>
     ensures exact { Gives (λ x. record { fields = x.0.fields; items = x.1; rest = left reader.new })
         result (fields_at 1 1 (course template.now used) (left reader.old)) }
     ensures octets { reader.new.octets ≡ reader.old.octets }
@@ -42,17 +40,16 @@ pub fn read_plain(
     answer
 }
 
-/// How many fields of a subset are given room before any is read, where the template has as many
-/// nodes.
+/// The most fields to reserve room for before reading.
 pub(crate) const FIELDS_WITH_ROOM: usize = 64;
 
-/// The same, but that after an error the reader may have moved on.
+/// Reads a subset; after an error the reader may have moved.
 fn read_fields(
     alloc: Global,
     template: &Template,
     reader: &mut BitReader,
     used: u64,
-) -> Result<(Subset, u64), Failure<ReadFault>>
+) -> Result<(Subset, u64), Failure<DataFault>>
     ensures exact { Gives (λ x. record { fields = x.0.fields; items = x.1; rest = left reader.new })
         result (fields_at 1 1 (course template.now used) (left reader.old)) }
     ensures octets { reader.new.octets ≡ reader.old.octets }
@@ -68,13 +65,13 @@ fn read_fields(
     Ok((Subset { fields }, walk.items()))
 }
 
-/// Field `i` of the subset, or `None` at its end.
+/// Reads field `i`, or returns `None` at the end of the subset.
 pub(crate) fn read_field(
     alloc: Global,
     walk: &mut Walk,
     reader: &mut BitReader,
     i: u64,
-) -> Result<Option<Field>, Failure<ReadFault>>
+) -> Result<Option<Field>, Failure<DataFault>>
     requires { IsReady walk.old }
     ensures ok { IfOk result (λ o. Reads 1 i (walks.left walk.old) (left reader.old) o
         (walks.left walk.new) (walks.items_met walk.new) (left reader.new)) }
@@ -102,18 +99,16 @@ pub(crate) fn read_field(
     }
 }
 
-/// The fault of data at which the walk stops.
-pub(crate) fn fault_of(fault: WalkFault) -> ReadFault
+pub(crate) fn fault_of(fault: WalkFault) -> DataFault
     ensures fields { stopped {A = SubsetRead} fault ≡ Err result }
     ensures columns { stopped {A = ColumnsFound} fault ≡ Err result }
 {
     match fault {
-        WalkFault::TooLarge => ReadFault::TooLarge,
-        WalkFault::EffectiveRange(fxy) => ReadFault::EffectiveRange(fxy),
+        WalkFault::TooLarge => DataFault::TooLarge,
+        WalkFault::EffectiveRange(fxy) => DataFault::EffectiveRange(fxy),
     }
 }
 
-/// The raw value of field `i` of the subset.
 // A call would move each value through memory.
 #[inline(always)]
 pub(crate) fn read_raw(
@@ -121,13 +116,13 @@ pub(crate) fn read_raw(
     spec: Spec,
     reader: &mut BitReader,
     i: u64,
-) -> Result<Raw, Failure<ReadFault>>
+) -> Result<Raw, Failure<DataFault>>
     ensures exact { Gives {Y = Raw × List Bool} (λ raw. (raw, left reader.new)) result
         (raw_or_ends 1 i (raw_at spec (left reader.old))) }
     ensures octets { reader.new.octets ≡ reader.old.octets }
     ensures onward { reader.old.place ≤ reader.new.place }
 {
-    let ends = Failure::Fault(ReadFault::DataEnds(1, i));
+    let ends = Failure::Fault(DataFault::DataEnds(1, i));
     match spec.kind {
         Kind::Text => {
             let octets = reader.take_bytes(alloc, u64::from(spec.width / 8))?;

@@ -1,20 +1,19 @@
-//! Where the plain subsets of a message begin.
+//! The starts of a message's plain subsets.
 
-ghost use Rattle.std.specs.Prelude.{◌≡◌, ◌-◌, ◌≤◌, length, slice_get, Some};
+ghost use Rattle.std.specs.Prelude.{◌≡◌, ◌<◌, length, slice_get, Some};
 
 use crate::plain::alike::Alike;
 use crate::plain::index::SubsetStart;
 use std::marker::Model;
 
-/// How starts are kept: each by itself, or, where all subsets are alike, with no memory: by the bit
-/// at which the first begins, by what each subset has, and by how many there are.
+/// A spacing of starts: a list, or the first bit, the common size and the number of subsets.
 #[derive(Debug, Drop)]
 pub(crate) enum Spacing {
     Listed(Vec<SubsetStart>),
     Even(u64, Alike, usize),
 }
 
-/// Where the subsets of a message begin, one after the other. Contracts see the list of the starts.
+/// A list of the starts of all subsets. Contracts see it as a list.
 #[derive(Debug, Drop)]
 pub(crate) struct Starts {
     pub(crate) spacing: Spacing,
@@ -35,7 +34,6 @@ impl Model for Starts {
 }
 
 impl Starts {
-    /// How many there are.
     pub(crate) fn len(&self) -> usize
         ensures { result ≡ length self.now }
     {
@@ -45,16 +43,15 @@ impl Starts {
         }
     }
 
-    /// Where the subset of this number begins, from 1.
-    pub(crate) fn at(&self, number: usize) -> SubsetStart
-        requires first { 1 ≤ number }
-        requires last { number ≤ length self.now }
-        ensures { slice_get self.now (number - 1) ≡ Some result }
+    /// Returns the start of the subset at an index, from 0.
+    pub(crate) fn at(&self, index: usize) -> SubsetStart
+        requires { index < length self.now }
+        ensures { slice_get self.now index ≡ Some result }
     {
         match &self.spacing {
-            Spacing::Listed(starts) => starts[number - 1],
+            Spacing::Listed(starts) => starts[index],
             Spacing::Even(bit, each, _) => {
-                let before = (number - 1) as u64;
+                let before = index as u64;
                 let begins = *bit + before * each.bits;
                 let end = begins + each.bits;
                 SubsetStart {

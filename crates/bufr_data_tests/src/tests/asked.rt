@@ -1,4 +1,4 @@
-//! Fields that are asked for, met by a walk, laid out and compressed.
+//! Tests of chosen fields: along a walk, by a layout and in columns.
 
 ghost use Rattle.std.specs.Prelude.{◌==◌};
 
@@ -10,7 +10,6 @@ use bufr_tables::Fxy;
 use std::alloc::Global;
 use std::process::Abort;
 
-/// WMO block numbers, 0 01 001.
 struct Blocks;
 
 impl Asks for Blocks {
@@ -21,7 +20,6 @@ impl Asks for Blocks {
     }
 }
 
-/// Temperatures, 0 12 101.
 struct Temperatures;
 
 impl Asks for Temperatures {
@@ -32,7 +30,6 @@ impl Asks for Temperatures {
     }
 }
 
-/// Names of ships, 0 01 011.
 struct Names;
 
 impl Asks for Names {
@@ -60,8 +57,8 @@ const BETWEEN: Descriptors = &[
     (0, 12, 101),
 ];
 
-/// One subset of these: 10 in seven bits, 2 to the 63rd less 2 in 63, "SHIP1   ", 11 and 12 in
-/// seven, 384 in ten, 127 in seven, and 27315 in 16.
+/// One subset: 10 in seven bits, 2 to the 63rd less 2 in 63, "SHIP1   ", 11 and 12 in seven, 384 in
+/// ten, 127 in seven, and 27315 in 16.
 const BETWEEN_OCTETS: &[u8] = &[
     0x15, 0xFF, 0xFF, 0xFF, 0xFF, 0xFF, 0xFF, 0xFF, 0xF9, 0x4D, 0x21, 0x25, 0x40, 0xC4, 0x80, 0x80,
     0x80, 0x58, 0xC6, 0x03, 0xFB, 0x55, 0x98,
@@ -77,7 +74,7 @@ const MIXED: Descriptors = &[
     (0, 12, 101),
 ];
 
-/// Compares the numbers of the fields that are asked for; then no field is left.
+/// Compares the numbers of the chosen fields, which are all that is left.
 fn hands_out<A: Asks>(rt: &impl Abort, alloc: Global, mut fields: Fields<'_>, wanted: &[u64]) {
     for number in wanted {
         let found = fields.next_asked::<A>(alloc).expect(rt, "room");
@@ -87,7 +84,7 @@ fn hands_out<A: Asks>(rt: &impl Abort, alloc: Global, mut fields: Fields<'_>, wa
     same(rt, fields.next(alloc).expect(rt, "room"), None);
 }
 
-/// The same of fields that are laid out.
+/// Compares the chosen fields of a layout.
 fn hands_out_laid<A: Asks>(
     rt: &impl Abort,
     alloc: Global,
@@ -101,7 +98,7 @@ fn hands_out_laid<A: Asks>(
     same(rt, fields.next_asked::<A>(alloc).expect(rt, "room"), None);
 }
 
-/// The same, handed out as numbers, of which 127 alone is missing.
+/// Compares the chosen fields of a layout, handed out as numbers; only 127 is missing.
 fn hands_out_numbers<A: Asks>(rt: &impl Abort, mut fields: LaidFields<'_>, wanted: &[u64]) {
     for number in wanted {
         let found = fields.next_asked_number::<A>().expect(rt, "a number");
@@ -111,7 +108,7 @@ fn hands_out_numbers<A: Asks>(rt: &impl Abort, mut fields: LaidFields<'_>, wante
     same(rt, fields.next_asked_number::<A>(), None);
 }
 
-/// Compares the numbers of the last subset of an index, whose fields are laid out or not.
+/// Compares the numbers of the last subset of an index, with a layout or without.
 fn has_asked<A: Asks>(
     rt: &impl Abort,
     alloc: Global,
@@ -119,8 +116,8 @@ fn has_asked<A: Asks>(
     laid: bool,
     wanted: &[u64],
 ) {
-    let last = index.count();
-    assert!(rt; 1 <= last);
+    assert!(rt; 0 < index.count());
+    let last = index.count() - 1;
     hands_out::<A>(
         rt,
         alloc,
@@ -142,8 +139,8 @@ fn has_asked<A: Asks>(
     }
 }
 
-/// Compares those of the last of so many subsets, in each of three messages of these octets that
-/// one template serves: plain fields are laid out from the second on.
+/// Compares the last subset of three messages in turn, with one template: plain fields have a
+/// layout from the second message on.
 fn serves<A: Asks>(
     rt: &impl Abort,
     alloc: Global,
@@ -168,7 +165,7 @@ fn blocks_between_wide_fields(rt: HostRuntime) {
     let alloc = rt.alloc();
     let wanted = [10, 11, 12, 127];
     serves::<Blocks>(&rt, alloc, BETWEEN, false, 1, BETWEEN_OCTETS, &wanted);
-    // none is asked for: 16 bits and ten, 27315 and 384; then each with six zero bits behind it
+    // none is chosen: 16 bits and ten, 27315 and 384; then each with six zero bits after it
     let list: Descriptors = &[(0, 12, 101), (0, 1, 2)];
     let plain = [0x6A, 0xB3, 0x60, 0x00];
     serves::<Blocks>(&rt, alloc, list, false, 1, &plain, &[]);
@@ -185,7 +182,7 @@ fn temperatures_alone_are_asked_for(rt: HostRuntime) {
         0x40, 0xC0, 0x00, 0x00,
     ];
     serves::<Temperatures>(&rt, alloc, MIXED, false, 2, &plain, &[1, 2, 0]);
-    // the same places, each a minimum, NBINC, and both increments or texts where there are some
+    // the same fields, each a minimum, NBINC, and both increments or texts if there are any
     let columns = [
         0x42, 0x16, 0xAB, 0x30, 0x84, 0x00, 0x00, 0x24, 0x12, 0x04, 0x24, 0x30, 0x00, 0x50, 0x2F,
         0x00, 0x00, 0x0E, 0x11, 0x00,
@@ -203,8 +200,8 @@ fn texts_are_no_numbers(rt: HostRuntime) {
         let index = template
             .index(alloc, false, &mut reader, 1)
             .expect(&rt, "an index");
-        assert!(&rt; 1 <= index.count());
-        if let Ok(mut fields) = index.fields(alloc, 1).expect(&rt, "room").laid() {
+        assert!(&rt; 0 < index.count());
+        if let Ok(mut fields) = index.fields(alloc, 0).expect(&rt, "room").laid() {
             same(&rt, message, 1);
             same(&rt, fields.next_asked_number::<Names>(), None);
             let found = fields.next_asked::<Names>(alloc).expect(&rt, "room");
@@ -219,7 +216,7 @@ const EIGHT_BLOCKS: &[u8] = &[
     0x4F, 0x1A, 0xAA, 0xE3, 0x35, 0x56, 0x50,
 ];
 
-/// Compares the last of so many of these subsets, of a template's first message.
+/// Compares the last of `count` such subsets in a template's first message.
 fn serves_first(rt: &impl Abort, alloc: Global, count: u16, laid: bool, wanted: [u64; 2]) {
     let mut template = DataTemplate::new(template(rt, alloc, &[(0, 12, 101), (0, 1, 1)]));
     let mut reader = BitReader::new(EIGHT_BLOCKS);
@@ -227,8 +224,8 @@ fn serves_first(rt: &impl Abort, alloc: Global, count: u16, laid: bool, wanted: 
         .index(alloc, false, &mut reader, count)
         .expect(rt, "an index");
     has_asked::<Blocks>(rt, alloc, &index, laid, &wanted[1..]);
-    let last = index.count();
-    assert!(rt; 1 <= last);
+    assert!(rt; 0 < index.count());
+    let last = index.count() - 1;
     let mut fields = index.fields(alloc, last).expect(rt, "room");
     for number in wanted {
         let found = fields.next(alloc).expect(rt, "room");
@@ -236,7 +233,7 @@ fn serves_first(rt: &impl Abort, alloc: Global, count: u16, laid: bool, wanted: 
     }
 }
 
-/// A template's first message of seven subsets is walked, and one of eight is laid out.
+/// A first message of seven subsets is walked; one of eight has a layout.
 #[test]
 fn first_messages_of_many_subsets(rt: HostRuntime) {
     serves_first(&rt, rt.alloc(), 7, false, [27307, 70]);

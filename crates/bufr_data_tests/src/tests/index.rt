@@ -1,4 +1,4 @@
-//! Subsets asked for one at a time, and their octets that are lent.
+//! Tests of subsets by number, and of lent octets.
 
 use super::same;
 use super::samples::{DELAYED, Descriptors, TEMPERATURE, Wanted, octets_of, same_subset, template};
@@ -19,7 +19,7 @@ const TURNS: &[u8] = &[
     0x6A, 0xB3, 0x6A, 0xB4, 0x00, 0x01, 0x00, 0x02, 0xFF, 0xFF, 0x00, 0x00, 0x07,
 ];
 
-/// The index of octets, which ends at this place and has so many subsets.
+/// Indexes octets and compares the place after them and the number of subsets.
 pub(crate) fn indexed<'a>(
     rt: &impl Abort,
     alloc: Global,
@@ -39,15 +39,14 @@ pub(crate) fn indexed<'a>(
     index
 }
 
-/// Compares what the subset of a number has, which is built when asked.
-fn has(rt: &impl Abort, alloc: Global, index: &SubsetIndex, number: usize, wanted: Wanted) {
-    assert!(rt; 1 <= number && number <= index.count());
-    let subset = index.subset(alloc, number).expect(rt, "room");
+fn has(rt: &impl Abort, alloc: Global, index: &SubsetIndex, at: usize, wanted: Wanted) {
+    assert!(rt; at < index.count());
+    let subset = index.subset(alloc, at).expect(rt, "room");
     same_subset(rt, &subset, wanted.0, wanted.1);
 }
 
-/// Descriptors, whether compressed, how many subsets, their octets, the place behind them, and
-/// subsets by their number, in the order in which they are asked for.
+/// Descriptors, whether compressed, the number of subsets, their octets, the place after them, and
+/// subsets by index in the order of the calls.
 type Row<'a> = (
     Descriptors<'a>,
     bool,
@@ -57,17 +56,16 @@ type Row<'a> = (
     &'a [(usize, Wanted<'a>)],
 );
 
-/// Compares subsets of the index of a row.
 fn answers(rt: &impl Abort, alloc: Global, row: &Row) {
     let (list, compressed, count, octets, place, subsets) = *row;
     let index = indexed(rt, alloc, list, compressed, count, octets, place);
-    for (number, wanted) in subsets {
-        has(rt, alloc, &index, *number, *wanted);
+    for (at, wanted) in subsets {
+        has(rt, alloc, &index, *at, *wanted);
     }
 }
 
 const ROWS: &[Row] = &[
-    // counts: another subset begins where the one before it ends
+    // counts: each subset begins at the end of the one before
     (
         DELAYED,
         false,
@@ -75,10 +73,10 @@ const ROWS: &[Row] = &[
         &[0x00, 0x02, 0x6A, 0xB3, 0x6A, 0xB4, 0x01, 0x00, 0x05, 0xFF],
         72,
         &[
-            (3, (&[1, 5], &[])),
-            (1, (&[0], &[])),
-            (2, (&[2, 27315, 27316], &[])),
-            (3, (&[1, 5], &[])),
+            (2, (&[1, 5], &[])),
+            (0, (&[0], &[])),
+            (1, (&[2, 27315, 27316], &[])),
+            (2, (&[1, 5], &[])),
         ],
     ),
     (
@@ -88,9 +86,9 @@ const ROWS: &[Row] = &[
         &[0x6A, 0xB3, 0x08, 0x40],
         26,
         &[
-            (2, (&[27316], &[])),
-            (1, (&[27315], &[])),
-            (2, (&[27316], &[])),
+            (1, (&[27316], &[])),
+            (0, (&[27315], &[])),
+            (1, (&[27316], &[])),
         ],
     ),
     // two bits, and "A ", twice: 01 01000001 00100000 10 01000010 01000011
@@ -100,7 +98,7 @@ const ROWS: &[Row] = &[
         2,
         &[0x50, 0x48, 0x24, 0x24, 0x30],
         36,
-        &[(1, (&[1, 0], b"A ")), (2, (&[2, 0], b"BC"))],
+        &[(0, (&[1, 0], b"A ")), (1, (&[2, 0], b"BC"))],
     ),
     // no subset
     (TEMPERATURE, false, 0, &[0xFF], 0, &[]),
@@ -113,9 +111,9 @@ const ROWS: &[Row] = &[
         THREE_STATIONS,
         51,
         &[
-            (2, (&[3, 1000], &[])),
-            (3, (&[127, 0], &[])),
-            (1, (&[94, 578], &[])),
+            (1, (&[3, 1000], &[])),
+            (2, (&[127, 0], &[])),
+            (0, (&[94, 578], &[])),
         ],
     ),
     (
@@ -125,9 +123,9 @@ const ROWS: &[Row] = &[
         TURNS,
         96,
         &[
-            (1, (&[27315, 27316], &[])),
-            (2, (&[1, 2], &[])),
-            (3, (&[65535, 0], &[])),
+            (0, (&[27315, 27316], &[])),
+            (1, (&[1, 2], &[])),
+            (2, (&[65535, 0], &[])),
         ],
     ),
 ];
@@ -139,8 +137,8 @@ fn subsets_in_any_order(rt: HostRuntime) {
     }
 }
 
-/// Descriptors, whether compressed, the octets, the place behind the subsets, and the octets that
-/// are lent of each, or none.
+/// Descriptors, whether compressed, the octets, the place after the subsets, and the lent octets of
+/// each, or none.
 type Lent<'a> = (
     Descriptors<'a>,
     bool,
@@ -161,7 +159,7 @@ const LENT: &[Lent] = &[
             Some(&[0x00, 0x05, 0xFF, 0xFE]),
         ],
     ),
-    // 0000110 1001011001, and seven bits behind it, all zero or not
+    // 0000110 1001011001, and then seven bits, all zero or not
     (
         STATION,
         false,
@@ -182,16 +180,13 @@ const LENT: &[Lent] = &[
     (TEMPERATURE, true, &[0x6A, 0xB3, 0x00], 22, &[None, None]),
 ];
 
-/// Compares the octets that are lent of each subset of a row.
 fn lends(rt: &impl Abort, alloc: Global, row: &Lent) {
     let (list, compressed, octets, place, subsets) = *row;
     let count = u16::try_from(subsets.len()).expect(rt, "a number");
     let index = indexed(rt, alloc, list, compressed, count, octets, place);
-    let mut number = 1;
-    for wanted in subsets {
-        assert!(rt; 1 <= number && number <= index.count());
-        same(rt, index.lent(number), *wanted);
-        number = number.checked_add(1).expect(rt, "a number");
+    for (at, wanted) in subsets.iter().enumerate() {
+        assert!(rt; at < index.count());
+        same(rt, index.lent(at), *wanted);
     }
 }
 
@@ -202,12 +197,12 @@ fn octets_that_are_lent(rt: HostRuntime) {
     }
 }
 
-/// Bits of which those of a subset begin with the fourth.
+/// Bits of a subset that begin with the fourth.
 const OFF_AN_EDGE: &[u8] = &[
     0x57, 0x0C, 0x42, 0xBD, 0xA5, 0x6A, 0x7F, 0xF3, 0x67, 0xC6, 0x53, 0xCF, 0xAA, 0x0C, 0xBF,
 ];
 
-/// Descriptors of a subset of 0, 1, 55, 56, 57, 112 and 113 bits, and its octets that are put.
+/// Descriptors of a subset of 0, 1, 55, 56, 57, 112 and 113 bits, and the octets put.
 const PUT: &[(Descriptors, &[u8])] = &[
     (&[], &[]),
     (&[(2, 1, 122), (0, 1, 1)], &[0x80]),
@@ -248,9 +243,9 @@ fn bits_that_are_put(rt: HostRuntime) {
         let index = SubsetIndex::index(alloc, template, false, &mut reader, 1).expect(
             &rt, "an index",
         );
-        assert!(&rt; 1 <= index.count());
+        assert!(&rt; 0 < index.count());
         let mut sink = BitSink::new(alloc);
-        index.put(alloc, 1, &mut sink).expect(&rt, "room");
+        index.put(alloc, 0, &mut sink).expect(&rt, "room");
         same(&rt, octets_of(sink).as_slice(), *wanted);
     }
 }

@@ -1,4 +1,5 @@
-//! A thousand subsets of thirty fields: want of memory meets every contract, so each is compared.
+//! Tests of a thousand subsets of thirty fields. Want of memory meets every contract, so these
+//! compare all of them.
 
 use super::index::indexed;
 use super::same;
@@ -11,7 +12,6 @@ use std::process::Abort;
 /// Thirty temperatures.
 const THIRTY: Descriptors = &[(1, 1, 30), (0, 12, 101)];
 
-/// The plain octets of the subsets.
 fn plain_octets(rt: &impl Abort, alloc: Global) -> Vec<u8> {
     let mut plain = BitSink::new(alloc);
     for subset in 0u64..1000 {
@@ -22,7 +22,6 @@ fn plain_octets(rt: &impl Abort, alloc: Global) -> Vec<u8> {
     octets_of(plain)
 }
 
-/// The octets of subsets.
 fn written(rt: &impl Abort, alloc: Global, compressed: bool, subsets: &[Subset]) -> Vec<u8> {
     let template = template(rt, alloc, THIRTY);
     let mut sink = BitSink::new(alloc);
@@ -30,7 +29,7 @@ fn written(rt: &impl Abort, alloc: Global, compressed: bool, subsets: &[Subset])
     octets_of(sink)
 }
 
-/// Each subset that is asked for is the one that was read.
+/// Compares each subset of an index with the one that was read.
 fn assert_each(
     rt: &impl Abort,
     alloc: Global,
@@ -40,12 +39,10 @@ fn assert_each(
     subsets: &[Subset],
 ) {
     let index = indexed(rt, alloc, THIRTY, compressed, 1000, octets, place);
-    let mut number = 1;
-    for wanted in subsets {
-        assert!(rt; 1 <= number && number <= index.count());
-        let found = index.subset(alloc, number).expect(rt, "room");
+    for (at, wanted) in subsets.iter().enumerate() {
+        assert!(rt; at < index.count());
+        let found = index.subset(alloc, at).expect(rt, "room");
         same(rt, &found, wanted);
-        number = number.saturating_add(1);
     }
 }
 

@@ -1,20 +1,19 @@
-//! Tables, templates and subsets that several tests use.
+//! Tables, templates and subsets for several tests.
 
 use super::same;
-use bufr_answers::Items;
+use bufr_base::Items;
 use bufr_bits::{BitReader, BitSink};
 use bufr_data::{Field, Raw, Subset, read_subsets};
 use bufr_expand::Template;
-use bufr_table_files::{parse_table_b, parse_table_d};
-use bufr_tables::{Fxy, Tables};
+use bufr_tables::{Fxy, TableB, TableD, Tables};
 use std::alloc::Global;
 use std::process::Abort;
 
 /// Descriptors by F, X and Y.
 pub(crate) type Descriptors<'a> = &'a [(u8, u8, u8)];
 
-/// What a subset has: the raw numbers of its fields, 0 for a text, and the text of its last field,
-/// empty where that is a number.
+/// The raw numbers of a subset's fields, 0 for a text, and the text of its last field, empty for a
+/// number.
 pub(crate) type Wanted<'a> = (&'a [u64], &'a [u8]);
 
 pub(crate) const TEMPERATURE: Descriptors = &[(0, 12, 101)];
@@ -47,10 +46,9 @@ const TABLE_D: &[u8] = b"FXY1,FXY2
 301012,004005
 ";
 
-/// The template of descriptors.
 pub(crate) fn template(rt: &impl Abort, alloc: Global, list: Descriptors) -> Template {
-    let elements = parse_table_b(alloc, TABLE_B).expect(rt, "a table");
-    let sequences = parse_table_d(alloc, TABLE_D).expect(rt, "a table");
+    let elements = TableB::parse(alloc, TABLE_B).expect(rt, "a table");
+    let sequences = TableD::parse(alloc, TABLE_D).expect(rt, "a table");
     let tables = Tables::new(elements, sequences);
     let mut descriptors = Vec::new(alloc);
     for (f, x, y) in list {
@@ -60,13 +58,11 @@ pub(crate) fn template(rt: &impl Abort, alloc: Global, list: Descriptors) -> Tem
     Template::build(alloc, &tables, descriptors.as_slice()).expect(rt, "a template")
 }
 
-/// The octets of bits, the last filled with zero bits.
 pub(crate) fn octets_of(mut sink: BitSink) -> Vec<u8> {
     sink.fill_octet();
     sink.into_bytes()
 }
 
-/// The raw number of a field, `None` for a text.
 pub(crate) fn number_of(field: &Field) -> Option<u64> {
     match &field.raw {
         Raw::Number(number) => Some(*number),
@@ -74,7 +70,6 @@ pub(crate) fn number_of(field: &Field) -> Option<u64> {
     }
 }
 
-/// The text of a field, empty for a number.
 pub(crate) fn text_of(field: &Field) -> &[u8] {
     match &field.raw {
         Raw::Number(_) => &[],
@@ -82,7 +77,6 @@ pub(crate) fn text_of(field: &Field) -> &[u8] {
     }
 }
 
-/// Compares the fields of a subset.
 pub(crate) fn same_subset(rt: &impl Abort, subset: &Subset, numbers: &[u64], text: &[u8]) {
     let fields = subset.fields.as_slice();
     same(rt, fields.len(), numbers.len());
@@ -94,7 +88,6 @@ pub(crate) fn same_subset(rt: &impl Abort, subset: &Subset, numbers: &[u64], tex
     }
 }
 
-/// The subsets in octets, compressed or not.
 pub(crate) fn read(
     rt: &impl Abort,
     alloc: Global,

@@ -1,4 +1,4 @@
-//! Which fields a list of descriptors asks for, and how many items are met.
+//! The fields that a list asks for, and the items met.
 
 ghost use Rattle.std.specs.Prelude.{◌≡◌, ◌∷◌, [], Ok, pos};
 ghost use Rattle.bufr_tables.specs.declared.element.Kind.TheVariants.{Code, Count, Quantity, Text};
@@ -13,7 +13,7 @@ ghost use Rattle.bufr_expand.specs.Runs.{joined_runs, turned_run, behind_item};
 
 use crate::walk::WalkFault;
 
-/// No operator acts on the fields of 205 and 206, and these end no operator.
+/// No operator changes the fields of 205 and 206.
 #[tactic(auto, unfolding(bufr_tables::specs::Entries::at, crate::specs::Expansion::expand_list, crate::specs::Expansion::expand_within, crate::specs::Trees::tree_within, crate::specs::Courses::turns, crate::specs::Courses::course_then, crate::specs::WorkedTables::walked))]
 pub fn fields_that_no_operator_changes()
     ensures by_206 { Becomes (λ operator. walk sample 0 0 (operator ∷ descriptor 2 6 16
@@ -53,8 +53,8 @@ pub fn fields_that_no_operator_changes()
         ) ∷ []) }
 {}
 
-/// The fields of a subset: each count decides how often its body stands, operators stay in force
-/// from turn to turn and behind the last, and no operator changes a factor.
+/// Each count sets the turns of its body; operators stay in force from turn to turn and after the
+/// last; none changes a factor.
 #[tactic(auto, unfolding(bufr_tables::specs::Entries::at, crate::specs::Expansion::expand_list, crate::specs::Expansion::expand_within, crate::specs::Trees::tree_within, crate::specs::Courses::turns, crate::specs::Courses::course_then, crate::specs::WorkedTables::walked, crate::specs::WorkedTables::chained))]
 pub fn fields_of_replications()
     ensures operators_stay { Becomes (counting 0)
@@ -124,8 +124,7 @@ pub fn fields_of_replications()
         ≡ Ok ((factor, spec Quantity (pos 0) (pos 0) 8) ∷ kelvin 2 16 ∷ [], ends 2) }
 {}
 
-/// The 16,777,216th item stands, and the next is too large, whatever it is: a node, a turn, or a
-/// field without a spec.
+/// Item 16,777,216 is met, and the next is too large: a node, a turn, or a field without a spec.
 #[tactic(auto, unfolding(bufr_tables::specs::Entries::at, crate::specs::Expansion::expand_list, crate::specs::Expansion::expand_within, crate::specs::Trees::tree_within, crate::specs::Courses::turns, crate::specs::Courses::course_then, crate::specs::WorkedTables::walked))]
 pub fn most_items()
     ensures of_fields { Becomes (ending sample 0 (temperature ∷ []))
@@ -158,8 +157,7 @@ pub fn most_items()
         ∷ (16777216, Ok (0, full)) ∷ []) }
 {}
 
-/// A run behind another, the turns of a body, each of which is an item, and the node of their
-/// replication in front of them.
+/// Two runs in a row, the turns of a body, and the node of their replication.
 pub fn runs()
     ensures joined { joined_runs (run 2 4 23) (run 5 7 90) ≡ run 7 11 113 }
     ensures turned { turned_run 3 (run 2 4 23) ≡ run 6 15 69 }

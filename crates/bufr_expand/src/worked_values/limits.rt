@@ -1,4 +1,4 @@
-//! The limits on fields, and rows at each side of them.
+//! Rows at each side of the limits.
 
 ghost use Rattle.std.specs.Prelude.{◌≡◌, ◌∷◌, [], None, pos, negsuc, ◌^◌, map};
 ghost use Rattle.bufr_tables.specs.declared.element.Kind.TheVariants.{Code, Flag, Quantity, Text};
@@ -10,8 +10,7 @@ ghost use Rattle.bufr_expand.specs.WorkedTables.{Becomes, temperature, call_sign
 ghost use Rattle.bufr_expand.specs.WorkedTables.{under_none, at_limits, beyond_limits, some_spec};
 ghost use Rattle.bufr_expand.specs.WorkedTables.{no_spec, increased_reference};
 
-/// The limits on a row and on a spec: the scale is that of the row alone, the reference value and
-/// the width are those that the operators leave.
+/// The scale has its limit in the row alone, the reference value and the width after all operators.
 pub fn limits_under_operators()
     ensures scale_of_the_row { Becomes (λ scale. effective temperature
         (row Quantity scale (pos 0) 1)
@@ -50,8 +49,8 @@ pub fn limits_under_operators()
         ∷ (191, None) ∷ []) }
 {}
 
-/// The limits on rows that no operator changes, of each kind of number: a field at each, and one
-/// beyond it. A text has whole octets, whatever its row has as scale and reference value.
+/// Rows of each kind of number at each limit and above it. Texts have whole octets, whatever their
+/// scale and reference value.
 pub fn limits_of_each_kind()
     ensures codes { map (under_none (descriptor 0 2 1)) (at_limits Code)
         ≡ map some_spec (at_limits Code) }

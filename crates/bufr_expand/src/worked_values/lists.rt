@@ -1,4 +1,4 @@
-//! What lists of descriptors are expanded to, and their first faults.
+//! Expansions of lists, and their first faults.
 
 ghost use Rattle.std.specs.Prelude.{◌≡◌, ◌∷◌, ◌++◌, [], Ok, Err, pos, negsuc, map};
 ghost use Rattle.bufr_tables.specs.declared.element.Kind.TheVariants.{Code, Flag, Quantity, Text};
@@ -34,8 +34,8 @@ pub fn expansions()
         ∷ Node.Element (descriptor 0 1 1) (number_row 7) ∷ []) }
 {}
 
-/// Each operator by its X: those that stay in force are a node whatever their Y, 205 is a text of Y
-/// characters, and those that are left out are refused whatever their Y.
+/// Each operator by its X, with any Y: nodes for those that stay in force, texts of Y characters
+/// for 205, X3 for the rest.
 #[tactic(auto, unfolding(bufr_tables::specs::Entries::at, crate::specs::Expansion::expand_list, crate::specs::Expansion::expand_within))]
 pub fn every_operator()
     ensures left_out_with_0 { map (λ x. alone x 0) left_out ≡ map (λ x. unsupported x 0) left_out }
@@ -53,8 +53,8 @@ pub fn every_operator()
         ∷ (255, untouched_alone (descriptor 2 5 255) (row Text (pos 0) (pos 0) 2040)) ∷ []) }
 {}
 
-/// 206 YYY and what stands behind it: an element is read by its row where this has YYY bits, else
-/// as a number of 1 to 63 bits; its operand is refused first, then what is no element.
+/// 206 YYY: the element's row counts if it has YYY bits, else a number of 1 to 63 bits; a bad
+/// operand comes before a missing element.
 #[tactic(auto, unfolding(bufr_tables::specs::Entries::at, crate::specs::Expansion::expand_list, crate::specs::Expansion::expand_within))]
 pub fn data_widths()
     ensures at_the_end { Becomes (alone 6)
@@ -100,7 +100,7 @@ pub fn data_widths()
         ) ∷ []) }
 {}
 
-/// Replications: how many descriptors belong to them, and the first fault of each.
+/// Replications: the descriptors that belong to them, and their first faults.
 #[tactic(auto, unfolding(bufr_tables::specs::Entries::at, crate::specs::Expansion::expand_list, crate::specs::Expansion::expand_within, crate::specs::WorkedTables::chained))]
 pub fn replications()
     ensures fixed { Becomes (expansion sample)
@@ -153,7 +153,7 @@ pub fn replications()
         ∷ ([], Ok (temperature_node ∷ temperature_node ∷ [])) ∷ []) }
 {}
 
-/// The factors are 031000, 031001 and 031002: a neighbour is none, whatever row it has.
+/// The factors are 031000, 031001 and 031002; their neighbours are none, whatever their rows.
 #[tactic(auto, unfolding(bufr_tables::specs::Entries::at, crate::specs::Expansion::expand_list, crate::specs::Expansion::expand_within))]
 pub fn factors()
     ensures which { Becomes (by_factor with_neighbours)
@@ -195,8 +195,7 @@ pub fn factors()
         ∷ (row Flag (pos 0) (pos 1) 8, bad_factor (descriptor 0 31 2)) ∷ []) }
 {}
 
-/// Of several faults the first in depth-first order is told: at one descriptor X1 to X7, then X8,
-/// then X9; in a sequence or a body before what stands behind it.
+/// The first of several faults, in depth-first order: at one descriptor X1 to X7, then X8, then X9.
 #[tactic(auto, unfolding(bufr_tables::specs::Entries::at, crate::specs::Expansion::expand_list, crate::specs::Expansion::expand_within))]
 pub fn first_faults()
     ensures in_order { Becomes (expansion sample)
@@ -234,8 +233,7 @@ pub fn first_faults()
         ∷ ((0, 0, temperature ∷ []), Err TemplateFault.TooManyNodes) ∷ []) }
 {}
 
-/// Sequences stand in each other 16 deep, and so do replications, whichever stand in which; side
-/// by side there may be more.
+/// 16 levels of sequences and 16 of replications, nested in any way.
 #[tactic(auto, unfolding(bufr_tables::specs::Entries::at, crate::specs::Expansion::expand_list, crate::specs::Expansion::expand_within, crate::specs::WorkedTables::nested, crate::specs::WorkedTables::nested_nodes, crate::specs::WorkedTables::chained))]
 pub fn levels()
     ensures of_sequences { Becomes (expansion (chain (block ∷ [])))
@@ -259,8 +257,7 @@ pub fn levels()
         ((16, Ok (nested_nodes 16 block_node)) ∷ (17, Err TemplateFault.TooDeep) ∷ []) }
 {}
 
-/// The 65,536th node stands, and the next is refused: of any kind, a replication in front of its
-/// body, and behind a sequence or a replication.
+/// Node 65,536 of any kind is allowed, and the next is refused.
 #[tactic(auto, unfolding(bufr_tables::specs::Entries::at, crate::specs::Expansion::expand_list, crate::specs::Expansion::expand_within))]
 pub fn most_nodes()
     ensures of_one { Becomes behind_nodes

@@ -1,4 +1,4 @@
-//! What operators do to each kind of row, alone and beside each other.
+//! Operators on each kind of row, alone and together.
 
 ghost use Rattle.std.specs.Prelude.{◌∷◌, [], None, pos, negsuc};
 ghost use Rattle.bufr_tables.specs.declared.element.Kind.TheVariants.{Code, Flag, Quantity};
@@ -10,7 +10,7 @@ ghost use Rattle.bufr_expand.specs.WorkedTables.{Becomes, temperature, rows_of};
 ghost use Rattle.bufr_expand.specs.WorkedTables.{latitude_and_call_sign, both, wider, finer};
 ghost use Rattle.bufr_expand.specs.WorkedTables.{increased, shorter, under_each, as_row};
 
-/// Operators beside each other, in any order: what each does to a latitude and to a call sign.
+/// Operators together, in any order, on a latitude and a call sign.
 pub fn operators_in_any_order()
     ensures alone { Becomes latitude_and_call_sign
         (([], both 2 8999 15 72) ∷ (wider ∷ [], both 2 8999 17 72)
@@ -67,8 +67,8 @@ pub fn operators_in_any_order()
         (both 2 8999 15 72)) }
 {}
 
-/// Which operator acts on which row: 208 on texts of each class, the others on quantities of each
-/// class but 31, and none on code and flag tables.
+/// 208 acts on texts of each class, the others on quantities of each class but 31, and none on code
+/// and flag tables.
 pub fn operators_on_each_kind()
     ensures texts { Becomes (λ x. under_each (descriptor 0 x 5) call_sign_row)
         (rows_of (1 ∷ 30 ∷ 31 ∷ 32 ∷ 63 ∷ []) (text 72 ∷ text 72 ∷ text 72 ∷ text 32 ∷ [])) }
@@ -87,7 +87,7 @@ pub fn operators_on_each_kind()
         ∷ quantity (pos 4) (negsuc 49) 10 ∷ as_row Quantity ∷ [])) }
 {}
 
-/// 207 YYY widens by (10 * YYY + 2) / 3 bits, so a row of one bit has these.
+/// 207 YYY widens by (10 * YYY + 2) / 3 bits.
 pub fn widths_under_207()
     ensures of_one_bit { Becomes (λ y. effective temperature (number_row 1)
         (in_force (operator 7 y ∷ [])))

@@ -1,4 +1,4 @@
-//! Turns that a walk passes at once.
+//! Tests of turns passed at once.
 
 ghost use Rattle.std.specs.Prelude.{◌≡◌, false};
 ghost use Rattle.bufr_expand.specs.Walks.{waits};
@@ -10,12 +10,11 @@ use bufr_tables::Kind;
 use std::alloc::Global;
 use std::process::Abort;
 
-/// How far a walk goes before it passes turns: it has met so many items before its first step,
-/// takes so many steps, and each count has this number.
+/// The start of a walk: the items before it, its steps, and the number of each count.
 type Before = (u64, u64, u64);
 
-/// Descriptors, how far a walk over them goes, the most bits that it passes at once then, the
-/// fields, items and bits that it passes, the items by then, and the next field or the end.
+/// Descriptors, the start of a walk, the most bits to pass, the fields, items and bits passed, the
+/// items after them, and the next field.
 type Row<'a> = (
     &'a [u32],
     Before,
@@ -25,7 +24,6 @@ type Row<'a> = (
     Option<Field>,
 );
 
-/// The fields, items and bits of turns.
 fn parts(run: Option<Run>) -> Option<(u64, u64, u128)> {
     match run {
         Some(run) => Some((run.fields, run.items, run.bits)),
@@ -33,7 +31,7 @@ fn parts(run: Option<Run>) -> Option<(u64, u64, u128)> {
     }
 }
 
-/// The walk of a row passes turns so.
+/// Checks that a walk passes these turns.
 fn assert_passes(rt: &impl Abort, walk: &mut Walk<'_>, row: &Row<'_>)
     requires { waits walk.old ≡ false }
 {
@@ -46,7 +44,6 @@ fn assert_passes(rt: &impl Abort, walk: &mut Walk<'_>, row: &Row<'_>)
     same(rt, walk.next(), Ok(answer(rt, next)));
 }
 
-/// A row is answered so.
 fn assert_row(rt: &impl Abort, alloc: Global, row: &Row<'_>) {
     let (digits, (used, _, _), _, _, _, _) = *row;
     let template = template_of(rt, alloc, digits);
@@ -54,13 +51,11 @@ fn assert_row(rt: &impl Abort, alloc: Global, row: &Row<'_>) {
     assert_passes(rt, &mut walk, row);
 }
 
-/// More bits than any of the rows has.
+/// More bits than any row has.
 const MANY: u128 = 1_000_000;
 
-/// Turns of a temperature and a block number.
 const PAIRS: &[u32] = &[102000, 31001, 12101, 1001];
 
-/// Turns of a temperature.
 const TEMPERATURES: &[u32] = &[101000, 31001, 12101];
 
 /// Turns in turns.
@@ -91,7 +86,7 @@ const ROWS: &[Row<'static>] = &[
     // all of them, and one bit too many
     (PAIRS, (0, 1, 100), 2300, Some((200, 300, 2300)), 301, None),
     (PAIRS, (0, 1, 100), 2299, None, 1, TEMPERATURE),
-    // those that are left
+    // those left
     (PAIRS, (0, 0, 100), MANY, None, 0, COUNT),
     (PAIRS, (0, 1, 0), MANY, None, 1, None),
     (PAIRS, (0, 2, 100), MANY, None, 3, NUMBER),
@@ -113,7 +108,7 @@ const ROWS: &[Row<'static>] = &[
         None,
     ),
     (UNTOUCHED, (0, 1, 2), MANY, Some((4, 6, 68)), 8, None),
-    // up to the greatest number of items, and beyond it
+    // the greatest number of items, and one more
     (
         TEMPERATURES,
         (16_776_705, 1, 255),

@@ -1,4 +1,4 @@
-//! Tables, templates and steps that several tests use.
+//! Tables, templates and steps for several tests.
 
 ghost use Rattle.std.specs.Prelude.{◌≡◌, ◌<◌, ◌^◌, false, Ok};
 ghost use Rattle.bufr_expand.specs.Walks.{waits};
@@ -6,8 +6,7 @@ ghost use Rattle.bufr_expand_tests.specs.StepAnswers.{asked_width};
 
 use super::same;
 use bufr_expand::{Spec, Step, Template, Walk, WalkFault};
-use bufr_table_files::{parse_table_b, parse_table_d};
-use bufr_tables::{Fxy, Kind, Tables};
+use bufr_tables::{Fxy, Kind, TableB, TableD, Tables};
 use std::alloc::Global;
 use std::process::Abort;
 
@@ -36,26 +35,23 @@ const SEQUENCES: &[u8] = b"FXY1,FXY2\n\
 301012,004004\n\
 301012,004005\n";
 
-/// The descriptor that is written FXXYYY.
 fn fxy(rt: &impl Abort, digits: u32) -> Fxy {
     let (f, x, y) = (digits / 100_000, digits / 1000 % 100, digits % 1000);
     assert!(rt; f < 4 && y < 256);
     Fxy::new(f as u8, x as u8, y as u8).expect(rt, "a descriptor")
 }
 
-/// The tables of two files.
 pub(crate) fn tables_of(
     rt: &impl Abort,
     alloc: Global,
     elements: &[u8],
     sequences: &[u8],
 ) -> Tables {
-    let b = parse_table_b(alloc, elements).expect(rt, "a table");
-    let d = parse_table_d(alloc, sequences).expect(rt, "a table");
+    let b = TableB::parse(alloc, elements).expect(rt, "a table");
+    let d = TableD::parse(alloc, sequences).expect(rt, "a table");
     Tables::new(b, d)
 }
 
-/// The template of descriptors that are written FXXYYY.
 pub(crate) fn template_of(rt: &impl Abort, alloc: Global, digits: &[u32]) -> Template {
     let mut list = Vec::new(alloc);
     for number in digits {
@@ -65,7 +61,6 @@ pub(crate) fn template_of(rt: &impl Abort, alloc: Global, digits: &[u32]) -> Tem
     Template::build(alloc, &tables, &list).expect(rt, "a template")
 }
 
-/// A spec.
 fn spec(kind: Kind, scale: i32, reference: i64, width: u32) -> Spec {
     Spec {
         kind,
@@ -75,10 +70,10 @@ fn spec(kind: Kind, scale: i32, reference: i64, width: u32) -> Spec {
     }
 }
 
-/// A field: its descriptor, its kind, its scale and its bits. Its reference value is 0.
+/// A field: its descriptor, kind, scale and bits. Its reference value is 0.
 pub(crate) type Field = (u32, Kind, i32, u32);
 
-/// The step to a field, or else to the end.
+/// Returns the step to a field, or to the end.
 pub(crate) fn answer(rt: &impl Abort, field: Option<Field>) -> Step {
     match field {
         Some((digits, kind, scale, width)) => {
@@ -88,7 +83,6 @@ pub(crate) fn answer(rt: &impl Abort, field: Option<Field>) -> Step {
     }
 }
 
-/// The step to a field with this spec.
 fn step_to(fxy: Fxy, spec: Spec) -> Step {
     match spec.kind {
         Kind::Count => Step::Count(fxy, spec),
@@ -96,7 +90,7 @@ fn step_to(fxy: Fxy, spec: Spec) -> Step {
     }
 }
 
-/// A number that a count of this width can have.
+/// Returns a number that a count of this width can have.
 #[tactic(auto, using(std::proofs::lemmas::Nat::pow_pos))]
 fn number(width: u32, told: u64) -> u64
     ensures { result < 2 ^ width }
@@ -104,7 +98,6 @@ fn number(width: u32, told: u64) -> u64
     if width == 8 && told < 256 { told } else { 0 }
 }
 
-/// The width of the number that a step asks for.
 fn asked_by(step: &Step) -> Option<u32>
     ensures { result ≡ asked_width (Ok step.now) }
 {
@@ -115,7 +108,6 @@ fn asked_by(step: &Step) -> Option<u32>
     }
 }
 
-/// The width of the number that an answer asks for.
 fn asked(answer: &Result<Step, WalkFault>) -> Option<u32>
     ensures { result ≡ asked_width answer.now }
 {
@@ -125,7 +117,7 @@ fn asked(answer: &Result<Step, WalkFault>) -> Option<u32>
     }
 }
 
-/// One step, which tells a count its number.
+/// Takes a step and gives a count its number.
 pub(crate) fn step(walk: &mut Walk<'_>, told: u64) -> Result<Step, WalkFault>
     requires { waits walk.old ≡ false }
     ensures { waits walk.new ≡ false }
@@ -140,7 +132,7 @@ pub(crate) fn step(walk: &mut Walk<'_>, told: u64) -> Result<Step, WalkFault>
     }
 }
 
-/// A walk takes the steps to these fields next, each count having this number.
+/// Checks that the next steps are these fields.
 pub(crate) fn assert_steps(rt: &impl Abort, walk: &mut Walk<'_>, told: u64, wanted: &[Field])
     requires { waits walk.old ≡ false }
     ensures { waits walk.new ≡ false }
@@ -150,7 +142,7 @@ pub(crate) fn assert_steps(rt: &impl Abort, walk: &mut Walk<'_>, told: u64, want
     }
 }
 
-/// A walk has met so many items and is at its end, where it stays.
+/// Checks that a walk is at its end after `items` items.
 pub(crate) fn assert_end(rt: &impl Abort, walk: &mut Walk<'_>, items: u64)
     requires { waits walk.old ≡ false }
 {

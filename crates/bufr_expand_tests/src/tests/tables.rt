@@ -1,4 +1,4 @@
-//! Tables that are the same, and tables that differ.
+//! Tests of equal and different tables.
 
 use super::same;
 use super::samples::tables_of;
@@ -23,7 +23,7 @@ const ONE_D: &[u8] = b"FXY1,FXY2\n301001,001001\n";
 
 const TWO_D: &[u8] = b"FXY1,FXY2\n,\nFXY1,FXY2\n301001,001001\n";
 
-/// Two pairs of files, and whether their tables are the same.
+/// Two pairs of files, and whether their tables are equal.
 const PAIRS: &[(Files<'static>, Files<'static>, bool)] = &[
     ((ONE_B, ONE_D), (TWO_B, ONE_D), true),
     ((HEADER, ONE_D), (HEADER, b"FXY1,FXY2\n"), false),

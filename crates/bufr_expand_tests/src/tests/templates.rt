@@ -1,4 +1,4 @@
-//! Rows of templates.
+//! Tests of templates.
 
 use super::same;
 use super::samples::{Field, assert_end, assert_steps, template_of};
@@ -7,8 +7,8 @@ use bufr_tables::Kind;
 use std::alloc::Global;
 use std::process::Abort;
 
-/// A list of descriptors, the number of each count, the nodes of its template, the fields that a
-/// walk over it goes through, and the items by its end.
+/// Descriptors, the number of each count, the nodes of the template, the fields of a walk, and its
+/// items at the end.
 type Row<'a> = (&'a [u32], u64, usize, &'a [Field], u64);
 
 /// A block number, a station number and a temperature.
@@ -65,7 +65,7 @@ const ROWS: &[Row<'static>] = &[
         ],
         20,
     ),
-    // 201130 and 208002 change the last two fields, and none that is behind 206 or that of 205
+    // 201130 and 208002 change the last two fields, but no field of 205 or 206
     (
         &[
             201130, 208002, 206012, 1250, 206016, 12101, 206017, 12101, 205004, 12101, 1011,
@@ -84,8 +84,8 @@ const ROWS: &[Row<'static>] = &[
     ),
 ];
 
-/// The template of a row is so large, and a walk over it goes so, where it was shared and the first
-/// is gone.
+/// Checks the size of a row's template and a walk over it, after the template was shared and
+/// dropped.
 fn assert_row(rt: &impl Abort, alloc: Global, row: &Row<'_>) {
     let (digits, told, nodes, fields, items) = *row;
     let template = template_of(rt, alloc, digits);

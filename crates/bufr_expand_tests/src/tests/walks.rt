@@ -1,4 +1,4 @@
-//! What a walk tells of fields that are asked for.
+//! Tests of chosen fields ahead of a walk.
 
 ghost use Rattle.std.specs.Prelude.{◌≡◌, ◌==◌, false};
 ghost use Rattle.bufr_expand.specs.Walks.{waits};
@@ -20,8 +20,7 @@ impl Asks for Temperatures {
     }
 }
 
-/// This is what a walk tells of temperatures in front of each of its fields, each count having the
-/// number 1: whether none is left.
+/// Compares whether the walk shows, before each field, that no temperature is left.
 fn assert_tells(rt: &impl Abort, walk: &mut Walk<'_>, wanted: &[bool])
     requires { waits walk.old ≡ false }
 {
@@ -31,8 +30,7 @@ fn assert_tells(rt: &impl Abort, walk: &mut Walk<'_>, wanted: &[bool])
     }
 }
 
-/// Lists of descriptors, and what is told in front of the first four fields: behind the first
-/// temperature, behind the last, behind a turn, and where no replication is open.
+/// Descriptors, and what the walk shows before the first four fields.
 const TOLD: &[(&[u32], &[bool])] = &[
     (&[12101, 1001, 1002, 2001], &[false, true, true, true]),
     (&[1001, 12101, 1002, 2001], &[false, false, true, true]),
@@ -40,7 +38,7 @@ const TOLD: &[(&[u32], &[bool])] = &[
     (&[101002, 1001, 1002, 2001], &[true, false, false, true]),
 ];
 
-/// It is told behind the last temperature, where no replication is open.
+/// The walk shows it after the last temperature, outside replications.
 #[test]
 fn no_more_that_are_asked_for(rt: HostRuntime) {
     for (digits, wanted) in TOLD {

@@ -1,19 +1,19 @@
-//! The bits of subsets.
+//! The data of subsets.
 
 use crate::tests::refusals::repeated;
 use crate::tests::same;
 use crate::tests::samples::tables;
-use bufr_answers::{Failure, Items};
+use bufr_base::{Failure, Items};
 use bufr_bits::{BitReader, BitSink};
 use bufr_data::{
-    Columns, Raw, Subset, WriteFault, read_compressed, read_plain, write_compressed, write_plain,
+    Columns, MisfitFault, Raw, Subset, read_compressed, read_plain, write_compressed, write_plain,
 };
 use bufr_expand::Template;
 use bufr_tables::Fxy;
 use std::alloc::Global;
 use std::process::Abort;
 
-/// A delayed replication of a temperature, and then two characters: 101000 031001 012101 205002.
+/// A delayed replication of a temperature, and two characters: 101000 031001 012101 205002.
 const DESCRIPTORS: [u16; 4] = [0x4100, 0x1F01, 0x0C65, 0x8502];
 
 /// One subset: one temperature, 273.15 K, and `AB`.
@@ -22,14 +22,13 @@ const PLAIN: &[u8] = b"\x01\x6A\xB3AB";
 /// Two subsets: 273.15 K and `AB`, 273.16 K and `CD`.
 const PACKED: &[u8] = b"\x01\x01\xAA\xCC\x21\x00\x00\x09\x05\x09\x0D\x10";
 
-/// The template of the descriptors.
 fn template(rt: &impl Abort, alloc: Global) -> Template {
     let tables = tables(rt, alloc);
     let list = DESCRIPTORS.map(Fxy::from_bits);
     repeated!(rt, Template::build(alloc, &tables, &list))
 }
 
-/// Whether the fields of a subset are a count of 1, a temperature and a text.
+/// Whether a subset has a count of 1, this temperature and this text.
 fn has_values(subset: &Subset, temperature: u64, text: &[u8]) -> bool {
     let [count, number, characters] = subset.fields.as_slice() else {
         return false;
@@ -42,8 +41,7 @@ fn has_values(subset: &Subset, temperature: u64, text: &[u8]) -> bool {
     }
 }
 
-/// A plain subset and the items that it brings the message to; after a refusal the reader is where
-/// it was.
+/// Reads a plain subset; a refusal leaves the reader where it was.
 fn read_one(rt: &impl Abort, alloc: Global, template: &Template) {
     let mut reader = BitReader::new(PLAIN);
     let (subset, items) = repeated!(
@@ -55,7 +53,7 @@ fn read_one(rt: &impl Abort, alloc: Global, template: &Template) {
     same(rt, (items, reader.place()), (9, 40));
 }
 
-/// The two subsets; after a refusal the reader is where it was.
+/// Reads the two subsets; a refusal leaves the reader where it was.
 fn read_both(rt: &impl Abort, alloc: Global, template: &Template) -> Items<Subset> {
     let mut reader = BitReader::new(PACKED);
     let subsets = repeated!(
@@ -67,7 +65,6 @@ fn read_both(rt: &impl Abort, alloc: Global, template: &Template) -> Items<Subse
     subsets
 }
 
-/// These are the two subsets.
 fn assert_both(rt: &impl Abort, subsets: &[Subset]) {
     match subsets {
         [first, second] => {
@@ -78,7 +75,6 @@ fn assert_both(rt: &impl Abort, subsets: &[Subset]) {
     }
 }
 
-/// The subset of indexed columns of this number is this.
 fn assert_taken_out(
     rt: &impl Abort,
     alloc: Global,
@@ -93,7 +89,7 @@ fn assert_taken_out(
     assert!(rt; has_values(&subset, temperature, text));
 }
 
-/// The columns; after a refusal the reader is where it was. The second subset is taken out first.
+/// Indexes the columns; a refusal leaves the reader where it was. Takes the second subset first.
 fn index_both(rt: &impl Abort, alloc: Global, template: &Template) {
     let mut reader = BitReader::new(PACKED);
     let columns = repeated!(
@@ -106,7 +102,6 @@ fn index_both(rt: &impl Abort, alloc: Global, template: &Template) {
     assert_taken_out(rt, alloc, &columns, 1, 27315, b"AB");
 }
 
-/// Subsets in each form are read.
 fn read_all(rt: &impl Abort, alloc: Global) {
     let template = template(rt, alloc);
     read_one(rt, alloc, &template);
@@ -119,27 +114,25 @@ fn subsets_read(rt: HostRuntime) {
     read_all(&rt, rt.alloc());
 }
 
-/// A sink that has one octet.
 fn begun(rt: &impl Abort, alloc: Global) -> BitSink {
     let mut sink = BitSink::new(alloc);
     repeated!(rt, sink.put(8, 0xEE));
     sink
 }
 
-/// The octets of a sink, the last filled with zero bits.
+/// The octets of a sink, filled with zero bits.
 fn octets_of(mut sink: BitSink) -> Vec<u8> {
     sink.fill_octet();
     sink.into_bytes()
 }
 
-/// Puts subsets at a sink's end, plain or compressed.
 fn write(
     alloc: Global,
     packed: bool,
     template: &Template,
     subsets: &[Subset],
     sink: &mut BitSink,
-) -> Result<(), Failure<WriteFault>> {
+) -> Result<(), Failure<MisfitFault>> {
     if packed {
         write_compressed(alloc, template, subsets, sink)
     } else {
@@ -147,7 +140,7 @@ fn write(
     }
 }
 
-/// Subsets are written so behind the octet of a begun sink; after a refusal it has that one alone.
+/// Writes subsets after an octet; a refusal leaves that octet alone.
 fn assert_written(
     rt: &impl Abort,
     alloc: Global,
@@ -165,7 +158,6 @@ fn assert_written(
     same(rt, octets_of(sink).as_slice(), wanted);
 }
 
-/// The two subsets are written, plain and compressed.
 fn write_all(rt: &impl Abort, alloc: Global) {
     let template = template(rt, alloc);
     let subsets = read_both(rt, alloc, &template);

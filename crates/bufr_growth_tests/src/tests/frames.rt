@@ -9,13 +9,12 @@ use bufr_frame::{Found, Framer};
 use std::alloc::Global;
 use std::process::Abort;
 
-/// A stray `BUFR` and then a message, in three pieces: the stray one is open until the end.
+/// A stray `BUFR`, open until the end, and then a message, in three pieces.
 const HEADING: &[u8] = b"heading BUFR";
 
-/// A place of a stream, and the octets of the frame there.
 type Frame<'a> = (u64, &'a [u8]);
 
-/// The message was handed out at these places, and no other frame.
+/// The frames are the message, at these places.
 fn assert_found(rt: &impl Abort, found: &[Found], places: &[u64]) {
     same(rt, found.len(), places.len());
     for (frame, place) in found.iter().zip(places) {
@@ -24,12 +23,11 @@ fn assert_found(rt: &impl Abort, found: &[Found], places: &[u64]) {
     }
 }
 
-/// How many octets a framer has taken in, and how many it holds.
 fn standing(framer: &Framer) -> (u64, usize) {
     (framer.fed(), framer.pending())
 }
 
-/// What a framer has, before a piece that it can count.
+/// The framer's octets before a piece.
 fn before(rt: &impl Abort, framer: &Framer, piece: &[u8]) -> (u64, usize)
     ensures { framer.now.fed + length piece.now < 2 ^ 64 }
 {
@@ -38,16 +36,14 @@ fn before(rt: &impl Abort, framer: &Framer, piece: &[u8]) -> (u64, usize)
     standing(framer)
 }
 
-/// With a piece the message is handed out at these places; after a refusal the framer has as much as
-/// before.
+/// A piece brings the message at these places; a refusal changes nothing.
 fn feed(rt: &impl Abort, framer: &mut Framer, piece: &[u8], places: &[u64]) {
     let had = before(rt, framer, piece);
     let found = repeated!(rt, framer.feed(piece), same(rt, standing(framer), had));
     assert_found(rt, &found, places);
 }
 
-/// With the stream's end the message is handed out at these places; after a refusal the framer has
-/// as much as before.
+/// The stream's end brings the message at these places; a refusal changes nothing.
 fn end(rt: &impl Abort, framer: &mut Framer, places: &[u64]) {
     let had = standing(framer);
     let found = repeated!(rt, framer.finish(), same(rt, standing(framer), had));
@@ -55,7 +51,7 @@ fn end(rt: &impl Abort, framer: &mut Framer, places: &[u64]) {
     assert_found(rt, &found, places);
 }
 
-/// The message is handed out at once. In two pieces behind the heading it is open until the end.
+/// The message comes out at once. After the heading, in two pieces, it is open until the end.
 fn take_in(rt: &impl Abort, alloc: Global) {
     let mut framer = Framer::new(alloc);
     feed(rt, &mut framer, SEQUENCES, &[0]);
@@ -71,7 +67,6 @@ fn pieces_taken_in(rt: HostRuntime) {
     take_in(&rt, rt.alloc());
 }
 
-/// The place and the octets of a frame that was handed out.
 fn parts_of(found: &Option<Found>) -> Option<Frame<'_>> {
     match found {
         Some(frame) => Some((frame.place, frame.bytes.as_slice())),
@@ -79,8 +74,7 @@ fn parts_of(found: &Option<Found>) -> Option<Frame<'_>> {
     }
 }
 
-/// All of a piece is taken, and with it this frame or none; after a refusal the framer has as much
-/// as before.
+/// The framer takes all of a piece, and hands out this frame or none; a refusal changes nothing.
 fn take(rt: &impl Abort, framer: &mut Framer, piece: &[u8], wanted: Option<Frame<'_>>) {
     let had = before(rt, framer, piece);
     let taken = repeated!(rt, framer.take_next(piece), same(rt, standing(framer), had));
@@ -88,7 +82,7 @@ fn take(rt: &impl Abort, framer: &mut Framer, piece: &[u8], wanted: Option<Frame
     same(rt, taken.rest.len(), 0);
 }
 
-/// A stream is taken in piece by piece, each with its message, if it brings one.
+/// Takes a stream in piece by piece.
 fn take_one_by_one(rt: &impl Abort, alloc: Global) {
     let pieces = [
         (&SEQUENCES[..40], None),

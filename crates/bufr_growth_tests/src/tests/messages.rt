@@ -7,18 +7,16 @@ use crate::tests::samples::{
     SEQUENCES, TEXTS_LISTED, UNEQUAL_COUNTS, room, tables,
 };
 use bufr_bits::IntoWrite;
-use bufr_listing::{ListingWriteFault, text_of, write_message};
+use bufr_message::listing::{ListingWriteFault, text_of, write};
 use bufr_message::{Decoded, Message, Report, canonical, decode, encode, reports};
 use bufr_tables::Tables;
 use std::alloc::Global;
 use std::process::Abort;
 
-/// What octets spell.
 fn decoded(rt: &impl Abort, alloc: Global, tables: &Tables, octets: &[u8]) -> Decoded {
     repeated!(rt, decode(alloc, tables, octets))
 }
 
-/// A message is written as these octets.
 fn assert_written(
     rt: &impl Abort,
     alloc: Global,
@@ -30,14 +28,13 @@ fn assert_written(
     same(rt, written.as_slice(), octets);
 }
 
-/// Octets are read, and what was read is written as these octets again.
+/// A message that is read encodes to its octets again.
 fn comes_back(rt: &impl Abort, alloc: Global, tables: &Tables, octets: &[u8]) {
     let found = decoded(rt, alloc, tables, octets);
     same(rt, found.slack_octets, 0);
     assert_written(rt, alloc, tables, &found.message, octets);
 }
 
-/// Messages are read and written.
 fn all_read(rt: &impl Abort, alloc: Global) {
     let tables = tables(rt, alloc);
     for octets in [SEQUENCES, COMPRESSED_PAIR, LOCAL_OCTETS] {
@@ -50,7 +47,7 @@ fn messages_read_and_written(rt: HostRuntime) {
     all_read(&rt, rt.alloc());
 }
 
-/// The reports of octets; a message that was gone with a refused call is read again.
+/// Splits a message into its reports, and reads it again after a refusal.
 fn reports_in(rt: &impl Abort, alloc: Global, tables: &Tables, octets: &[u8]) -> Vec<Report> {
     repeated!(
         rt,
@@ -58,13 +55,11 @@ fn reports_in(rt: &impl Abort, alloc: Global, tables: &Tables, octets: &[u8]) ->
     )
 }
 
-/// The canonical message of a report is this.
 fn assert_canonical(rt: &impl Abort, alloc: Global, tables: &Tables, report: &Report, own: &[u8]) {
     let written = repeated!(rt, canonical(alloc, tables, report));
     same(rt, written.as_slice(), own);
 }
 
-/// The canonical messages of octets' reports are these.
 fn parts_into(rt: &impl Abort, alloc: Global, tables: &Tables, octets: &[u8], wanted: &[&[u8]]) {
     let found = reports_in(rt, alloc, tables, octets);
     same(rt, found.len(), wanted.len());
@@ -79,7 +74,6 @@ const REPORTS: &[(&[u8], &[&[u8]])] = &[
     (COMPRESSED_PAIR, &[SEQUENCES, MISSING_TEMPERATURE]),
 ];
 
-/// Messages are parted into reports.
 fn all_parted(rt: &impl Abort, alloc: Global) {
     let tables = tables(rt, alloc);
     for (octets, wanted) in REPORTS {
@@ -92,18 +86,18 @@ fn reports_of_subsets(rt: HostRuntime) {
     all_parted(&rt, rt.alloc());
 }
 
-/// What writing the listing of a message to a fresh writer with room answers, and what it took.
+/// Writes a message's listing to a fresh writer with room.
 fn listed(
     rt: &impl Abort,
     alloc: Global,
     message: &Message,
 ) -> (Result<(), ListingWriteFault>, Vec<u8>) {
     let mut writer = IntoWrite::new(room(rt, alloc, 1000));
-    let answer = write_message(alloc, message, &mut writer);
+    let answer = write(alloc, message, &mut writer);
     (answer, writer.into_inner())
 }
 
-/// A message's listing is this; after a refusal nothing is written, and it is written again.
+/// A message has this listing; a refused call writes nothing.
 fn assert_listed(rt: &impl Abort, alloc: Global, message: &Message, wanted: &[u8]) {
     let (answer, written) = listed(rt, alloc, message);
     match answer {
@@ -118,7 +112,6 @@ fn assert_listed(rt: &impl Abort, alloc: Global, message: &Message, wanted: &[u8
     }
 }
 
-/// The listing of the message is made, and written.
 fn list_one(rt: &impl Abort, alloc: Global) {
     let tables = tables(rt, alloc);
     let found = decoded(rt, alloc, &tables, COMPRESSED_TEXTS);

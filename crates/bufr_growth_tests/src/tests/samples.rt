@@ -1,12 +1,10 @@
 //! Tables and messages.
 
 use crate::tests::refusals::repeated;
-use bufr_table_files::{parse_table_b, parse_table_d};
-use bufr_tables::Tables;
+use bufr_tables::{TableB, TableD, Tables};
 use std::alloc::Global;
 use std::process::Abort;
 
-/// Table B of the tests.
 const TABLE_B: &[u8] = b"FXY,BUFR_Unit,BUFR_Scale,BUFR_ReferenceValue,BUFR_DataWidth_Bits\n\
 001001,Numeric,0,0,7\n\
 001002,Numeric,0,0,10\n\
@@ -19,7 +17,6 @@ const TABLE_B: &[u8] = b"FXY,BUFR_Unit,BUFR_Scale,BUFR_ReferenceValue,BUFR_DataW
 012101,K,2,0,16\n\
 031001,Numeric,0,0,8\n";
 
-/// Table D of the tests.
 const TABLE_D: &[u8] = b"FXY1,FXY2\n\
 301001,001001\n\
 301001,001002\n\
@@ -36,14 +33,14 @@ pub(super) const SEQUENCES: &[u8] = b"BUFR\x00\x00\x3E\x04\
 \x00\x00\x0D\x00\x14\xC0\x3F\x40\x9E\xC0\x1A\xAC\xC0\
 7777";
 
-/// The first, compressed, with a second subset whose temperature is missing: 68 octets.
+/// The first subset, compressed, and a second one with a missing temperature: 68 octets.
 pub(super) const COMPRESSED_PAIR: &[u8] = b"BUFR\x00\x00\x44\x04\
 \x00\x00\x16\x00\x00\x62\x00\x00\x00\x00\x00\x02\x00\x25\x00\x07\xE8\x01\x0F\x0C\x00\x00\
 \x00\x00\x0F\x00\x00\x02\xC0\xC1\x01\xC1\x0B\xC1\x0C\x0C\x65\
 \x00\x00\x13\x00\x14\x03\x00\x03\xF4\x00\x20\x1E\x03\x00\x00\x06\xAB\x30\x50\
 7777";
 
-/// The second subset as a plain message of its own: 62 octets.
+/// The second subset as a plain message: 62 octets.
 pub(super) const MISSING_TEMPERATURE: &[u8] = b"BUFR\x00\x00\x3E\x04\
 \x00\x00\x16\x00\x00\x62\x00\x00\x00\x00\x00\x02\x00\x25\x00\x07\xE8\x01\x0F\x0C\x00\x00\
 \x00\x00\x0F\x00\x00\x01\x80\xC1\x01\xC1\x0B\xC1\x0C\x0C\x65\
@@ -57,14 +54,14 @@ pub(super) const UNEQUAL_COUNTS: &[u8] = b"BUFR\x00\x00\x37\x04\
 \x00\x00\x08\x00\x00\x01\x6A\xB3\
 7777";
 
-/// Its first subset as a message of its own: 52 octets.
+/// The first subset as a message: 52 octets.
 pub(super) const COUNT_0: &[u8] = b"BUFR\x00\x00\x34\x04\
 \x00\x00\x16\x00\x00\x62\x00\x00\x00\x00\x00\x02\x00\x25\x00\x07\xE8\x01\x0F\x0C\x00\x00\
 \x00\x00\x0D\x00\x00\x01\x80\x41\x00\x1F\x01\x0C\x65\
 \x00\x00\x05\x00\x00\
 7777";
 
-/// Its second subset as a message of its own: 54 octets.
+/// The second subset as a message: 54 octets.
 pub(super) const COUNT_1: &[u8] = b"BUFR\x00\x00\x36\x04\
 \x00\x00\x16\x00\x00\x62\x00\x00\x00\x00\x00\x02\x00\x25\x00\x07\xE8\x01\x0F\x0C\x00\x00\
 \x00\x00\x0D\x00\x00\x01\x80\x41\x00\x1F\x01\x0C\x65\
@@ -78,7 +75,7 @@ pub(super) const COMPRESSED_TEXTS: &[u8] = b"BUFR\x00\x00\x3B\x04\
 \x00\x00\x0E\x00\x00\x00\x00\x0D\x05\x09\x0F\xFF\xFF\xFC\
 7777";
 
-/// The listing of these.
+/// The listing of these texts.
 pub(super) const TEXTS_LISTED: &[u8] = b"message\n\
 section1 98 0 0 0 2 0 37 0\n\
 time 2024 1 15 12 0 0\n\
@@ -98,14 +95,12 @@ pub(super) const LOCAL_OCTETS: &[u8] = b"BUFR\x00\x00\x3D\x04\
 \x00\x00\x08\x00\x41\x22\x5C\x0A\
 7777";
 
-/// The tables of the tests.
 pub(super) fn tables(rt: &impl Abort, alloc: Global) -> Tables {
-    let elements = repeated!(rt, parse_table_b(alloc, TABLE_B));
-    let sequences = repeated!(rt, parse_table_d(alloc, TABLE_D));
+    let elements = repeated!(rt, TableB::parse(alloc, TABLE_B));
+    let sequences = repeated!(rt, TableD::parse(alloc, TABLE_D));
     Tables::new(elements, sequences)
 }
 
-/// An empty vector with room for so many octets.
 pub(super) fn room(rt: &impl Abort, alloc: Global, octets: usize) -> Vec<u8> {
     repeated!(rt, Vec::with_capacity(alloc, octets))
 }

@@ -1,5 +1,4 @@
-//! Listings part by part, and large ones: want of memory meets every contract, so each call is made
-//! for a thousand subsets.
+//! Listings in parts, of a thousand subsets.
 
 use super::same;
 use super::samples::first_message;
@@ -12,7 +11,7 @@ use bufr_sections::{LentSections, Message};
 use std::alloc::Global;
 use std::process::Abort;
 
-/// The lines of sequences before the first subset.
+/// The lines before the first subset.
 const HEADING: &str = "\
 message
 section1 98 0 0 0 2 0 37 0
@@ -21,7 +20,7 @@ flags observed
 descriptors 301001 301011 301012 012101
 ";
 
-/// The lines of their subset.
+/// The lines of a subset.
 const SUBSET: &str = "\
 subset
 001001 10
@@ -34,13 +33,12 @@ subset
 012101 273.15
 ";
 
-/// The listing of a thousand subsets.
 fn thousand_subsets(rt: &impl Abort, alloc: Global) -> String {
     let subsets = SUBSET.repeat(alloc, 1000).expect(rt, "an answer");
     format!(in alloc; "{HEADING}{subsets}end\n").expect(rt, "an answer")
 }
 
-/// The lines of a message, part by part.
+/// Joins the parts of a message's listing.
 fn joined(rt: &impl Abort, alloc: Global, message: &Message) -> Vec<u8> {
     let sections = LentSections::of_message(message);
     let mut text = heading_text(alloc, &sections).expect(rt, "an answer");
@@ -51,7 +49,7 @@ fn joined(rt: &impl Abort, alloc: Global, message: &Message) -> Vec<u8> {
     text
 }
 
-/// A subset is listed so, at once and field by field.
+/// The lines of this subset are `SUBSET`, at once and field by field.
 fn assert_subset(rt: &impl Abort, alloc: Global, subset: &Subset) {
     let listed = subset_text(alloc, subset).expect(rt, "an answer");
     same(rt, listed.as_slice(), SUBSET.as_bytes());
@@ -63,7 +61,7 @@ fn assert_subset(rt: &impl Abort, alloc: Global, subset: &Subset) {
     same(rt, lines.as_slice(), SUBSET.as_bytes());
 }
 
-/// A message is listed so, whole, part by part, and written to a writer.
+/// The listing of a message is `wanted`: whole, in parts, and through a writer.
 fn assert_listed(rt: &impl Abort, alloc: Global, message: &Message, wanted: &str) {
     let listing = text_of(alloc, message).expect(rt, "an answer");
     same(rt, listing.as_slice(), wanted.as_bytes());

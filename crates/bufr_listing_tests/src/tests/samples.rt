@@ -1,13 +1,11 @@
-//! The tables and listings of the tests.
+//! Tables and listings for the tests.
 
 use bufr_listing_reader::read;
 use bufr_sections::Message;
-use bufr_table_files::{parse_table_b, parse_table_d};
-use bufr_tables::Tables;
+use bufr_tables::{TableB, TableD, Tables};
 use std::alloc::Global;
 use std::process::Abort;
 
-/// Table B of the tests.
 const ELEMENTS: &str = "\
 FXY,ElementName_en,BUFR_Unit,BUFR_Scale,BUFR_ReferenceValue,BUFR_DataWidth_Bits
 001001,block number,Numeric,0,0,7
@@ -20,7 +18,6 @@ FXY,ElementName_en,BUFR_Unit,BUFR_Scale,BUFR_ReferenceValue,BUFR_DataWidth_Bits
 012101,temperature,K,2,0,16
 ";
 
-/// Table D of the tests.
 const SEQUENCES: &str = "\
 FXY1,FXY2
 301001,001001
@@ -32,10 +29,10 @@ FXY1,FXY2
 301012,004005
 ";
 
-/// The first message that a text lists.
+/// Returns the first message of a listing.
 pub(super) fn first_message(rt: &impl Abort, alloc: Global, text: &str) -> Message {
-    let b = parse_table_b(alloc, ELEMENTS.as_bytes()).expect(rt, "an answer");
-    let d = parse_table_d(alloc, SEQUENCES.as_bytes()).expect(rt, "an answer");
+    let b = TableB::parse(alloc, ELEMENTS.as_bytes()).expect(rt, "an answer");
+    let d = TableD::parse(alloc, SEQUENCES.as_bytes()).expect(rt, "an answer");
     let tables = Tables::new(b, d);
     let messages = read(alloc, &tables, text.as_bytes()).expect(rt, "an answer");
     messages.into_iter().next().expect(rt, "a message")

@@ -1,16 +1,16 @@
-//! Listings that are written to devices.
+//! Writes listings to devices.
 
 use super::same;
 use super::samples::first_message;
 use bufr_bits::device::IntoWrite;
-use bufr_listing::{ListingWriteFault, write_message};
+use bufr_listing::{ListingWriteFault, write};
 use bufr_sections::Message;
 use std::alloc::Global;
 use std::io;
 use std::io::{ErrorKind, Write};
 use std::process::Abort;
 
-/// One plain subset of sequences.
+/// A listing with one plain subset.
 const SEQUENCES_LISTED: &str = "\
 message
 section1 98 0 0 0 2 0 37 0
@@ -29,7 +29,7 @@ subset
 end
 ";
 
-/// A writer that has room for so many octets more, and takes at most 50 at a time.
+/// A writer of limited room that takes at most 50 octets at a time.
 #[derive(Drop)]
 struct Narrow {
     taken: Vec<u8>,
@@ -51,7 +51,7 @@ impl Write for Narrow {
     }
 }
 
-/// The answer of writing a message to a writer with so much room, and what the writer took.
+/// Writes to a writer with `room` octets. Returns the result, and the octets that it took.
 fn written(
     alloc: Global,
     message: &Message,
@@ -59,19 +59,18 @@ fn written(
 ) -> (Result<(), ListingWriteFault>, Vec<u8>) {
     let taken = Vec::new(alloc);
     let mut sink = IntoWrite::new(Narrow { taken, room });
-    let answer = write_message(alloc, message, &mut sink);
+    let answer = write(alloc, message, &mut sink);
     (answer, sink.into_inner().taken)
 }
 
-/// A writer that has room for a million octets takes this listing of a message.
+/// A writer with a million octets of room takes this listing.
 pub(super) fn assert_taken(rt: &impl Abort, alloc: Global, message: &Message, wanted: &str) {
     let (found, taken) = written(alloc, message, 1_000_000);
     same(rt, found, Ok(()));
     same(rt, taken.as_slice(), wanted.as_bytes());
 }
 
-/// The listing is written to a writer with so much room: the front that the writer takes is as long
-/// as its room, and the answer is this.
+/// A writer takes the first `room` octets of the listing, and the call fails if `failed`.
 fn assert_front(rt: &impl Abort, alloc: Global, message: &Message, room: usize, failed: bool) {
     let (found, taken) = written(alloc, message, room);
     let fault = ListingWriteFault::WriteFailed {

@@ -69,8 +69,15 @@ impl Writer {
     pub(super) fn new(alloc: Global, room: usize) -> Self
         ensures { result.failed ≡ false }
     {
+        Writer::over(Vec::new(alloc), room)
+    }
+
+    /// Makes a writer over a list, with room for this many octets.
+    pub(super) fn over(taken: Vec<u8>, room: usize) -> Self
+        ensures { result.failed ≡ false }
+    {
         Writer {
-            taken: Vec::new(alloc),
+            taken,
             room,
             failed: false,
         }

@@ -1,5 +1,4 @@
-//! Long messages that are read and written again, and their reports. Octets and numbers are typed
-//! from the rules of the format.
+//! Long messages, read and written again, and their reports.
 
 use super::same;
 use super::samples::{octets, tables};
@@ -8,10 +7,10 @@ use bufr_message::{Message, Report, decode, encode, reports};
 use std::alloc::Global;
 use std::process::Abort;
 
-/// Numbers of two octets, each one more than the one before it: the first, and how many.
+/// Numbers of two octets that count up: the first, and how many.
 type Numbers = (u16, u16);
 
-/// The octets of a text, these numbers, and section 5.
+/// Returns octets, these numbers, and section 5.
 fn with_numbers(rt: &impl Abort, alloc: Global, front: &str, numbers: Numbers) -> Vec<u8> {
     let mut all = octets(rt, alloc, front);
     for step in 0..numbers.1 {
@@ -23,24 +22,23 @@ fn with_numbers(rt: &impl Abort, alloc: Global, front: &str, numbers: Numbers) -
     all
 }
 
-/// The front of a message of a thousand plain subsets of one temperature: 2,047 octets.
+/// The start of a message of a thousand subsets of one temperature: 2,047 octets.
 const THOUSAND_FRONT: &str = "42554652 0007FF 04 | S1 | 000009 00 03E8 80 0C65 | 0007D4 00";
 
-/// The front of a message of one plain subset of one temperature: 49 octets.
+/// The start of a message of one temperature: 49 octets.
 const ONE_FRONT: &str = "42554652 000031 04 | S1 | 000009 00 0001 80 0C65 | 000006 00";
 
-/// The front of a message of one subset of 255 times 150 temperatures: 76,551 octets.
+/// The start of a message of 255 times 150 temperatures: 76,551 octets.
 const FIELDS_FRONT: &str = "42554652 012B07 04 | S1 | 00000D 00 0001 80 4296 41FF 0C65 | 012AD8 00";
 
-/// The front of a message, its numbers, how many reports it has, the front of the canonical message
-/// of each, and how many numbers that has. The last is longer than 65,536 octets.
+/// A message's start and numbers, its number of reports, and the start and numbers of their
+/// canonical messages.
 const LONG: &[(&str, Numbers, usize, &str, u16)] = &[
     (THOUSAND_FRONT, (20_000, 1000), 1000, ONE_FRONT, 1),
     (FIELDS_FRONT, (0, 38_250), 1, FIELDS_FRONT, 38_250),
 ];
 
-/// The reports have such canonical messages: the first number of each is one more than that of the
-/// report before it.
+/// The reports have such canonical messages, each with a first number one greater.
 fn assert_reports(rt: &impl Abort, alloc: Global, reports: &[Report], front: &str, first: Numbers) {
     let mut numbers = first;
     for report in reports {
@@ -51,7 +49,7 @@ fn assert_reports(rt: &impl Abort, alloc: Global, reports: &[Report], front: &st
     }
 }
 
-/// What octets are read as, with no slack; it is written as they are.
+/// Reads octets, which have no slack, and writes the same octets again.
 fn read_and_written(rt: &impl Abort, alloc: Global, all: &[u8]) -> Message {
     let tables = tables(rt, alloc);
     let found = decode(alloc, &tables, all).expect(rt, "a message");

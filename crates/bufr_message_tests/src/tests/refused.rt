@@ -1,19 +1,18 @@
-//! The order of what refuses to write a message. Octets and answers are typed from the rules of the
-//! format.
+//! The order of faults of encoding.
 
 use super::same;
 use super::samples::{octets, tables};
-use bufr_answers::Items;
+use bufr_base::Items;
 use bufr_data::Subset;
 use bufr_message::{Message, decode, encode};
 use bufr_tables::Fxy;
 use std::alloc::Global;
 use std::process::Abort;
 
-/// As many subsets as there may be, of no field.
+/// A message with the most subsets, each without a field.
 const MOST_SUBSETS: &str = "42554652 00002F 04 | S1 | 000009 00 FFFF 80 8100 | 000004 00 | END";
 
-/// A message of one subset too many, all of no field.
+/// Returns a message with one subset too many, each without a field.
 fn one_too_many(rt: &impl Abort, alloc: Global) -> Message {
     let (tables, all) = (tables(rt, alloc), octets(rt, alloc, MOST_SUBSETS));
     let message = decode(alloc, &tables, all.as_slice())
@@ -26,7 +25,6 @@ fn one_too_many(rt: &impl Abort, alloc: Global) -> Message {
     Message { subsets, ..message }
 }
 
-/// The list of these descriptors.
 fn list_of(rt: &impl Abort, alloc: Global, list: &[(u8, u8, u8)]) -> Items<Fxy> {
     let mut whole = Vec::new(alloc);
     for (f, x, y) in list {
@@ -36,7 +34,6 @@ fn list_of(rt: &impl Abort, alloc: Global, list: &[(u8, u8, u8)]) -> Items<Fxy> 
     Items::from_vec(whole)
 }
 
-/// A message is not written for this reason.
 fn assert_not_written(rt: &impl Abort, alloc: Global, message: &Message, wanted: &str) {
     let tables = tables(rt, alloc);
     let failure = encode(alloc, &tables, message).err().expect(rt, wanted);
@@ -44,8 +41,7 @@ fn assert_not_written(rt: &impl Abort, alloc: Global, message: &Message, wanted:
     same(rt, wanted, found.as_str(), wanted);
 }
 
-/// The descriptors that a message of one subset too many is given, and why it is not written then:
-/// their number is told last.
+/// The descriptors of a message with one subset too many, and its fault: their number comes last.
 const REFUSED: &[(&[(u8, u8, u8)], &str)] = &[
     (&[(2, 1, 0)], "E3 TooLarge"),
     (&[(0, 12, 101)], "E1 DoesNotFit 1 1"),

@@ -1,11 +1,9 @@
-//! The tables and octets of the tests.
+//! Tables and octets for the tests.
 
-use bufr_table_files::{parse_table_b, parse_table_d};
-use bufr_tables::Tables;
+use bufr_tables::{TableB, TableD, Tables};
 use std::alloc::Global;
 use std::process::Abort;
 
-/// Table B of the tests.
 const TABLE_B: &str = "\
 FXY,ElementName_en,BUFR_Unit,BUFR_Scale,BUFR_ReferenceValue,BUFR_DataWidth_Bits
 001001,block number,Numeric,0,0,7
@@ -22,7 +20,6 @@ FXY,ElementName_en,BUFR_Unit,BUFR_Scale,BUFR_ReferenceValue,BUFR_DataWidth_Bits
 031001,delayed descriptor replication factor,Numeric,0,0,8
 ";
 
-/// Table D of the tests.
 const TABLE_D: &str = "\
 FXY1,FXY2
 301001,001001
@@ -34,15 +31,13 @@ FXY1,FXY2
 301012,004005
 ";
 
-/// The tables of the tests.
 pub(crate) fn tables(rt: &impl Abort, alloc: Global) -> Tables {
-    let b = parse_table_b(alloc, TABLE_B.as_bytes()).expect(rt, "a table");
-    let d = parse_table_d(alloc, TABLE_D.as_bytes()).expect(rt, "a table");
+    let b = TableB::parse(alloc, TABLE_B.as_bytes()).expect(rt, "a table");
+    let d = TableD::parse(alloc, TABLE_D.as_bytes()).expect(rt, "a table");
     Tables::new(b, d)
 }
 
-/// The octets that hexadecimal digits are. `S1` and `END` stand for the usual section 1 and for
-/// section 5; spaces and bars part the digits.
+/// Decodes hexadecimal digits. `S1` is the usual section 1, `END` section 5.
 pub(crate) fn octets(rt: &impl Abort, alloc: Global, text: &str) -> Vec<u8> {
     let mut digits = String::new(alloc);
     for word in text.split_whitespace() {
@@ -51,7 +46,6 @@ pub(crate) fn octets(rt: &impl Abort, alloc: Global, text: &str) -> Vec<u8> {
     hex::decode(alloc, digits.as_str()).expect(rt, "a message")
 }
 
-/// The digits that a word of such a text stands for.
 fn digits_of(word: &str) -> &str {
     match word {
         "S1" => "00001600006200000000000200250007E8010F0C0000",
@@ -61,27 +55,24 @@ fn digits_of(word: &str) -> &str {
     }
 }
 
-/// One plain subset of eight elements: 70 octets.
+/// One plain subset of eight elements: 70 octets. `SEQUENCES` has the same in sequences, and others
+/// change one thing of it.
 pub(crate) const ELEMENTS_ONLY: &str = "\
 42554652 000046 04 | S1 | 000017 00 0001 80 0101 0102 0401 0402 0403 0404 0405 0C65 |
 00000D 00 14C03F409EC01AACC0 | END";
 
-/// The same in sequences: 62 octets.
 pub(crate) const SEQUENCES: &str = "\
 42554652 00003E 04 | S1 | 00000F 00 0001 80 C101 C10B C10C 0C65 |
 00000D 00 14C03F409EC01AACC0 | END";
 
-/// The temperature is missing.
 pub(crate) const MISSING_TEMPERATURE: &str = "\
 42554652 00003E 04 | S1 | 00000F 00 0001 80 C101 C10B C10C 0C65 |
 00000D 00 14C03F409EC03FFFC0 | END";
 
-/// The data are not observed.
 pub(crate) const UNOBSERVED: &str = "\
 42554652 00003E 04 | S1 | 00000F 00 0001 00 C101 C10B C10C 0C65 |
 00000D 00 14C03F409EC01AACC0 | END";
 
-/// An empty section 2.
 pub(crate) const EMPTY_SECTION_2: &str = "\
 42554652 000042 04 | 000016 00 0062 0000 00 80 00 02 00 25 00 07E8 01 0F 0C 00 00 |
 000004 00 | 00000F 00 0001 80 C101 C10B C10C 0C65 | 00000D 00 14C03F409EC01AACC0 | END";
@@ -102,7 +93,6 @@ pub(crate) const UNEQUAL_COUNTS: &str =
 pub(crate) const THREE_BITS: &str =
     "42554652 000030 04 | S1 | 000009 00 0003 80 1F00 | 000005 00 40 | END";
 
-/// No subset: 53 octets.
 pub(crate) const NO_SUBSETS: &str =
     "42554652 000035 04 | S1 | 00000F 00 0000 80 C101 C10B C10C 0C65 | 000004 00 | END";
 
@@ -111,7 +101,6 @@ pub(crate) const OPERATORS: &str = "\
 42554652 00003E 04 | S1 | 000013 00 0001 80 8182 8281 0C65 8100 8200 0C65 |
 000009 00 F4241AACC0 | END";
 
-/// Four characters.
 pub(crate) const TEXT_WIDTH_AND_ESCAPES: &str =
     "42554652 000035 04 | S1 | 00000B 00 0001 80 8804 010B | 000008 00 41225C0A | END";
 
@@ -119,49 +108,48 @@ pub(crate) const TEXT_WIDTH_AND_ESCAPES: &str =
 pub(crate) const LOCAL_DESCRIPTOR: &str =
     "42554652 000033 04 | S1 | 00000B 00 0001 80 860C 01FA | 000006 00 0050 | END";
 
-/// The first with two octets for local use, a section 2, an odd octet in section 3 and two octets
-/// after the data: 81 octets.
+/// `ELEMENTS_ONLY` with two octets for local use, a section 2, an odd octet and two octets after
+/// the data: 81 octets.
 pub(crate) const LOCAL_OCTETS_AND_SLACK: &str = "\
 42554652 000051 04 | 000018 00 0062 0000 00 80 00 02 00 25 00 07E8 01 0F 0C 00 00 ABCD |
 000006 00 0102 | 000018 00 0001 80 0101 0102 0401 0402 0403 0404 0405 0C65 FF |
 00000F 00 14C03F409EC01AACC0 0000 | END";
 
-/// The first with ones in all that is ignored: the reserved bits of sections 1 and 3, the reserved
-/// octets and the fill bits.
+/// `ELEMENTS_ONLY` with ones in all that readers ignore.
 pub(crate) const IGNORED_ONES: &str = "\
 42554652 000046 04 | 000016 00 0062 0000 00 7F 00 02 00 25 00 07E8 01 0F 0C 00 00 |
 000017 FF 0001 BF 0101 0102 0401 0402 0403 0404 0405 0C65 | 00000D FF 14C03F409EC01AACFF |
 END";
 
-/// No subset, with nine octets that no subset has.
+/// No subset, and nine octets after the data.
 pub(crate) const NO_SUBSETS_AND_SLACK: &str = "\
 42554652 00003E 04 | S1 | 00000F 00 0000 80 C101 C10B C10C 0C65 |
 00000D 00 14C03F409EC01AACC0 | END";
 
-/// Fourteen numbers in section 1 that all differ, and two octets for local use.
+/// Fourteen different numbers in section 1, and two octets for local use.
 pub(crate) const DISTINCT_HEAD: &str = "\
 42554652 000033 04 | 000018 00 0102 0304 05 00 06 07 08 09 0A 0B0C 0D 0E 0F 10 11 1213 |
 000009 00 0001 80 0C65 | 000006 00 6AB3 | END";
 
-/// A text of each side of what is printed as it is, with a quote and a backslash.
+/// A text on both sides of the printable octets, with a quote and a backslash.
 pub(crate) const CHARACTERS: &str =
     "42554652 00003B 04 | S1 | 00000B 00 0001 80 880A 010B | 00000E 00 1F2021227D7E7F5C0AFF | END";
 
-/// Two compressed subsets whose temperatures are 27315 and missing: 68 octets.
+/// Two compressed subsets, the second with a missing temperature: 68 octets.
 pub(crate) const COMPRESSED_PAIR: &str = "\
 42554652 000044 04 | S1 | 00000F 00 0002 C0 C101 C10B C10C 0C65
 | 000013 00 14030003F400201E03000006AB3050 | END";
 
-/// Texts of three characters, compressed, the first filled with a space, the second missing.
+/// Two compressed texts of three characters, the second missing.
 pub(crate) const COMPRESSED_TEXTS: &str = "\
 42554652 000039 04 | S1 | 00000B 00 0002 C0 8803 010B | 00000C 00 00000009050BFFFC | END";
 
-/// Two subsets whose temperatures are 27315 and 27316, whose increments need two bits.
+/// Two compressed subsets with increments of two bits.
 pub(crate) const COMPRESSED_INCREMENTS: &str = "\
 42554652 000044 04 | S1 | 00000F 00 0002 C0 C101 C10B C10C 0C65
 | 000013 00 14030003F400201E03000006AB3084 | END";
 
-/// Two subsets of a factor of 0, whose increments are there and agree.
+/// Two compressed subsets of a factor of 0.
 pub(crate) const COMPRESSED_FACTOR: &str = "\
 42554652 000035 04 | S1 | 00000D 00 0002 C0 4100 1F01 0C65 | 000006 00 0004 | END";
 
@@ -169,20 +157,16 @@ pub(crate) const COMPRESSED_FACTOR: &str = "\
 pub(crate) const COMPRESSED_NOT_A_FACTOR: &str = "\
 42554652 000031 04 | S1 | 000009 00 0002 C0 1F00 | 000006 00 0280 | END";
 
-/// No subset, compressed and observed.
 pub(crate) const NO_COMPRESSED_SUBSETS: &str =
     "42554652 000035 04 | S1 | 00000F 00 0000 C0 C101 C10B C10C 0C65 | 000004 00 | END";
 
-/// No subset, compressed and not observed.
 pub(crate) const NO_SUBSETS_UNOBSERVED: &str =
     "42554652 000035 04 | S1 | 00000F 00 0000 40 C101 C10B C10C 0C65 | 000004 00 | END";
 
-/// One temperature.
 pub(crate) const TEMPERATURE: &str =
     "42554652 000031 04 | S1 | 000009 00 0001 80 0C65 | 000006 00 6AB3 | END";
 
-/// Edition 3, of the 15th of January 2024, 12:00: section 1 has 18 octets, one of them for local
-/// use.
+/// Edition 3, 15 January 2024, 12:00, with one octet for local use.
 pub(crate) const EDITION_3: &str = "\
 42554652 00003C 03 | 000012 00 00 62 00 00 00 02 0D 00 18 01 0F 0C 00 00 |
 000010 00 0001 80 C101 C10B C10C 0C65 00 | 00000E 00 14C03F409EC01AACC0 00 | END";

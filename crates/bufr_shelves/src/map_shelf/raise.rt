@@ -3,15 +3,15 @@ ghost use Rattle.std.specs.Prelude.{◌≡◌, IfOk, OnOk, OnErr, find};
 ghost use Rattle.std.specs.Option.{option_map};
 ghost use Rattle.std.specs.Ordering.{is_eq, is_lt};
 ghost use Rattle.std.specs.Map.Iter.{deref_pair};
-ghost use Rattle.bufr_shelves.specs.Keeping.{put_by, put_all, changes_by, first_of};
+ghost use Rattle.bufr_entries.specs.Keeping.{put_by, put_all, changes_by, first_of};
 ghost use Rattle.bufr_shelves.specs.Pairs.{by_key, by_value};
 
 use crate::rank::Exact;
-use bufr_answers::OutOfMemory;
+use bufr_base::OutOfMemory;
 use std::collections::BTreeMap;
 use std::ops::Bound;
 
-/// Puts a value at a key where it is greater than the one there, and says whether it is.
+/// Puts a value at a key if it is greater than the one there, and returns whether it is.
 pub(crate) fn raise<K: Exact, V: Exact>(
     map: &mut BTreeMap<K, V>,
     key: K,
@@ -35,7 +35,7 @@ pub(crate) fn raise<K: Exact, V: Exact>(
     Ok(true)
 }
 
-/// Puts all values of another map at their keys, each where it is greater than the one there.
+/// Raises the map by all pairs of another; on want of memory by some.
 pub(crate) fn raise_all<K: Exact, V: Exact>(
     map: &mut BTreeMap<K, V>,
     more: &BTreeMap<K, V>,
@@ -51,7 +51,6 @@ pub(crate) fn raise_all<K: Exact, V: Exact>(
     Ok(())
 }
 
-/// A copy of a map.
 pub(crate) fn copied<K: Exact, V: Exact>(
     map: &BTreeMap<K, V>,
 ) -> Result<BTreeMap<K, V>, OutOfMemory>
@@ -60,21 +59,18 @@ pub(crate) fn copied<K: Exact, V: Exact>(
     map.clone()
 }
 
-/// The pair at a key.
 pub(crate) fn at_key<'a, K: Exact, V>(map: &'a BTreeMap<K, V>, key: &K) -> Option<(&'a K, &'a V)>
     ensures { option_map deref_pair result ≡ find (λ p. is_eq (K.cmp key.now p.0)) map.now.entries }
 {
     map.get_key_value(key)
 }
 
-/// The first pair.
 pub(crate) fn first_pair<K: Exact, V>(map: &BTreeMap<K, V>) -> Option<(&K, &V)>
     ensures { option_map deref_pair result ≡ first_of map.now.entries }
 {
     map.first_key_value()
 }
 
-/// The first pair whose key is greater than this one.
 pub(crate) fn next_after<'a, K: Exact, V>(
     map: &'a BTreeMap<K, V>,
     key: &K,

@@ -1,48 +1,42 @@
-//! Entries that are looked at where they stand, alone or among others.
-ghost use Rattle.std.specs.Prelude.{◌≡◌, IfOk};
-ghost use Rattle.bufr_keys.specs.KeyOrders.{octets_cmp};
-ghost use Rattle.bufr_shelves.specs.Entries.{slot_cmp, rank_cmp};
-ghost use Rattle.bufr_shelves.specs.Pages.{seen};
+//! Shelves of gathered entries.
+ghost use Rattle.std.specs.Prelude.{◌≡◌, ◌++◌, ◌∷◌, [], IfOk, OnOk};
+ghost use Rattle.bufr_entries.specs.Entries.{kept};
+ghost use Rattle.bufr_entries.specs.Pages.{seen};
 
-use crate::entry::Entry;
-use crate::mark::Mark;
-use bufr_answers::{Items, OutOfMemory};
+use crate::shelf::Shelf;
+use crate::sorted_shelf::SortedShelf;
+use bufr_base::OutOfMemory;
+use bufr_entries::{Entry, Look, PagesLeft, ShelfBuilder};
 use std::alloc::Global;
-use std::cmp::Ordering;
 
-/// An entry that is looked at where it stands.
-#[derive(Clone, Copy, Drop)]
-pub(crate) struct Look<'a> {
-    pub(crate) mark: &'a Mark,
-    pub(crate) octets: &'a [u8],
+impl SortedShelf {
+    /// Makes a shelf of the entries of a builder.
+    pub fn of_gathered(alloc: Global, builder: ShelfBuilder) -> Result<SortedShelf, OutOfMemory>
+        ensures { IfOk result (λ shelf. kept shelf ≡ kept builder) }
+    {
+        let mut left = builder.into_left()?;
+        let mut shelf = SortedShelf::new(alloc);
+        put_all(alloc, &mut shelf, &mut left)?;
+        Ok(shelf)
+    }
 }
 
-impl Look<'_> {
-    /// The order of the slots of two entries.
-    pub(crate) fn slot_cmp(self, other: Look) -> Ordering
-        ensures { result ≡ slot_cmp (seen self.entry) (seen other.entry) }
-    {
-        self.mark.slot_order(self.octets, other.mark, other.octets)
+/// Puts all entries of pages on a shelf. If memory is refused some are there.
+fn put_all(alloc: Global, shelf: &mut SortedShelf, left: &mut PagesLeft) -> Result<(), OutOfMemory>
+    ensures { OnOk result (kept shelf.new ≡ kept (kept shelf.old ++ left.old)) }
+{
+    while let Some(first) = left.first() {
+        put_copy(alloc, shelf, first)?;
+        left.drop_first();
     }
+    Ok(())
+}
 
-    /// The order of their ranks.
-    pub(crate) fn rank_cmp(self, other: Look) -> Ordering
-        ensures { result ≡ rank_cmp (seen self.entry) (seen other.entry) }
-    {
-        match self.mark.update().cmp(&other.mark.update()) {
-            Ordering::Equal => self.octets.cmp(other.octets),
-            order => order,
-        }
-    }
-
-    /// The entry once more.
-    pub(crate) fn copied(self, alloc: Global) -> Result<Entry, OutOfMemory>
-        ensures { IfOk result (λ entry. entry ≡ seen self.entry) }
-    {
-        Ok(Entry {
-            key: self.mark.key()?,
-            update: self.mark.update(),
-            bytes: Items::from_vec(Vec::from_slice(alloc, self.octets)?),
-        })
-    }
+/// Puts a copy of an entry on a shelf.
+fn put_copy(alloc: Global, shelf: &mut SortedShelf, look: Look) -> Result<(), OutOfMemory>
+    ensures { OnOk result (kept shelf.new ≡ kept (kept shelf.old ++ seen look.entry ∷ [])) }
+{
+    let Entry { key, update, bytes } = look.copied(alloc)?;
+    shelf.put(key, update, bytes)?;
+    Ok(())
 }

@@ -1,15 +1,15 @@
-//! The octets of entries, joined.
+//! The octets of a sorted shelf, joined.
 ghost use Rattle.std.specs.Prelude.{◌≡◌, ◌++◌, IfOk, OnOk};
 ghost use Rattle.std.specs.List.{flat_map};
-ghost use Rattle.bufr_shelves.specs.Entries.{kept};
+ghost use Rattle.bufr_entries.specs.Entries.{kept};
 
 use crate::rank::Rank;
 use crate::sorted_shelf::SortedShelf;
 use crate::sorted_shelf::pair::Pair;
-use bufr_answers::{Items, OutOfMemory};
-use bufr_keys::Key;
+use bufr_base::{Items, OutOfMemory};
+use bufr_entries::Key;
 
-/// Adds the octets of entries with a key, each of which is given back once they are added.
+/// Appends the octets of the entries with a key, and frees each entry.
 fn push_keyed(out: &mut Vec<u8>, pairs: Vec<Pair<Key, Rank>>) -> Result<(), OutOfMemory>
     ensures { OnOk result
         (out.new.items ≡ out.old.items ++ flat_map (λ p. p.1.bytes) pairs.items) }
@@ -20,7 +20,7 @@ fn push_keyed(out: &mut Vec<u8>, pairs: Vec<Pair<Key, Rank>>) -> Result<(), OutO
     Ok(())
 }
 
-/// Adds the octets of entries without one, each of which is given back once they are added.
+/// Appends the octets of the entries without a key, and frees each entry.
 fn push_unkeyed(out: &mut Vec<u8>, pairs: Vec<Pair<Items<u8>, u8>>) -> Result<(), OutOfMemory>
     ensures { OnOk result
         (out.new.items ≡ out.old.items ++ flat_map (λ p. p.0) pairs.items) }
@@ -32,8 +32,7 @@ fn push_unkeyed(out: &mut Vec<u8>, pairs: Vec<Pair<Items<u8>, u8>>) -> Result<()
 }
 
 impl SortedShelf {
-    /// The octets of all entries in order of slots, joined. The shelf is gone, also where memory
-    /// was refused.
+    /// Joins the octets of all entries, in order of slots.
     pub fn into_octets(self) -> Result<Vec<u8>, OutOfMemory>
         ensures { IfOk result (λ out. out.items ≡ flat_map (λ e. e.bytes) (kept self)) }
     {

@@ -1,36 +1,20 @@
-//! Two sorted vectors merged in one pass that only moves.
+//! The merge of two sorted vectors.
 ghost use Rattle.std.specs.Prelude.{◌≡◌, ◌+◌, ◌≤◌, ◌<◌, ◌++◌, [], IfOk, OnSome, IfNone, MatchOption, length, vec_len, reverse};
 ghost use Rattle.std.specs.Vec.{vec_capacity};
 ghost use Rattle.std.specs.Option.{option_to_list};
 ghost use Rattle.std.specs.List.Sorted.{IsStrictlySortedBy};
 ghost use Rattle.std.specs.Map.{keys_of};
-ghost use Rattle.bufr_shelves.specs.Keeping.{put_all};
-ghost use Rattle.bufr_shelves.specs.Merging.{merged, heads_order, greater_of};
+ghost use Rattle.bufr_entries.specs.Keeping.{put_all};
+ghost use Rattle.bufr_entries.specs.Merging.{merged, heads_order, greater_of};
 ghost use Rattle.bufr_shelves.specs.Pairs.{by_key, by_value};
 
 use crate::rank::Exact;
 use crate::sorted_shelf::pair::Pair;
-use bufr_answers::OutOfMemory;
+use bufr_base::OutOfMemory;
+use bufr_entries::take_last;
 use std::alloc::Global;
 use std::cmp::Ordering;
 
-/// So many places at the end of a vector are given back once they are free.
-const FREE_PLACES: usize = 8_192;
-
-/// Takes the last member, and gives back much room that is free.
-pub(crate) fn take_last<T>(members: &mut Vec<T>) -> Option<T>
-    ensures items { members.old.items ≡ members.new.items ++ option_to_list result }
-    ensures len { vec_len members.new + length (option_to_list result) ≡ vec_len members.old }
-    ensures cases { MatchOption result ((vec_len members.old ≡ 0) × (vec_len members.new ≡ 0))
-        (λ _. vec_len members.new + 1 ≡ vec_len members.old) }
-{
-    if members.capacity().saturating_sub(members.len()) >= FREE_PLACES {
-        members.shrink_to_fit();
-    }
-    members.pop()
-}
-
-/// An empty vector with room for all pairs of two.
 pub(crate) fn room_for<K, V>(
     alloc: Global,
     left: &Vec<Pair<K, V>>,
@@ -42,8 +26,8 @@ pub(crate) fn room_for<K, V>(
     Vec::with_capacity(alloc, left.len() + right.len())
 }
 
-/// Merges pairs into others, of each key the one with the greater value: all are moved into the
-/// room, which then takes the place of the first.
+/// Merges `right` into `left`, and keeps the greater value of each key. The pairs move into `room`,
+/// which becomes `left`.
 pub(crate) fn merge<K: Exact, V: Exact>(
     left: &mut Vec<Pair<K, V>>,
     mut right: Vec<Pair<K, V>>,
@@ -62,8 +46,8 @@ pub(crate) fn merge<K: Exact, V: Exact>(
     *left = room;
 }
 
-/// Takes the pair of lesser key from the ends of two vectors in falling order; of two with one key
-/// it takes both and gives the one with the greater value.
+/// Takes the pair with the lesser key from the ends of two falling vectors; if the keys tie, takes
+/// both and returns the one with the greater value.
 fn take_lesser<K: Exact, V: Exact>(
     left: &mut Vec<Pair<K, V>>,
     right: &mut Vec<Pair<K, V>>,
@@ -86,8 +70,7 @@ fn take_lesser<K: Exact, V: Exact>(
     }
 }
 
-/// The order of the keys at the ends of two vectors; an empty one is told as if its key were
-/// greater.
+/// Compares the keys at the ends of two vectors; an empty vector counts as greater.
 fn order_of_ends<K: Exact, V: Exact>(left: &Vec<Pair<K, V>>, right: &Vec<Pair<K, V>>) -> Ordering
     ensures { result
         ≡ heads_order (by_key K.cmp) (reverse left.now.items) (reverse right.now.items) }
@@ -101,7 +84,7 @@ fn order_of_ends<K: Exact, V: Exact>(left: &Vec<Pair<K, V>>, right: &Vec<Pair<K,
     pair.order(next)
 }
 
-/// Of two pairs the one with the greater value, the left one where they are equal.
+/// Returns the pair with the greater value, the left one if they tie.
 fn greater_of<K: Exact, V: Exact>(
     left: Option<Pair<K, V>>,
     right: Option<Pair<K, V>>,

@@ -2,13 +2,13 @@
 ghost use Rattle.std.specs.Prelude.{◌≡◌, IfOk};
 
 use crate::rank::Exact;
-use bufr_answers::OutOfMemory;
+use bufr_base::OutOfMemory;
 use std::alloc::Global;
 use std::cmp::Ordering;
 use std::marker::Model;
 
-/// A key and its value in a place of their own, so that a vector of pairs moves eight octets for
-/// each. Contracts see the pair.
+/// A pair of key and value in a box, so that a vector moves eight octets for each. Contracts see
+/// the pair.
 #[derive(Drop)]
 pub(crate) struct Pair<K, V> {
     held: Box<(K, V)>,
@@ -21,7 +21,6 @@ impl<K, V> Model for Pair<K, V> {
 }
 
 impl<K: Drop, V: Drop> Pair<K, V> {
-    /// A pair of its parts.
     pub(crate) fn new(alloc: Global, key: K, value: V) -> Result<Pair<K, V>, OutOfMemory>
         ensures { IfOk result (λ pair. pair ≡ (key, value)) }
     {
@@ -30,7 +29,6 @@ impl<K: Drop, V: Drop> Pair<K, V> {
         })
     }
 
-    /// Puts other parts in place of these.
     pub(crate) fn replace(&mut self, key: K, value: V)
         ensures { self.new ≡ (key, value) }
     {
@@ -39,14 +37,12 @@ impl<K: Drop, V: Drop> Pair<K, V> {
 }
 
 impl<K, V> Pair<K, V> {
-    /// The key.
     pub(crate) fn key(&self) -> &K
         ensures { result.now ≡ self.now.0 }
     {
         &self.held.0
     }
 
-    /// The value.
     pub(crate) fn value(&self) -> &V
         ensures { result.now ≡ self.now.1 }
     {
@@ -55,7 +51,6 @@ impl<K, V> Pair<K, V> {
 }
 
 impl<K: Exact, V> Pair<K, V> {
-    /// The order of the keys.
     pub(crate) fn order(&self, other: &Pair<K, V>) -> Ordering
         ensures { result ≡ K.cmp self.now.0 other.now.0 }
     {

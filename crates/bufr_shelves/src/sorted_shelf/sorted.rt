@@ -1,4 +1,4 @@
-//! Vectors of pairs in order of keys, which keep the greatest value at each key.
+//! Vectors of pairs in order of keys, with the greatest value of each key.
 ghost use Rattle.std.specs.Prelude.{◌≡◌, ◌<◌, ◌≤◌, IfOk, OnOk, OnErr, MatchResult, find, slice_get, vec_len};
 ghost use Rattle.std.specs.Option.{option_map};
 ghost use Rattle.std.specs.Ordering.{is_eq, is_lt};
@@ -6,16 +6,16 @@ ghost use Rattle.std.specs.Vec.{vec_capacity};
 ghost use Rattle.std.specs.List.Sorted.{IsStrictlySortedBy};
 ghost use Rattle.std.specs.Map.{keys_of};
 ghost use Rattle.std.specs.Map.Iter.{deref_pair};
-ghost use Rattle.bufr_shelves.specs.Keeping.{put_by, changes_by, first_of};
+ghost use Rattle.bufr_entries.specs.Keeping.{put_by, changes_by, first_of};
 ghost use Rattle.bufr_shelves.specs.Pairs.{by_key, by_value, place_of};
 
 use crate::rank::Exact;
 use crate::sorted_shelf::pair::Pair;
-use bufr_answers::OutOfMemory;
+use bufr_base::OutOfMemory;
 use std::alloc::Global;
 use std::cmp::Ordering;
 
-/// Where a key stands, or where it would go, by binary search.
+/// Searches a key by halves. Returns its index, or the index to insert it at.
 pub(crate) fn place<K: Exact, V>(pairs: &Vec<Pair<K, V>>, key: &K) -> Result<usize, usize>
     requires { IsStrictlySortedBy K.cmp (keys_of pairs.now.items) }
     ensures place { result ≡ place_of (K.cmp key.now) pairs.now.items }
@@ -34,7 +34,7 @@ pub(crate) fn place<K: Exact, V>(pairs: &Vec<Pair<K, V>>, key: &K) -> Result<usi
     Err(low)
 }
 
-/// The same, for keys that mostly come in order: the last pair is looked at first.
+/// Searches a key, first at the end: for keys that come nearly in order.
 pub(crate) fn place_from_end<K: Exact, V>(pairs: &Vec<Pair<K, V>>, key: &K) -> Result<usize, usize>
     requires { IsStrictlySortedBy K.cmp (keys_of pairs.now.items) }
     ensures place { result ≡ place_of (K.cmp key.now) pairs.now.items }
@@ -50,7 +50,7 @@ pub(crate) fn place_from_end<K: Exact, V>(pairs: &Vec<Pair<K, V>>, key: &K) -> R
     }
 }
 
-/// Puts a value at a key where it is greater than the one there, and says whether it is.
+/// Puts a value at a key if it is greater than the one there, and returns whether it is.
 pub(crate) fn raise<K: Exact, V: Exact>(
     alloc: Global,
     pairs: &mut Vec<Pair<K, V>>,
@@ -80,7 +80,6 @@ pub(crate) fn raise<K: Exact, V: Exact>(
     }
 }
 
-/// A copy of the pairs.
 pub(crate) fn copied<K: Exact, V: Exact>(
     alloc: Global,
     pairs: &Vec<Pair<K, V>>,
@@ -96,7 +95,6 @@ pub(crate) fn copied<K: Exact, V: Exact>(
     Ok(copy)
 }
 
-/// The pair at a key.
 pub(crate) fn at_key<'a, K: Exact, V: Drop>(
     pairs: &'a Vec<Pair<K, V>>,
     key: &K,
@@ -110,7 +108,6 @@ pub(crate) fn at_key<'a, K: Exact, V: Drop>(
     }
 }
 
-/// The pair at an index, where there is one.
 fn pair_at<K: Drop, V: Drop>(pairs: &Vec<Pair<K, V>>, index: usize) -> Option<(&K, &V)>
     ensures { option_map deref_pair result ≡ slice_get pairs.now.items index }
 {
@@ -118,14 +115,12 @@ fn pair_at<K: Drop, V: Drop>(pairs: &Vec<Pair<K, V>>, index: usize) -> Option<(&
     Some((pair.key(), pair.value()))
 }
 
-/// The first pair.
 pub(crate) fn first_pair<K: Drop, V: Drop>(pairs: &Vec<Pair<K, V>>) -> Option<(&K, &V)>
     ensures { option_map deref_pair result ≡ first_of pairs.now.items }
 {
     pair_at(pairs, 0)
 }
 
-/// The first pair whose key is greater than this one.
 pub(crate) fn next_after<'a, K: Exact, V: Drop>(
     pairs: &'a Vec<Pair<K, V>>,
     key: &K,

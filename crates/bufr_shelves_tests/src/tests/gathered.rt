@@ -1,7 +1,6 @@
 //! Entries gathered in any order.
 use super::*;
 
-/// Puts an entry in.
 fn gather(
     rt: &impl Abort,
     alloc: Global,
@@ -14,8 +13,8 @@ fn gather(
     builder.put(key, update, held).expect(rt, "room");
 }
 
-/// A hundred thousand stations, each twice and in no order. Of each the greater update number comes
-/// first where the station is odd, and last where it is even.
+/// A hundred thousand stations, each twice and in no order. The greater update number comes first
+/// for odd stations, and last for even ones.
 fn hundred_thousand(rt: &impl Abort, alloc: Global) -> ShelfBuilder {
     let mut builder = ShelfBuilder::new(alloc);
     for place in 0..200_000u32 {
@@ -28,7 +27,7 @@ fn hundred_thousand(rt: &impl Abort, alloc: Global) -> ShelfBuilder {
     builder
 }
 
-/// Seventy thousand entries without key, each twice and in no order.
+/// Seventy thousand entries without a key, each twice and in no order.
 fn without_key(rt: &impl Abort, alloc: Global) -> ShelfBuilder {
     let mut builder = ShelfBuilder::new(alloc);
     for place in 0..140_000u32 {
@@ -38,8 +37,6 @@ fn without_key(rt: &impl Abort, alloc: Global) -> ShelfBuilder {
     builder
 }
 
-/// The shelf holds the octets of the hundred thousand in order, each with a key and the greater
-/// update number.
 fn assert_numbers(rt: &impl Abort, shelf: &SortedShelf) {
     same(rt, shelf.len(), 100_000);
     let mut next = shelf.first();
@@ -51,17 +48,17 @@ fn assert_numbers(rt: &impl Abort, shelf: &SortedShelf) {
     assert!(rt; next.is_none());
 }
 
-/// The stations are put in order in several batches, and of each the greater update number is kept.
+/// The builder sorts the stations in several batches, and keeps the greater update number of each.
 #[test]
 fn hundred_thousand_gathered(rt: HostRuntime) {
     let builder = hundred_thousand(&rt, rt.alloc());
-    let shelf = builder.into_shelf().expect(&rt, "room");
+    let shelf = SortedShelf::of_gathered(rt.alloc(), builder).expect(&rt, "room");
     assert_numbers(&rt, &shelf);
     let octets = shelf.into_octets().expect(&rt, "room");
     same(&rt, octets.len(), 500_000);
 }
 
-/// The octets of entries without key are handed out in order, each once.
+/// The octets of entries without a key come in order, each once.
 #[test]
 fn octets_handed_out(rt: HostRuntime) {
     let builder = without_key(&rt, rt.alloc());

@@ -6,7 +6,6 @@ fn scattered(place: u32) -> u32 {
     (u64::from(place) * 389 % 1000) as u32
 }
 
-/// Puts a report that changes the shelf.
 fn put_new<S: Shelf>(
     rt: &impl Abort,
     alloc: Global,
@@ -18,7 +17,7 @@ fn put_new<S: Shelf>(
     put_one(rt, alloc, shelf, (station, update, &digits(number), true));
 }
 
-/// A shelf of a thousand stations and five hundred entries without key.
+/// A shelf of a thousand stations and five hundred entries without a key.
 fn thousand<S: Shelf>(rt: &impl Abort, alloc: Global) -> S {
     let mut shelf = S::new(alloc);
     for place in 0..1000u32 {
@@ -31,7 +30,7 @@ fn thousand<S: Shelf>(rt: &impl Abort, alloc: Global) -> S {
     shelf
 }
 
-/// A shelf of the odd ones of these stations with update number 1.
+/// A shelf of the odd stations with update number 1.
 fn odd_updates<S: Shelf>(rt: &impl Abort, alloc: Global) -> S {
     let mut shelf = S::new(alloc);
     for place in 0..1000u32 {
@@ -43,8 +42,7 @@ fn odd_updates<S: Shelf>(rt: &impl Abort, alloc: Global) -> S {
     shelf
 }
 
-/// The entry at a place among the thousand and the five hundred has a key or not, this update
-/// number where its station is odd, and its octets.
+/// The entry at an index among the 1,500; odd stations have this update number.
 fn assert_entry(rt: &impl Abort, held: Held, place: u16, odd: u8) {
     let place = u32::from(place);
     if place < 1000 {
@@ -55,7 +53,6 @@ fn assert_entry(rt: &impl Abort, held: Held, place: u16, odd: u8) {
     }
 }
 
-/// All are there in order, the odd stations with this update number.
 fn assert_thousand<S: Shelf>(rt: &impl Abort, shelf: &S, odd: u8) {
     same(rt, shelf.len(), 1500);
     let mut next = shelf.first();
@@ -67,7 +64,7 @@ fn assert_thousand<S: Shelf>(rt: &impl Abort, shelf: &S, odd: u8) {
     assert!(rt; next.is_none());
 }
 
-/// A station is found at its hour, and not at the next.
+/// The shelf finds a station at its hour, and not at the next.
 fn assert_found<S: Shelf>(rt: &impl Abort, shelf: &S, number: u16) {
     let station = number as i128;
     let held = shelf.get(&key(wmo(station), 12)).expect(rt, "there");
@@ -75,7 +72,7 @@ fn assert_found<S: Shelf>(rt: &impl Abort, shelf: &S, number: u16) {
     assert!(rt; shelf.get(&key(wmo(station), 13)).is_none());
 }
 
-/// Updates are joined into a thousand stations, and these into the updates.
+/// Joins updates into a thousand stations, and these into the updates.
 fn join_a_thousand<S: Shelf>(rt: &impl Abort, alloc: Global) {
     let mut shelf = thousand::<S>(rt, alloc);
     assert_thousand(rt, &shelf, 0);
@@ -97,7 +94,7 @@ fn thousand_joined(rt: HostRuntime) {
     join_a_thousand::<SortedShelf>(&rt, rt.alloc());
 }
 
-/// A list of a thousand entries, each station twice, gives a shelf of five hundred.
+/// A list of a thousand entries, each station twice, makes a shelf of five hundred.
 fn shelve_a_thousand<S: Shelf>(rt: &impl Abort, alloc: Global) {
     let mut entries = Vec::new(alloc);
     for place in 0..1000u32 {
@@ -115,7 +112,6 @@ fn shelve_a_thousand<S: Shelf>(rt: &impl Abort, alloc: Global) {
     assert_first_stations(rt, &shelf);
 }
 
-/// The shelf holds the stations below 500, in order.
 fn assert_first_stations<S: Shelf>(rt: &impl Abort, shelf: &S) {
     same(rt, shelf.len(), 500);
     let mut next = shelf.first();

@@ -1,23 +1,20 @@
-//! Marks of keys of each kind.
+//! Marks of each kind of key.
 use super::*;
 
-/// What a station is known by.
+/// A station: a WMO block and number, a WIGOS name, or a mobile name.
 enum Known<'a> {
-    /// A WMO block and station number.
     Wmo(i128, i128),
-    /// The name of a WIGOS identifier.
     Wigos(&'a [u8]),
-    /// A mobile station's name.
     Mobile(&'a [u8]),
 }
 
 use Known::{Mobile, Wigos, Wmo};
 
-/// The station of a key, unless there is none, an update number and octets.
+/// A station or none, an update number and octets.
 type Row<'a> = (Option<Known<'a>>, u8, &'a [u8]);
 
-/// Stations of each kind, and no key, in order of slots: blocks and numbers at both sides of where an
-/// octet or two octets end, whatever room they take, names that begin alike, and then octets.
+/// Stations of each kind, and none, in order of slots: blocks and numbers on both sides of one and
+/// two octets, names that begin alike, and then octets.
 const IN_ORDER: &[Row<'static>] = &[
     (Some(Wmo(-1, 65_535)), 9, b"b"),
     (Some(Wmo(0, -1)), 0, b"a"),
@@ -42,7 +39,6 @@ const IN_ORDER: &[Row<'static>] = &[
     (None, 0, b"b"),
 ];
 
-/// The key of a row at noon.
 fn key_of(rt: &impl Abort, alloc: Global, row: &Row) -> Option<Key> {
     let station = match &row.0 {
         Some(Wmo(block, number)) => Station::wmo(*block, *number),
@@ -53,15 +49,15 @@ fn key_of(rt: &impl Abort, alloc: Global, row: &Row) -> Option<Key> {
     Some(key(station, 12))
 }
 
-/// The mark of a row, which has the key and the update number that it was made of.
-fn mark_of(rt: &impl Abort, alloc: Global, row: &Row) -> Mark {
-    let mark = Mark::new(alloc, key_of(rt, alloc, row), row.1).expect(rt, "room");
+/// Makes the mark of a row, which has its key and update number.
+fn mark_of(rt: &impl Abort, alloc: Global, row: &Row) -> PackedSlot {
+    let mark = PackedSlot::new(alloc, key_of(rt, alloc, row), row.1).expect(rt, "room");
     same(rt, mark.key().expect(rt, "room"), key_of(rt, alloc, row));
     same(rt, mark.update(), row.1);
     mark
 }
 
-/// The slots of two marks have the order of their places.
+/// The slots of two marks have the order of their rows.
 fn assert_order(rt: &impl Abort, alloc: Global, place: usize, other_place: usize) {
     let row = IN_ORDER.get(place).expect(rt, "a row");
     let other = IN_ORDER.get(other_place).expect(rt, "a row");
@@ -72,7 +68,6 @@ fn assert_order(rt: &impl Abort, alloc: Global, place: usize, other_place: usize
     );
 }
 
-/// The order of the slots of marks.
 #[test]
 fn order_of_marks(rt: HostRuntime) {
     for place in 0..IN_ORDER.len() {

@@ -1,16 +1,15 @@
 //! The engines that collect reports, `add` and `merge`, on devices that serve, fail or do not end.
 
 ghost use Rattle.std.specs.Prelude.{◌≡◌, ◌≤◌, map};
-ghost use Rattle.bufr_collect.specs.Readers.{AreFresh};
-ghost use Rattle.bufr_io.specs.Limits.{most_reads};
+ghost use Rattle.bufr_tool.specs.Readers.{AreFresh};
+ghost use Rattle.bufr_tool.specs.Limits.{most_reads};
 
 use super::devices::{Reader, Writer};
 use super::same;
 use super::samples::{ARCHIVE, SEQUENCES, tables};
 use bufr_bits::Source;
-use bufr_collect::{run_add, run_merge};
-use bufr_io::{Input, Tally, ToolFault};
 use bufr_tables::Tables;
+use bufr_tool::{Input, Tally, ToolFault, run_add, run_merge};
 use std::alloc::Global;
 use std::process::Abort;
 

@@ -5,7 +5,7 @@ use super::samples::{
     MANY_SUBSETS, Part, SEQUENCES, SEQUENCES_LISTING, SUBSET, TWO_FRAMES, joined,
 };
 use super::{Engine, Run, Seen, assert_run, same};
-use bufr_io::{Input, ToolFault};
+use bufr_tool::{Input, ToolFault};
 use std::alloc::Global;
 use std::process::Abort;
 

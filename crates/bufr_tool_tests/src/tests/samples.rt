@@ -1,7 +1,6 @@
 //! Tables, messages and their listings, typed from the rules of the formats.
 
-use bufr_table_files::{parse_table_b, parse_table_d};
-use bufr_tables::Tables;
+use bufr_tables::{TableB, TableD, Tables};
 use std::alloc::Global;
 use std::process::Abort;
 
@@ -187,8 +186,8 @@ pub(super) const CHECKED: &[u8] = b"18 62 ok 1 0\n84 62 ok 1 0\nframes 2 refused
 /// The tables of the tests.
 pub(super) fn tables(rt: &impl Abort, alloc: Global) -> Tables {
     Tables::new(
-        parse_table_b(alloc, TABLE_B).expect(rt, "an answer"),
-        parse_table_d(alloc, TABLE_D).expect(rt, "an answer"),
+        TableB::parse(alloc, TABLE_B).expect(rt, "an answer"),
+        TableD::parse(alloc, TABLE_D).expect(rt, "an answer"),
     )
 }
 

@@ -4,8 +4,8 @@ use super::samples::{
     CHECKED, ELEMENTS_ONLY, LISTING, PAIR_COMPRESSED, PAIR_LISTING, Part, TWO_FRAMES, joined,
 };
 use super::{Counted, Engine, Run, assert_run, same, same_in};
-use bufr_io::{Input, ToolFault};
 use bufr_listing::ListingFault;
+use bufr_tool::{Input, ToolFault};
 use std::alloc::Global;
 use std::process::Abort;
 

@@ -3,9 +3,8 @@
 use super::devices::Reader;
 use super::same;
 use super::samples::{TABLE_B, TABLE_D};
-use bufr_io::{Input, ToolFault};
 use bufr_tables::{Column, TableFault};
-use bufr_tool::load_tables;
+use bufr_tool::{Input, ToolFault, load_tables};
 use std::alloc::Global;
 use std::process::Abort;
 

@@ -1,10 +1,9 @@
--- The law `merges_agree`, from the laws of what is kept of entries.
+-- By the laws of what is kept.
 use Rattle.std.proofs.Common.{◌++◌, ap, ◌∙◌}
-use Rattle.bufr_shelves.specs.Entries.{kept}
-use Rattle.bufr_shelves.specs.Orders.{kept-swap, kept-join, kept-twice, kept-kept}
+use Rattle.bufr_entries.specs.Entries.{kept}
+use Rattle.bufr_entries.specs.Orders.{kept-swap, kept-join, kept-twice, kept-kept}
 use Rattle.bufr_archive.proofs.laws.merges_agree.Goals as goal
 
--- what is kept of joined entries heeds neither order nor parts, stays when joined twice, is kept
 pub returns : goal.returns
 returns c = record {
   commutes = λ a b h.

@@ -1,4 +1,4 @@
--- For `append`: the field fills the free bits of the last octet first, and then whole octets.
+-- The field fills the free bits of the last octet first, and then whole octets.
 use Rattle.std.proofs.Common.{◌+◌, ◌-◌, ◌*◌, ◌<◌, ◌++◌, take, arith, ap, ◌∙◌}
 use Rattle.std.specs.Int.{div_ceil}
 use Rattle.bufr_bits.specs.Bits.{bits, bin}
@@ -6,7 +6,6 @@ use Rattle.bufr_bits.proofs.Puts.{Putting, putting, put_last, put_after, cast_fi
 use Rattle.bufr_bits.proofs.append.append.Goals.{In_ok-extend_from_slice}
 use Rattle.bufr_bits.proofs.append.append.Goals as goal
 
--- the octets have grown by those of the field, behind the ones that were there
 put : (c : In_ok-extend_from_slice)
     → Putting c.args.octets.now.items c.extend_from_slice.new.self.items c.args.len c.args.width
     c.from.result c.len-count.result c.div_ceil-grown.result
@@ -20,7 +19,6 @@ put c =
     (c.div_ceil-grown.ensures ∙ ap (λ w. div_ceil w 8) c.saturating_sub.ensures)
     c.to_be_bytes.ensures c.in_ok-extend_from_slice.ensures.items
 
--- what goes into the free bits of the last octet fits an octet
 pub overflow_cast-wide-then-free-gt0 : goal.overflow_cast-wide-then-free-gt0
 overflow_cast-wide-then-free-gt0 c =
     let o = c.args.octets.now in
@@ -32,7 +30,6 @@ overflow_cast-wide-then-free-gt0 c =
           (8 * c.div_ceil-grown.result + (8 * c.len-count.result - c.args.len) - c.args.width) p,
     )
 
--- so does its sum with the last octet
 pub overflow_add-index_mut : goal.overflow_add-index_mut
 overflow_add-index_mut c =
     let o = c.args.octets.now in
@@ -47,7 +44,6 @@ overflow_add-index_mut c =
           (omega (arith, c.if-free-gt0.true)) c.index_mut.ensures.value small,
     )
 
--- where bits were free, the field follows the bits
 pub returns-then-free-gt0-clause-ok : goal.returns-then-free-gt0-clause-ok
 returns-then-free-gt0-clause-ok c =
     let o = c.args.octets.now in
@@ -55,13 +51,11 @@ returns-then-free-gt0-clause-ok c =
     (put_last _ _ _ _ _ _ _ _ _ p (omega (arith, c.if-free-gt0.true)) c.index_mut.ensures.value).0
     ∙ ap (λ n. take c.args.len (bits o.items) ++ bin c.args.width n) c.from.ensures
 
--- and the last octet is filled with zero bits
 pub returns-then-free-gt0-clause-filled : goal.returns-then-free-gt0-clause-filled
 returns-then-free-gt0-clause-filled c =
     let p = put (goal.at.returns-then-free-gt0-clause-filled c).In_ok-extend_from_slice in
     (put_last _ _ _ _ _ _ _ _ _ p (omega (arith, c.if-free-gt0.true)) c.index_mut.ensures.value).1
 
--- where none were free, the field follows the bits in new octets
 pub returns-else-free-gt0-clause-ok : goal.returns-else-free-gt0-clause-ok
 returns-else-free-gt0-clause-ok c =
     let o = c.args.octets.now in
@@ -69,7 +63,6 @@ returns-else-free-gt0-clause-ok c =
     (put_after _ _ _ _ _ _ _ _ p (omega (arith, c.if-free-gt0.false))).0
     ∙ ap (λ n. take c.args.len (bits o.items) ++ bin c.args.width n) c.from.ensures
 
--- and the last of these is filled with zero bits
 pub returns-else-free-gt0-clause-filled : goal.returns-else-free-gt0-clause-filled
 returns-else-free-gt0-clause-filled c =
     let p = put (goal.at.returns-else-free-gt0-clause-filled c).In_ok-extend_from_slice in

@@ -1,10 +1,9 @@
--- For `append_octets`: the octets are put behind the last one, and moved up where bits were free.
+-- The octets go after the last one, and move up if it has free bits.
 use Rattle.std.proofs.Common.{◌+◌, ◌-◌, ◌*◌, ◌%◌, ◌^◌, length, get_or, arith, ◌∙◌, refl, ap}
 use Rattle.bufr_bits.specs.Filled.{moved_up}
 use Rattle.bufr_bits.proofs.Moves.{written_back, put_octets_whole, put_octets_moved, clear_read}
 use Rattle.bufr_bits.proofs.append.append_octets.Goals as goal
 
--- the free bits of the last octet are zero, also with octets behind it
 pub move_up-requires-clause-clear : goal.move_up-requires-clause-clear
 move_up-requires-clause-clear c =
     let o = c.args.octets.now in
@@ -14,7 +13,6 @@ move_up-requires-clause-clear c =
     c.requires (c.len-count.ensures ∙ o.ok.0)
     (omega (arith, c.if-free-gt0.true)) c.in_ok-extend_from_slice.ensures.items
 
--- where bits were free, the octets that moved up follow the bits
 pub returns-then-free-gt0-clause-ok : goal.returns-then-free-gt0-clause-ok
 returns-then-free-gt0-clause-ok c =
     let o = c.args.octets.now in
@@ -32,7 +30,6 @@ returns-then-free-gt0-clause-ok c =
     (c.len-count.ensures ∙ o.ok.0)
     (omega (arith, c.if-free-gt0.true)) refl c.in_ok-extend_from_slice.ensures.items is).0
 
--- and their last octet is filled with zero bits
 pub returns-then-free-gt0-clause-filled : goal.returns-then-free-gt0-clause-filled
 returns-then-free-gt0-clause-filled c =
     let o = c.args.octets.now in
@@ -50,7 +47,6 @@ returns-then-free-gt0-clause-filled c =
     (c.len-count.ensures ∙ o.ok.0)
     (omega (arith, c.if-free-gt0.true)) refl c.in_ok-extend_from_slice.ensures.items is).1
 
--- where none were free, the octets follow the bits
 pub returns-else-free-gt0-clause-ok : goal.returns-else-free-gt0-clause-ok
 returns-else-free-gt0-clause-ok c =
     let o = c.args.octets.now in
@@ -59,7 +55,6 @@ returns-else-free-gt0-clause-ok c =
     (c.len-count.ensures ∙ o.ok.0)
     (omega (arith, c.if-free-gt0.false)) refl c.in_ok-extend_from_slice.ensures.items).0
 
--- and no bit is free behind them
 pub returns-else-free-gt0-clause-filled : goal.returns-else-free-gt0-clause-filled
 returns-else-free-gt0-clause-filled c =
     let o = c.args.octets.now in

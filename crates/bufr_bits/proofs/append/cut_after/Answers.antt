@@ -1,10 +1,8 @@
--- For `cut_after`: what is dropped stands behind the bits that are kept, and zero bits take its
--- place.
+-- Zero bits replace what is dropped, and the kept bits come before them.
 use Rattle.std.proofs.Common.{◌-◌, ◌*◌, ◌%◌, arith, ◌∙◌, refl}
 use Rattle.bufr_bits.proofs.Puts.{cut_whole, cut_inside}
 use Rattle.bufr_bits.proofs.append.cut_after.Goals as goal
 
--- a cut inside an octet keeps the bits before it
 pub returns-then-low-gt0-clause-kept : goal.returns-then-low-gt0-clause-kept
 returns-then-low-gt0-clause-kept c =
     let o = c.args.octets.now in
@@ -15,7 +13,6 @@ returns-then-low-gt0-clause-kept c =
     (c.len-count.ensures ∙ o.ok.0) c.requires refl c.if-low-gt0.true c.truncate.ensures.items
     (c.len-at.ensures ∙ cut.ok.0) c.index-last.ensures).0
 
--- and fills that octet with zero bits
 pub returns-then-low-gt0-clause-filled : goal.returns-then-low-gt0-clause-filled
 returns-then-low-gt0-clause-filled c =
     let o = c.args.octets.now in
@@ -26,7 +23,6 @@ returns-then-low-gt0-clause-filled c =
     (c.len-count.ensures ∙ o.ok.0) c.requires refl c.if-low-gt0.true c.truncate.ensures.items
     (c.len-at.ensures ∙ cut.ok.0) c.index-last.ensures).1
 
--- a cut on an octet's edge keeps the bits before it
 pub returns-else-low-gt0-clause-kept : goal.returns-else-low-gt0-clause-kept
 returns-else-low-gt0-clause-kept c =
     let o = c.args.octets.now in
@@ -34,7 +30,6 @@ returns-else-low-gt0-clause-kept c =
     (c.len-count.ensures ∙ o.ok.0) c.requires
     (omega (arith, c.if-low-gt0.false)) c.truncate.ensures.items).0
 
--- and leaves no bit behind them
 pub returns-else-low-gt0-clause-filled : goal.returns-else-low-gt0-clause-filled
 returns-else-low-gt0-clause-filled c =
     let o = c.args.octets.now in

@@ -1,9 +1,8 @@
--- For `move_up`: each round moves one octet's bits up into the free bits of the one before it.
+-- Each round moves the upper bits of one octet into the free bits of the octet before it.
 use Rattle.std.proofs.Common.{◌+◌, ◌<◌, get_or, arith, refl}
 use Rattle.bufr_bits.proofs.Moves.{Moving, move_none, move_fits, move_more}
 use Rattle.bufr_bits.proofs.append.move_up.Goals as goal
 
--- nothing has moved, and the free bits of the first octet are zero
 pub loop-i-init : goal.loop-i-init
 loop-i-init c =
     record {
@@ -12,7 +11,6 @@ loop-i-init c =
           c.requires.few c.requires.clear;
     }
 
--- an octet and what moves into its free bits fit an octet
 pub overflow_add-octets : goal.overflow_add-octets
 overflow_add-octets c =
     let m : Moving c.loop-i.octets c.args.octets.now c.args.from c.loop-i.i c.args.free = record {
@@ -31,7 +29,6 @@ overflow_add-octets c =
       move_fits c.loop-i.octets c.args.octets.now c.args.from c.loop-i.i c.args.free m first next,
     )
 
--- a round moves the bits of the next octet up, and leaves the octets behind it
 pub loop-i-preserved : goal.loop-i-preserved
 loop-i-preserved c =
     let m : Moving c.loop-i.octets c.args.octets.now c.args.from c.loop-i.i c.args.free = record {

@@ -1,9 +1,8 @@
--- For `move_up`: what its loop keeps.
 use Rattle.std.proofs.Common.{◌≡◌, ◌+◌, ◌-◌, ◌*◌, ◌++◌, false, take, drop, replicate}
 use Rattle.bufr_bits.specs.Bits.{bits}
 use Rattle.bufr_bits.proofs.append.move_up.Given as goal
 
--- the octets passed have their bits moved up, zero bits last, and the others are unchanged
+-- octets up to `from + i` are shifted up with zero bits last; the others are unchanged
 abbrev pub invariant-loop-i : goal.invariant-loop-i
 invariant-loop-i l =
     let initial = l.initial.octets in

@@ -1,4 +1,4 @@
--- For `write_all`: a front that was written and what the sink took next are a longer front.
+-- The octets written and those that the sink takes next are a longer start of the text.
 use Rattle.std.proofs.Common.{◌≡◌, ℕ, ◌+◌, ◌-◌, ◌≤◌, List, ◌++◌, length, take, drop, sym, ap, subst}
 use Rattle.std.proofs.Common.{◌∙◌, arith}
 use Rattle.std.proofs.lemmas.List.{take_rest, length-take}
@@ -7,7 +7,6 @@ use Rattle.bufr_bits.proofs.BitLists.{take-more}
 use Rattle.bufr_bits.specs.DeviceLaws.{Writes-more}
 use Rattle.bufr_bits.proofs.device.write_all.Goals as goal
 
--- after a write that did not fail the front of the text is longer by what it took
 pub loop-written-preserved : goal.loop-written-preserved
 loop-written-preserved g c =
     let text = c.args.text.now in

@@ -1,9 +1,8 @@
--- For `write_all`: what its loop keeps, and why it ends.
 use Rattle.std.proofs.Common.{◌≡◌, ◌≤◌, ◌-◌, false, length, take}
 use Rattle.bufr_bits.specs.Devices.{Writes}
 use Rattle.bufr_bits.proofs.device.write_all.Given as goal
 
--- the sink took a front of the text, so many octets, and has not failed
+-- the sink took the first `written` octets and has not failed
 abbrev pub invariant-loop-written : goal.invariant-loop-written
 invariant-loop-written g l =
     record {
@@ -13,6 +12,6 @@ invariant-loop-written g l =
       works : (g.W.Sink.writing l.sink).failed ≡ false;
     }
 
--- the octets that were not written yet
+-- the number of octets not yet written
 abbrev pub decreases-loop-written : goal.decreases-loop-written
 decreases-loop-written g l = length l.text - l.written

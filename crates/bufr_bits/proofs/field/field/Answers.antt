@@ -1,10 +1,9 @@
--- For `field`: eight octets in which a field stands spell its number, once shifted and masked.
+-- Eight octets that hold the field spell its number after a shift and a mask.
 use Rattle.std.proofs.Common.{◌≡◌, ℕ, ◌+◌, ◌-◌, ◌*◌, ◌/◌, ◌%◌, take, drop, ap, ◌∙◌, arith}
 use Rattle.bufr_bits.specs.Bits.{bits, number}
 use Rattle.bufr_bits.proofs.BitLists.{field_masked}
 use Rattle.bufr_bits.proofs.field.field.Goals as goal
 
--- the number of those octets, less the spare bits behind and masked, is that of the field
 pub returns-then-octets-ge8 : goal.returns-then-octets-ge8
 returns-then-octets-ge8 c =
     let octets = c.args.octets.now in

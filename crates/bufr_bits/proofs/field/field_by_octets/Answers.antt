@@ -1,9 +1,8 @@
--- For `field_by_octets`: the octets in which a field stands spell its number, once shifted and masked.
+-- The octets that hold the field spell its number after a shift and a mask.
 use Rattle.std.proofs.Common.{◌+◌, ◌-◌, ◌*◌, ◌/◌, arith}
 use Rattle.bufr_bits.proofs.BitLists.{field_masked}
 use Rattle.bufr_bits.proofs.field.field_by_octets.Goals as goal
 
--- the number of those octets, less the spare bits behind and masked, is that of the field
 pub returns : goal.returns
 returns c =
     let place = c.args.place in

@@ -1,4 +1,4 @@
--- For `spelt`: the total is the number of the octets so far, and at most sixteen fit 128 bits.
+-- The total is the number of the octets read, and sixteen octets fit in 128 bits.
 use Rattle.std.proofs.Common.{◌≡◌, ℕ, ◌+◌, ◌*◌, ◌^◌, ◌<◌, ◌≤◌, ◌∷◌, [], ◌++◌, List, length, take}
 use Rattle.std.proofs.Common.{refl, sym, ap, ◌∙◌, arith, get_or}
 use Rattle.std.proofs.lemmas.List.{take_more, length-take-le}
@@ -6,7 +6,6 @@ use Rattle.bufr_bits.specs.Bits.{bits, number}
 use Rattle.bufr_bits.proofs.BitLists.{number_push, number_of_octets}
 use Rattle.bufr_bits.proofs.field.spelt.Goals as goal
 
--- the octets before one of at most sixteen spell a number below 2 to the power of 120
 small : (octets : List ℕ) (i total : ℕ) → total ≡ number (bits (take i octets)) → i < length octets
     → length octets ≤ 16 → total < 2 ^ 120
 small octets i total e before few =
@@ -15,7 +14,6 @@ small octets i total e before few =
     number_of_octets (take i octets) 15 fewer in
     omega arith
 
--- with the next octet they spell 256 times the number, plus the octet
 more : (octets : List ℕ) (i total x : ℕ) → total ≡ number (bits (take i octets)) → i < length octets
     → x ≡ get_or octets i 0 → x < 256 → total * 256 + x ≡ number (bits (take (i + 1) octets))
 more octets i total x e before is small =
@@ -23,12 +21,10 @@ more octets i total x e before is small =
     take_more octets i 0 before ∙ ap (λ y. take i octets ++ y ∷ []) (sym is) in
     rw (next, number_push (take i octets) x small, e) refl
 
--- no octets spell zero
 pub loop-octet-init : goal.loop-octet-init
 unfolding number
 loop-octet-init c = refl
 
--- 256 times the total fits 128 bits
 pub overflow_mul-total : goal.overflow_mul-total
 overflow_mul-total c =
     omega (
@@ -37,7 +33,6 @@ overflow_mul-total c =
           c.loop-octet-test.true c.requires,
     )
 
--- so does the sum with the next octet
 pub overflow_add-total : goal.overflow_add-total
 overflow_add-total c =
     omega (
@@ -47,7 +42,6 @@ overflow_add-total c =
       c.type_inv.octets c.loop-octet.octet-index,
     )
 
--- the total with the next octet is the number of one octet more
 pub loop-octet-preserved : goal.loop-octet-preserved
 loop-octet-preserved c =
     more c.args.octets.now c.loop-octet.octet-index c.loop-octet.total c.from.result

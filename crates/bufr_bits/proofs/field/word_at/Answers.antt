@@ -1,9 +1,7 @@
--- For `word_at`: the number of eight octets is that of their bits.
 use Rattle.std.proofs.Common.{◌∙◌, arith}
 use Rattle.bufr_bits.proofs.BitLists.{number_of_eight}
 use Rattle.bufr_bits.proofs.field.word_at.Goals as goal
 
--- the first octet is the most significant
 pub returns : goal.returns
 returns c =
     c.from_be_bytes.ensures

@@ -1,10 +1,8 @@
--- For the law `numbers_taken_were_put`: `numbers_at_found` says it, of lists by recursion.
 use Rattle.std.proofs.Common.{◌^◌, ◌<◌}
 use Rattle.std.proofs.lemmas.List.Elements.{All-from_recursion}
 use Rattle.bufr_bits.specs.NumberLaws.{numbers_at_found}
 use Rattle.bufr_bits.proofs.laws.numbers_taken_were_put.Goals as goal
 
--- numbers that are found are so many, fit their width, and their fields begin the text
 pub returns : goal.returns
 returns c n width xs text rest e =
     let found = numbers_at_found n width text (xs, rest) e in

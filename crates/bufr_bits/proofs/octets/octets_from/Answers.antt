@@ -1,4 +1,4 @@
--- For `octets_from`: a slice on an octet's edge, else the octets that `shifted` combines.
+-- A slice if the place is a multiple of 8, else the octets that `shifted` joins.
 use Rattle.std.proofs.Common.{◌≡◌, ℕ, ◌+◌, ◌-◌, ◌*◌, ◌/◌, ◌%◌, ◌<◌, ◌≤◌, List, length, take, drop}
 use Rattle.std.proofs.Common.{get_or, arith, sym, subst, IfOk, refl}
 use Rattle.std.proofs.lemmas.List.{drop-drop, take_rest}
@@ -6,7 +6,6 @@ use Rattle.bufr_bits.specs.Bits.{bits, numbers}
 use Rattle.bufr_bits.proofs.BitLists.{numbers_aligned, drop-bits}
 use Rattle.bufr_bits.proofs.octets.octets_from.Goals as goal
 
--- on an octet's edge the octets themselves are the numbers of 8 bits from there on
 aligned : (octets : List ℕ) (place n : ℕ) → place % 8 ≡ 0 → place + 8 * n ≤ 8 * length octets
     → ((i : ℕ) → get_or octets i 0 < 256)
     → take (place / 8 + n - place / 8) (drop (place / 8) octets)
@@ -15,7 +14,6 @@ aligned octets place n edge within small =
     let count : place / 8 + n - place / 8 ≡ n = omega arith in
     rw count (sym (numbers_aligned octets (place / 8) n place (omega arith) (omega arith) small))
 
--- off the edge these numbers are those past the shift in the octets from the first on
 inside : (octets : List ℕ) (place n : ℕ) → place + 8 * n ≤ 8 * length octets
     → numbers n 8 (drop (place % 8) (bits (take (length octets - place / 8)
     (drop (place / 8) octets)))) ≡ numbers n 8 (drop place (bits octets))
@@ -28,7 +26,6 @@ inside octets place n within =
       there,
     ) refl
 
--- the copied slice has the octets that begin at a place on an octet's edge
 pub returns-then-shift-eq0 : goal.returns-then-shift-eq0
 returns-then-shift-eq0 c =
     subst (λ (xs : List ℕ). IfOk c.from_slice.result (λ v. v.items ≡ xs))
@@ -36,7 +33,6 @@ returns-then-shift-eq0 c =
     (λ i. omega (arith, c.type_inv.octets i)))
     c.from_slice.ensures.items
 
--- the combined octets are those that begin at the place
 pub returns : goal.returns
 returns c =
     subst (λ (xs : List ℕ). IfOk c.shifted.result (λ v. v.items ≡ xs))

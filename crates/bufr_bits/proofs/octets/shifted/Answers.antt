@@ -1,11 +1,10 @@
--- For `shifted`: each octet past the shift is combined from two neighbours.
+-- Each octet is joined from two neighbours.
 use Rattle.std.proofs.Common.{◌≡◌, ℕ, ◌+◌, ◌-◌, ◌*◌, ◌/◌, ◌%◌, ◌^◌, ◌<◌, List, [], ◌∷◌, ◌++◌}
 use Rattle.std.proofs.Common.{length, drop, get_or, arith, sym}
 use Rattle.bufr_bits.specs.Bits.{bits, numbers}
 use Rattle.bufr_bits.proofs.BitLists.{numbers-more, number_of_two}
 use Rattle.bufr_bits.proofs.octets.shifted.Goals as goal
 
--- one octet more
 step : (octets before after : List ℕ) (i shift a b : ℕ) → i + 1 < length octets → shift < 8
     → before ≡ numbers i 8 (drop shift (bits octets)) → a ≡ get_or octets i 0
     → b ≡ get_or octets (i + 1) 0 → a < 256 → b < 256
@@ -19,12 +18,10 @@ step octets before after i shift a b within inside so_far a_is b_is a_small b_sm
     )
     (sym (numbers-more i 8 (8 * i) (drop shift (bits octets)) (omega arith)))
 
--- no octets are no numbers
 pub loop-i-init : goal.loop-i-init
 unfolding numbers
 loop-i-init c = c.in_ok-out.ensures.items
 
--- the octet of two neighbours is the next number of 8 bits
 pub loop-i-preserved : goal.loop-i-preserved
 loop-i-preserved c =
     let octets = c.args.octets.now in

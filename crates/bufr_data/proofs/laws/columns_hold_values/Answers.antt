@@ -1,9 +1,7 @@
--- The law `columns_hold_values`, from what reading a column finds and what the best column is.
 use Rattle.bufr_data.proofs.CompressedFacts.{column_found, column_again}
 use Rattle.bufr_data.proofs.CompressedFacts.Best.{best_column, best_fewest}
 use Rattle.bufr_data.proofs.laws.columns_hold_values.Goals as goal
 
--- for a column read, a column that stands, and the column written, than which none is shorter
 pub returns : goal.returns
 returns c = record {
   stand = λ n i spec front values rest e. column_found n i spec front (values, rest) e;

@@ -1,11 +1,10 @@
--- The law `data_hold_subsets`, from the laws of plain data and of columns.
+-- The laws of plain data and of columns together.
 use Rattle.bufr_data.proofs.CauseFacts.{laws_from}
 use Rattle.bufr_data.proofs.DataFacts.{reads_exactly, refuses_exactly, writes_exactly}
 use Rattle.bufr_data.proofs.DataFacts.{misfits_exactly, bare_are_data, plain_are_bare}
 use Rattle.bufr_data.proofs.CompressedFacts.Writable.{packed_can_be_bare, narrow_can_be_packed}
 use Rattle.bufr_data.proofs.laws.data_hold_subsets.Goals as goal
 
--- subsets are read, written and refused exactly as their data, and bare data are data
 pub returns : goal.returns
 returns c =
     let ends = c.courses_are_unrollings.ensures in

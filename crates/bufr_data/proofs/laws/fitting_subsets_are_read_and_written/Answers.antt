@@ -1,9 +1,8 @@
--- The law `fitting_subsets_are_read_and_written`, by that courses are the unrollings of the tree.
+-- The courses are the unrollings of the tree.
 use Rattle.bufr_data.proofs.FitFacts.{read_stands, standing_read, all_read_stand, all_standing_read}
 use Rattle.bufr_data.proofs.FitFacts.{written_fit, fitting_written}
 use Rattle.bufr_data.proofs.laws.fitting_subsets_are_read_and_written.Goals as goal
 
--- of one subset and of all: what is read fits and stands there, and what fits is read and written
 pub returns : goal.returns
 returns c =
     let law = c.courses_are_unrollings.ensures in

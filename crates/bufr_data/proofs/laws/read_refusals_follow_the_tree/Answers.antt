@@ -1,10 +1,9 @@
--- The law `read_refusals_follow_the_tree`, by that courses begin and are unrollings of the tree.
+-- The courses begin and are unrollings of the tree.
 use Rattle.bufr_data.proofs.CauseFacts.{laws_from, read_refused_first, first_read_refused}
 use Rattle.bufr_data.proofs.CauseFacts.{subsets_refused_first, first_subsets_refused}
 use Rattle.bufr_data.proofs.RefusalFacts.{none_on_few, few_where_none}
 use Rattle.bufr_data.proofs.laws.read_refusals_follow_the_tree.Goals as goal
 
--- what is refused is the first field that cannot stand, and the first that cannot stand is refused
 pub returns : goal.returns
 returns c =
     let ends = c.courses_are_unrollings.ensures in

@@ -1,9 +1,8 @@
--- The law `write_refusals_follow_the_tree`, by that courses begin and are unrollings of the tree.
+-- The courses begin and are unrollings of the tree.
 use Rattle.bufr_data.proofs.CauseFacts.{laws_from, write_refused_first, first_write_refused}
 use Rattle.bufr_data.proofs.CauseFacts.{written_refused_first, first_written_refused}
 use Rattle.bufr_data.proofs.laws.write_refusals_follow_the_tree.Goals as goal
 
--- what is refused is the first misfit, and the first misfit is refused
 pub returns : goal.returns
 returns c =
     let ends = c.courses_are_unrollings.ensures in

@@ -1,9 +1,10 @@
 -- The clause of `add_listed`: message by message, until none is left or a fault stands in the way.
 use Rattle.std.proofs.Common.{◌∙◌}
-use Rattle.bufr_answers.specs.Answers.{result_map}
+use Rattle.bufr_base.specs.Answers.{result_map}
 use Rattle.bufr_engines.specs.Encoding.{EncodesListing}
 use Rattle.bufr_engines.proofs.EncodingFacts.{none_encoded, one_encoded, all_encoded}
-use Rattle.bufr_engines.proofs.EncodingFacts.{reading_stopped, encoding_stopped, passed}
+use Rattle.bufr_io.specs.PassingLaws.{passed}
+use Rattle.bufr_engines.proofs.EncodingFacts.{reading_stopped, encoding_stopped}
 use Rattle.bufr_engines.proofs.encode.add_listed.Goals as goal
 
 -- nothing was read before the first message

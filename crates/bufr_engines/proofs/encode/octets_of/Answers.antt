@@ -1,6 +1,6 @@
 -- The clause of `octets_of`, where a fault stands in the way.
 use Rattle.bufr_engines.specs.Encoding.{EncodesListing}
-use Rattle.bufr_engines.proofs.EncodingFacts.{passed}
+use Rattle.bufr_io.specs.PassingLaws.{passed}
 use Rattle.bufr_engines.proofs.encode.octets_of.Goals as goal
 
 -- the fault is told

@@ -2,7 +2,7 @@
 use Rattle.std.proofs.Common.{Err, arith}
 use Rattle.bufr_io.specs.declared.fault.ToolFault.TheVariants as faults
 use Rattle.bufr_engines.specs.StreamEngines.{Prints}
-use Rattle.bufr_engines.proofs.PrintingFacts.{passed}
+use Rattle.bufr_io.specs.PassingLaws.{passed}
 use Rattle.bufr_engines.proofs.StreamFacts.{since_none}
 use Rattle.bufr_engines.proofs.EngineFacts.{prints_early, prints_made, prints_nothing, prints_whole}
 use Rattle.bufr_engines.proofs.frames.print_stream.Goals as goal

@@ -5,7 +5,7 @@ use Rattle.bufr_engines.specs.declared.printer.Printer.{Printer}
 use Rattle.bufr_engines.specs.Output.{frames_text, skipped_by}
 use Rattle.bufr_engines.specs.StreamEngines.{PrintsEnd}
 use Rattle.bufr_frame.specs.FrameBounds.{cut_few, cut_short}
-use Rattle.bufr_engines.proofs.PrintingFacts.{passed}
+use Rattle.bufr_io.specs.PassingLaws.{passed}
 use Rattle.bufr_engines.proofs.PartFacts.{counted_all}
 use Rattle.bufr_engines.proofs.StreamFacts.{end_tally, end_done, end_fails, end_halted, end_stopped}
 use Rattle.bufr_engines.proofs.frames.print_tally.Goals as goal

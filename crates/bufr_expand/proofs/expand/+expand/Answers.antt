@@ -1,10 +1,9 @@
--- For `expand` and `add_part`: the nodes so far come to the same with those of the parts still
--- left.
+-- The nodes made and those of the descriptors left stay the same in all.
 use Rattle.std.proofs.Common.{◌≡◌, ◌-◌, length, drop, set, Ok, ℕ, length-drop, ap, sym, subst}
 use Rattle.std.proofs.Common.{◌∙◌, arith}
 use Rattle.std.proofs.lemmas.List.{take_all}
 use Rattle.std.proofs.lemmas.Result.{err_from_is_err_and}
-use Rattle.bufr_answers.specs.Answers.{Fails}
+use Rattle.bufr_base.specs.Answers.{Fails}
 use Rattle.bufr_expand.specs.Expansion.{expand_within, replication_node}
 use Rattle.bufr_expand.specs.Parts.{seen}
 use Rattle.bufr_expand.specs.declared.node.Node.{Node}
@@ -12,7 +11,6 @@ use Rattle.bufr_expand.proofs.ExpansionFacts.{expanded, expanded_fault, expanded
 use Rattle.bufr_expand.proofs.ExpansionFacts.{expanded_more, expanded_nothing, replicated}
 use Rattle.bufr_expand.proofs.expand.+expand.Goals as goal
 
--- the body's nodes stand behind the node of the replication, which then says how many they are
 pub add_part-returns-in_ok-expand-in-Replication :
     goal.add_part-returns-in_ok-expand-in-Replication
 add_part-returns-in_ok-expand-in-Replication t c =
@@ -35,7 +33,6 @@ add_part-returns-in_ok-expand-in-Replication t c =
     ∙ ap (λ (x : Node). set after (length c.args.nodes.now.items) x) node in
     rw c.in-Replication.is (e ∙ ap Ok (sym closed))
 
--- where the first descriptor left stands for nothing, its fault is the first of the list
 pub expand-returns-in-Err : goal.expand-returns-in-Err
 unfolding expand_within
 expand-returns-in-Err t c =
@@ -45,7 +42,6 @@ expand-returns-in-Err t c =
     c.args.replications c.in-Some.first.now c.loop-first.nodes.items c.in-Some.behind.now
     c.in-Err.fault c.in-Err.ensures.value
 
--- the fault of the first part left is the first of the list
 pub expand-returns-in_err-add_part : goal.expand-returns-in_err-add_part
 unfolding expand_within
 expand-returns-in_err-add_part t c =
@@ -58,7 +54,6 @@ expand-returns-in_err-add_part t c =
     c.loop-first.nodes.items c.in-Some.behind.now
     (seen c.in-Ok.found) _ c.in-Ok.ensures.value c.in_err-add_part.ensures))
 
--- with the nodes of the first part added, the rest of the list comes to the same
 pub expand-loop-first-preserved : goal.expand-loop-first-preserved
 expand-loop-first-preserved t c =
     let more = ap (expanded c.args.tables.now c.args.sequences c.args.replications
@@ -71,7 +66,6 @@ expand-loop-first-preserved t c =
     c.add_part.new.nodes.items) (sym (take_all _ (drop c.in-Ok.found.taken c.in-Some.behind.now)
     (omega (arith, length-drop c.in-Ok.found.taken c.in-Some.behind.now))))
 
--- where nothing is left, the nodes are those of the list
 pub expand-returns : goal.expand-returns
 unfolding expand_within
 expand-returns t c = c.loop-first.invariant ∙ expanded_nothing _ _ _ _ _ c.in_default.ensures.cases

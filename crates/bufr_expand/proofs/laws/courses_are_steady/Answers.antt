@@ -1,9 +1,7 @@
--- For the law `courses_are_steady`: its clauses from the lemmas of courses and of field limits.
 use Rattle.bufr_expand.specs.Steady.{course_steady}
 use Rattle.bufr_expand.proofs.FieldLimits.{course_in_range, course_asked}
 use Rattle.bufr_expand.proofs.laws.courses_are_steady.Goals as goal
 
--- courses are steady, and each field that they ask for has a spec in range, within the limits
 pub returns : goal.returns
 returns c = record {
   steady = course_steady;

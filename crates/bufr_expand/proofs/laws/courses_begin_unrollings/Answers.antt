@@ -1,8 +1,6 @@
--- For the law `courses_begin_unrollings`: its clauses from the lemmas of what follows some fields.
 use Rattle.bufr_expand.proofs.UnrollFacts.{asked, lacking, too_large, goes_on, front}
 use Rattle.bufr_expand.proofs.laws.courses_begin_unrollings.Goals as goal
 
--- after some fields a course asks, refuses or is too large exactly as an unrolling goes on
 pub returns : goal.returns
 returns c = record {
   asked = asked;

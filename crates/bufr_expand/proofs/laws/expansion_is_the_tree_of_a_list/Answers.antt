@@ -1,9 +1,7 @@
--- For the law `expansion_is_the_tree_of_a_list`: its clauses from the lemmas of flattened trees.
 use Rattle.bufr_expand.proofs.FlatFacts.{expands_exactly, expands_to_trees, has_one_tree}
 use Rattle.bufr_expand.proofs.FlatFacts.{has_enough_levels}
 use Rattle.bufr_expand.proofs.laws.expansion_is_the_tree_of_a_list.Goals as goal
 
--- a list expands to the nodes of its tree, the only one, and levels never lack
 pub returns : goal.returns
 returns c = record {
   exactly = expands_exactly;

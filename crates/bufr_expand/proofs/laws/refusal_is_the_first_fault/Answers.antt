@@ -1,9 +1,7 @@
--- For the law `refusal_is_the_first_fault`: its clauses from the lemmas of first faults.
 use Rattle.bufr_expand.proofs.FirstFaultFacts.{refuses_exactly, has_tree_or_fault, has_not_both}
 use Rattle.bufr_expand.proofs.FirstFaultFacts.{has_one_fault, has_no_tree_at}
 use Rattle.bufr_expand.proofs.laws.refusal_is_the_first_fault.Goals as goal
 
--- a list is refused for its first fault, the only one, and has this or a tree, never both
 pub returns : goal.returns
 returns c = record {
   exactly = refuses_exactly;

@@ -1,9 +1,7 @@
--- For the law `specs_are_effective`: its clauses from the lemmas of specs.
 use Rattle.bufr_expand.proofs.SpecFacts.{effective_found, effective_only, effective_one, in_table}
 use Rattle.bufr_expand.proofs.SpecFacts.{in_table_only}
 use Rattle.bufr_expand.proofs.laws.specs_are_effective.Goals as goal
 
--- a spec is found exactly where the equations of Table C and the limits hold, the only one
 pub returns : goal.returns
 returns c = record {
   found = effective_found;

@@ -1,4 +1,4 @@
--- For `run_of`, `first_run` and `turns_run`: a run of nodes, node by node.
+-- The sums of a run, node by node.
 use Rattle.std.proofs.Common.{rules, refl, ◌≡◌, ◌-◌, ◌+◌, length, drop, take, ap, sym, ◌∙◌, arith}
 use Rattle.std.proofs.Common.{length-drop, [], ℕ, false, Option, Some}
 use Rattle.std.proofs.lemmas.List.{take_all, nil_from_length}
@@ -16,7 +16,6 @@ use Rattle.bufr_expand.proofs.run.+run_of.Goals as goal
 use Rattle.bufr_expand.proofs.run.+run_of.Goals.{first_run-in-Element+in_ok-spec-in-Element}
 use Rattle.bufr_expand.proofs.run.+run_of.Goals.{first_run-in-Untouched+in_ok-spec-in-Untouched}
 
--- a kind that is not `Count` is another
 no_count : (kind : Kind) → (kind ≡ kinds.Count → ⊥) → same_kind kind kinds.Count ≡ false
 no_count kinds.Text not = refl
 no_count kinds.Code not = refl
@@ -24,14 +23,12 @@ no_count kinds.Flag not = refl
 no_count kinds.Quantity not = refl
 no_count kinds.Count not = absurd (not refl)
 
--- a spec that is no count is one of a run
 field_run : (found : Option Spec) (spec : Spec) (bits : ℕ) → found ≡ Some spec
     → (spec.kind ≡ kinds.Count → ⊥) → bits ≡ spec.width
     → IsFieldRun found (record { fields = 1; items = 1; bits = bits })
 field_run found spec bits is kind width =
     (spec, is, no_count spec.kind kind, ap (λ n. record { fields = 1; items = 1; bits = n }) width)
 
--- an element is a run where it has a spec that is no count, and so is one that no operator changes
 pub first_run-returns-in_default : goal.first_run-returns-in_default
 first_run-returns-in_default t c =
     let q = c.args.operators.now in
@@ -60,7 +57,6 @@ first_run-returns-in_default t c =
           }
     ]
 
--- a replication is one where the turns of its body are
 pub first_run-returns-in-Repeated-clause-begins : goal.first_run-returns-in-Repeated-clause-begins
 first_run-returns-in-Repeated-clause-begins t c =
     let o = c.in-Repeated in
@@ -70,14 +66,12 @@ first_run-returns-in-Repeated-clause-begins t c =
     c.args.operators.now c.in_ok-turns-in-Repeated.turns _ (search rules) (rw items refl)
     c.in_ok-turns-in-Repeated.ensures)
 
--- at first no node was passed
 pub run_of-loop-first-init : goal.run_of-loop-first-init
 run_of-loop-first-init t c = record {
   no_more = omega arith;
   so_far = begins_nowhere _ _;
 }
 
--- one node more
 pub run_of-loop-first-preserved : goal.run_of-loop-first-preserved
 run_of-loop-first-preserved t c =
     let behind = c.in-Some.behind.now in
@@ -96,13 +90,11 @@ run_of-loop-first-preserved t c =
       ) refl) so_far c.in_ok-more.ensures.begins;
     })
 
--- where none is left, all are a run
 pub run_of-returns : goal.run_of-returns
 unfolding tree_within
 run_of-returns t c =
     begins_rest _ _ _ _ [] (nil_from_length _ c.in_default.ensures.cases) c.loop-first.invariant.so_far
 
--- its turns are one
 pub turns_run-returns : goal.turns_run-returns
 turns_run-returns t c =
     let body = c.in_ok-body.body in

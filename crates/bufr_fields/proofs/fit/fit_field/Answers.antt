@@ -1,4 +1,4 @@
--- The clauses of `fit_field`: one step of the walk is one step of fitting.
+-- One step of the walk is one step of `items_of`.
 use Rattle.std.proofs.lemmas.Result.{err_from_is_err_and}
 use Rattle.bufr_fields.specs.StepLaws.{field_asked, count_asked, field_goes, count_goes}
 use Rattle.bufr_fields.specs.StepLaws.{field_goes_on, count_goes_on}
@@ -6,17 +6,14 @@ use Rattle.bufr_fields.proofs.FitSteps.{step_is_written, count_written_fits, ste
 use Rattle.bufr_fields.proofs.FitSteps.{end_misfits, stop_misfits, fits_is}
 use Rattle.bufr_fields.proofs.fit.fit_field.Goals as goal
 
--- where the walk stops, its fault is the misfit
 pub returns-in-Err-clause-err : goal.returns-in-Err-clause-err
 returns-in-Err-clause-err c = λ rest. stop_misfits _ _ _ _ _ _ _ c.in-Err.ensures c.misfit.ensures
 
--- where the walk ends, the field is one too many
 pub returns-in-End-clause-err : goal.returns-in-End-clause-err
 returns-in-End-clause-err c =
     let goes = rw c.in-End.is at c.in-Ok.ensures in
     λ rest. end_misfits _ _ _ _ _ _ goes
 
--- a field other than the one asked for is the misfit
 pub returns-in_err-asked-in-Field-clause-err : goal.returns-in_err-asked-in-Field-clause-err
 returns-in_err-asked-in-Field-clause-err c =
     let p = err_from_is_err_and c.from_residual.result c.from_residual.ensures.1 in
@@ -25,7 +22,6 @@ returns-in_err-asked-in-Field-clause-err c =
     (λ rest. step_misfits _ _ _ _ _ _ _ _ (field_asked _ _ _ _ goes)
     c.in_err-asked-in-Field.ensures)
 
--- and so is one other than the count asked for
 pub returns-in_err-asked-in-Count-clause-err : goal.returns-in_err-asked-in-Count-clause-err
 returns-in_err-asked-in-Count-clause-err c =
     let p =
@@ -36,27 +32,23 @@ returns-in_err-asked-in-Count-clause-err c =
     (λ rest. step_misfits _ _ _ _ _ _ _ _ (count_asked _ _ _ _ goes)
     c.in_err-asked-in-Count.ensures)
 
--- the field asked for is gone past, whatever its number is
 pub returns-in_ok-asked-in-Field-clause-ok : goal.returns-in_ok-asked-in-Field-clause-ok
 returns-in_ok-asked-in-Field-clause-ok c =
     let goes = rw c.in-Field.is at c.in-Ok.ensures in
     λ rest. step_is_written _ _ _ _ _ _ _ _ (field_goes _ _ _ _ _ c.requires goes)
     (fits_is _ _ _ _ c.in_ok-asked-in-Field.ensures)
 
--- the walk goes on after it
 pub returns-in_ok-asked-in-Field-clause-goes_on : goal.returns-in_ok-asked-in-Field-clause-goes_on
 returns-in_ok-asked-in-Field-clause-goes_on c =
     let goes = rw c.in-Field.is at c.in-Ok.ensures in
     field_goes_on _ _ _ _ c.requires goes
 
--- a count that has its spec's form is below its bound
 pub count-requires-clause-fits : goal.count-requires-clause-fits
 count-requires-clause-fits c =
     let goes = rw c.in-Count.is at c.in-Ok.ensures in
     rw c.number.ensures
     (count_written_fits _ _ _ _ _ goes (fits_is _ _ _ _ c.in_ok-asked-in-Count.ensures))
 
--- the count asked for is gone past, and the course goes on by its number
 pub returns-in_ok-asked-in-Count-clause-ok : goal.returns-in_ok-asked-in-Count-clause-ok
 returns-in_ok-asked-in-Count-clause-ok c =
     let goes = rw c.in-Count.is at c.in-Ok.ensures in
@@ -64,7 +56,6 @@ returns-in_ok-asked-in-Count-clause-ok c =
     λ rest. step_is_written _ _ _ _ _ _ _ _ (count_goes _ _ _ _ _ _ goes counted)
     (fits_is _ _ _ _ c.in_ok-asked-in-Count.ensures)
 
--- the walk goes on after it
 pub returns-in_ok-asked-in-Count-clause-goes_on : goal.returns-in_ok-asked-in-Count-clause-goes_on
 returns-in_ok-asked-in-Count-clause-goes_on c =
     let goes = rw c.in-Count.is at c.in-Ok.ensures in

@@ -1,10 +1,8 @@
--- The clause of `fit_fields`: field by field along the walk.
 use Rattle.std.proofs.Common.{sym, ap, arith}
 use Rattle.bufr_fields.specs.Forms.{items_of}
 use Rattle.bufr_fields.specs.StepLaws.{ready_there}
 use Rattle.bufr_fields.proofs.fit.fit_fields.Goals as goal
 
--- at first the walk stands at the start of the course, which is steady
 pub loop-index-init : goal.loop-index-init
 loop-index-init c =
     record {

@@ -1,4 +1,3 @@
--- The loop of `fit_fields`: the fields that the walk has gone past.
 use Rattle.std.proofs.Common.{◌≡◌, ◌≤◌, ◌+◌, drop}
 use Rattle.bufr_expand.specs.Courses.{course}
 use Rattle.bufr_expand.specs.Walks as walks
@@ -7,8 +6,8 @@ use Rattle.bufr_fields.specs.Forms.{items_of}
 use Rattle.bufr_fields.specs.Steady.{IsReady}
 use Rattle.bufr_fields.proofs.fit.fit_fields.Given as goal
 
--- the walk is ready, has met at least as many items as fields, and fits those from this one on
--- as the course fits all
+-- the walk can go on, has met an item for each field, and its course counts the fields left as the
+-- whole course counts all
 abbrev pub invariant-loop-index : goal.invariant-loop-index
 invariant-loop-index l = record {
   ready : IsReady l.walk;

@@ -1,10 +1,8 @@
--- The clause of `are_ones`: the test of each octet that a slice yields.
 use Rattle.std.proofs.Common.{◌==◌, rules, tests}
 use Rattle.std.proofs.lemmas.Iterator.{YieldsList-from_slice}
 use Rattle.std.proofs.lemmas.Iterator.Search.{all_from_yields_List}
 use Rattle.bufr_fields.proofs.form.are_ones.Goals as goal
 
--- all octets that are yielded are 255 where all of the slice are
 pub returns : goal.returns
 returns c =
     all_from_yields_List (λ x. x == 255) _ _ _ c.all.ensures.ran

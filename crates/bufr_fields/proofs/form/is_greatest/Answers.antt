@@ -1,14 +1,12 @@
--- The clause of `is_greatest`: where the width is above 64.
+-- Above 64 bits no number of 64 bits is the greatest.
 use Rattle.std.proofs.Common.{◌≡◌, ◌^◌, ◌≤◌, ◌<◌, ◌+◌, eqb, false, ℕ, arith}
 use Rattle.std.proofs.lemmas.Bool.Decides.{nat_tests}
 use Rattle.std.proofs.Math.Pow.{pow_mono}
 use Rattle.bufr_fields.proofs.form.is_greatest.Goals as goal
 
--- a lesser number compares as not equal to a greater one
 apart : (a b : ℕ) → a < b → false ≡ eqb a b
 apart a b h = grind (arith, nat_tests)
 
--- no number of 64 bits is the greatest of more bits
 pub returns-then-width-gt-MOST_RAW_BITS : goal.returns-then-width-gt-MOST_RAW_BITS
 returns-then-width-gt-MOST_RAW_BITS c =
     let wide : 65 ≤ c.args.width = omega arith in

@@ -1,9 +1,7 @@
--- The clause of `is_octets`: the octets of a slice are below 256.
 use Rattle.std.proofs.Common.{◌==◌, ◌/◌, length}
 use Rattle.bufr_fields.proofs.OctetFacts.{octets_below, and_true}
 use Rattle.bufr_fields.proofs.form.is_octets.Goals as goal
 
--- so only their count is to be compared
 pub returns : goal.returns
 returns c =
     rw c.from.ensures

@@ -1,9 +1,8 @@
--- The law `counted_subsets_fit`, by that courses are the unrollings of the template's tree.
+-- The courses are the unrollings of the template's tree.
 use Rattle.bufr_fields.specs.FitLaws.{counted_fit, fitting_counted, all_counted_fit}
 use Rattle.bufr_fields.specs.FitLaws.{all_fitting_counted}
 use Rattle.bufr_fields.proofs.laws.counted_subsets_fit.Goals as goal
 
--- a subset counted fits and one that fits is counted, and so it is of all subsets
 pub returns : goal.returns
 returns c =
     let law = c.courses_are_unrollings.ensures in

@@ -1,11 +1,10 @@
--- For `push_decimal`: the sign and the parts of the digits that are added are the decimal's text.
+-- The sign and the parts of the digits join to the decimal's text.
 use Rattle.std.proofs.Common.{FitsSigned, ap, append_assoc, replicate, ◌≡◌, ◌++◌, ◌∙◌, rules}
 use Rattle.std.specs.Int.{w32, w128}
 use Rattle.std.proofs.lemmas.Int.{to_z-of_z}
 use Rattle.bufr_fields.specs.DigitFacts.{text_behind}
 use Rattle.bufr_fields.proofs.text.push_decimal.Goals as goal
 
--- the sign and the digits are added
 pub returns-clause-ok : goal.returns-clause-ok
 returns-clause-ok c =
     let units : FitsSigned w128 c.args.decimal.units = search rules in

@@ -1,7 +1,5 @@
--- The law that the cut of a stream is the one list of frames taken from the left.
 use Rattle.bufr_frame.specs.CutLaws.{cut_is, cut_only}
 use Rattle.bufr_frame.proofs.laws.cut_is_taken_from_the_left.Goals as goal
 
--- the cut is such a list, and each such list is the cut
 pub returns : goal.returns
 returns c = record { is = cut_is; only = cut_only }

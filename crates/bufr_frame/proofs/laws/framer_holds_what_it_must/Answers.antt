@@ -1,7 +1,5 @@
--- The law that what a framer holds, as it is computed, is what it must hold in words.
 use Rattle.bufr_frame.proofs.HoldingLaws.{stands_to, stands_from}
 use Rattle.bufr_frame.proofs.laws.framer_holds_what_it_must.Goals as goal
 
--- each of the two follows from the other
 pub returns : goal.returns
 returns c = λ framer stream out. (stands_to framer stream out, stands_from framer stream out)

@@ -1,5 +1,4 @@
--- The clause of `frames_of_pieces`: piece by piece the frames found are the sure ones, at the end
--- those of the cut.
+-- After each piece the frames found are the sure ones, at the end those of the cut.
 use Rattle.std.proofs.Common.{ℕ, List, [], length, take, get_or, sym, ap, ◌∙◌, subst, arith, Bor}
 use Rattle.std.specs.List.{flat_map}
 use Rattle.std.proofs.lemmas.List.{take_all}
@@ -8,15 +7,12 @@ use Rattle.bufr_frame.specs.Streams.{cut, sure, Stands}
 use Rattle.bufr_frame.proofs.PieceLaws.{handed_more, handed_all, joined_more}
 use Rattle.bufr_frame.proofs.pieces.frames_of_pieces.Goals as goal
 
--- the octets of a piece
 abbrev octets_of : Bor (List ℕ) → List ℕ
 octets_of piece = piece.now
 
--- a piece of no octets, which stands for one that is not there
 abbrev no_piece : Bor (List ℕ)
 no_piece = record { ref_ptr = (0, 0); now = [] }
 
--- the octets fed and those of the next piece can be counted, for all of them can
 pub feed-requires : goal.feed-requires
 feed-requires c =
     let all =
@@ -26,7 +22,6 @@ feed-requires c =
     let room = c.requires in
     omega (arith, all, fed, room)
 
--- what the feed of one more piece hands out makes the frames those sure of the longer stream
 pub loop-piece-preserved : goal.loop-piece-preserved
 loop-piece-preserved c =
     let before = flat_map octets_of (take c.loop-piece.piece-index c.args.pieces.now) in
@@ -46,7 +41,6 @@ loop-piece-preserved c =
           (c.in_ok-found.ensures.found before (length (sure before)) stands) ∙ ap sure (sym more);
     }
 
--- what the end of the stream hands out makes the frames found the cut of all the pieces, joined
 pub returns : goal.returns
 returns c =
     let pieces = c.args.pieces.now in

@@ -1,4 +1,3 @@
--- The clauses of `begin`: what is kept of a piece begins at its next mark, or at its end.
 use Rattle.std.proofs.Common.{◌≡◌, ◌+◌, ◌≤◌, ◌⊎◌, ◌++◌, length, drop, take, ap, ◌∙◌, arith, inl}
 use Rattle.std.proofs.Common.{inr, length-drop}
 use Rattle.std.proofs.lemmas.List.{take_rest, length-take-le}
@@ -6,7 +5,6 @@ use Rattle.std.proofs.lemmas.Bool.Decides.{leb_tells}
 use Rattle.bufr_frame.proofs.ReachLaws.{passed_begun}
 use Rattle.bufr_frame.proofs.reaching.begin.Goals as goal
 
--- where no frame stands at the next mark, the octets kept begin there, and nothing stands before
 pub returns : goal.returns
 returns c =
     let rest = c.args.rest.now in

@@ -1,4 +1,4 @@
--- The clause of `near_mark`: what does not begin as the mark near does not at all.
+-- Octets that don't begin as the mark when cut short don't begin so at all.
 use Rattle.std.proofs.Common.{arith}
 use Rattle.std.proofs.lemmas.List.{length-take}
 use Rattle.bufr_frame.proofs.ReachLaws.{disagrees_near}

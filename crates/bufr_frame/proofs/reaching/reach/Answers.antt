@@ -1,4 +1,4 @@
--- The clauses of `reach`: each round passes over octets at which nothing stands, or takes in more.
+-- Each round passes octets that begin no frame, or takes in more.
 use Rattle.std.proofs.Common.{◌≡◌, ◌≤◌, false, length, drop, sym, ap, ◌∙◌, subst}
 use Rattle.std.proofs.lemmas.List.{take_rest}
 use Rattle.bufr_frame.specs.declared.places.Start.TheVariants.{Other}
@@ -8,7 +8,6 @@ use Rattle.bufr_frame.proofs.ReachLaws.{reaching_other, reaching_more, less_to_d
 use Rattle.bufr_frame.proofs.reaching.reach.Goals.{In-Octets}
 use Rattle.bufr_frame.proofs.reaching.reach.Goals as goal
 
--- where nothing stands at the start, all up to the next mark is passed over
 pub loop-length-preserved-in-Other : goal.loop-length-preserved-in-Other
 loop-length-preserved-in-Other c =
     let kept = c.loop-length.octets.items in
@@ -23,7 +22,6 @@ loop-length-preserved-in-Other c =
     (subst (λ t. c.next_mark-start.result ≤ length t) same next.within)
     (λ k a b. subst (λ t. agrees (drop k t) bufr ≡ false) same (next.others k a b))
 
--- what is taken in of the piece is kept, or passed over where nothing is held
 takes : (c : In-Octets)
     → KeepsPart (drop c.loop-length.start c.loop-length.octets.items) c.loop-length.octets.items
     c.keep_more.new.octets.items (drop c.loop-length.taken c.args.piece.now) c.in-Octets.more
@@ -38,14 +36,12 @@ takes c =
     subst (KeepsMore held kept after (drop c.loop-length.taken c.args.piece.now)) c.in-Octets.is
     more
 
--- taking in more of the piece leaves less to do
 pub loop-length-smaller : goal.loop-length-smaller
 loop-length-smaller c =
     less_to_do c.loop-length.octets.items c.keep_more.new.octets.items c.args.piece.now
     c.loop-length.start c.loop-length.taken c.in-Octets.more c.loop-length.invariant.within
     c.loop-length.invariant.taken_in (takes (goal.at.loop-length-smaller c).In-Octets)
 
--- and what is kept then is what is left of the stream
 pub loop-length-preserved : goal.loop-length-preserved
 loop-length-preserved c =
     reaching_more _ _ c.loop-length.octets.items c.keep_more.new.octets.items c.args.piece.now

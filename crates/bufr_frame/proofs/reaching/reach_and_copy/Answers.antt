@@ -1,5 +1,5 @@
--- The clauses of `reach_and_copy`: the frame copied out where `reach` stops is the next sure one, and
--- what is held then is what the framer must hold.
+-- Where `reach` stops, the frame is the next sure one, and the octets held are those that the
+-- framer must hold.
 use Rattle.std.proofs.Common.{◌≡◌, ℕ, ◌+◌, ◌-◌, ◌≤◌, List, length, drop, take, refl, ap, ◌∙◌, subst}
 use Rattle.std.proofs.Common.{arith, rules}
 use Rattle.bufr_frame.specs.declared.frames.Found.{Found}
@@ -8,7 +8,6 @@ use Rattle.bufr_frame.proofs.ReachLaws.{answers_held, answers_piece, answers_non
 use Rattle.bufr_frame.proofs.ReachLaws.{rest_here}
 use Rattle.bufr_frame.proofs.reaching.reach_and_copy.Goals as goal
 
--- a frame that stands in the piece ends within it, so the count of octets taken in fits a word
 pub overflow_add-taken : goal.overflow_add-taken
 overflow_add-taken c =
     let piece = c.args.piece.now in
@@ -18,7 +17,6 @@ overflow_add-taken c =
     let all = c.requires.room in
     search (rules, room, all)
 
--- a frame that stands in the piece ends within it, so it can be copied out
 pub slice_bounds-copied-end-in-Piece : goal.slice_bounds-copied-end-in-Piece
 slice_bounds-copied-end-in-Piece c =
     let piece = c.args.piece.now in
@@ -27,8 +25,6 @@ slice_bounds-copied-end-in-Piece c =
     c.in-Piece.length c.in_ok-from.ensures.reached c.in-Piece.is in
     search (rules, room)
 
--- the frame at the start of the octets held is handed out, and those from the next place on that
--- is open or has a frame are held
 pub returns-in_ok-found-in-Held-clause-taken : goal.returns-in_ok-found-in-Held-clause-taken
 returns-in_ok-found-in-Held-clause-taken c =
     let kept = c.reach.new.octets.items in
@@ -72,7 +68,6 @@ returns-in_ok-found-in-Held-clause-taken c =
     (subst (λ t. place ≤ length t) same next.within) passed here
     c.let_go-from.ensures.held c.let_go-from.ensures.within c.let_go-from.ensures.half frame
 
--- the frame that stands in the piece is handed out, and nothing is held after it
 pub returns-in_ok-found-in-Piece-clause-taken : goal.returns-in_ok-found-in-Piece-clause-taken
 returns-in_ok-found-in-Piece-clause-taken c =
     let kept = c.reach.new.octets.items in
@@ -92,7 +87,6 @@ returns-in_ok-found-in-Piece-clause-taken c =
     c.let_go-from-in-Piece.ensures.held c.let_go-from-in-Piece.ensures.within
     c.let_go-from-in-Piece.ensures.half frame
 
--- where the piece is all taken in and the octets held are open, no frame is handed out
 pub returns-in-Nowhere-clause-taken : goal.returns-in-Nowhere-clause-taken
 returns-in-Nowhere-clause-taken c =
     answers_none c.args.fed _ c.reach.new.octets.items c.let_go-from-in-Nowhere.new.octets.items

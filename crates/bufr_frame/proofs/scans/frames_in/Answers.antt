@@ -1,4 +1,4 @@
--- The clauses of `frames_in`: frame by frame those found so far and those still to come are all.
+-- Frame by frame, those found and those to come are all.
 use Rattle.std.proofs.Common.{◌≡◌, ℕ, ◌+◌, ◌-◌, ◌<◌, [], ◌∷◌, ◌++◌, length, drop, take, sym, ap}
 use Rattle.std.proofs.Common.{◌∙◌, subst, arith}
 use Rattle.std.specs.Prelude.{IfSome}
@@ -10,7 +10,6 @@ use Rattle.bufr_frame.proofs.ScanLaws.{Scanned, scanned_first, scanned_frame, sc
 use Rattle.bufr_frame.proofs.ScanLaws.{scanned_end, frame_fits, frame_moves}
 use Rattle.bufr_frame.proofs.scans.frames_in.Goals as goal
 
--- a frame has octets, so the next place is further on
 pub loop-next-smaller : goal.loop-next-smaller
 loop-next-smaller c =
     let octets = c.args.octets.now in
@@ -26,7 +25,6 @@ loop-next-smaller c =
     omega (arith, length-drop here octets) in
     goes
 
--- the frame copied out is the next one, and the scan goes on after its end
 pub loop-next-preserved : goal.loop-next-preserved
 loop-next-preserved c =
     let octets = c.args.octets.now in
@@ -56,7 +54,6 @@ loop-next-preserved c =
       next.short,
     )
 
--- before the first place that is open or has a frame there is no frame
 pub loop-next-init : goal.loop-next-init
 loop-next-init c =
     let octets = c.args.octets.now in
@@ -72,7 +69,6 @@ loop-next-init c =
       next.short,
     )
 
--- where no frame is left, those found are all
 pub returns-clause-frames : goal.returns-clause-frames
 returns-clause-frames c =
     let inv = c.loop-next.invariant in
@@ -80,7 +76,6 @@ returns-clause-frames c =
     (scanned_end c.args.ended c.args.place c.args.octets.now c.loop-next.frames.items
     c.loop-next.next.place inv.0 (inv.2 none) (inv.3 none)).frames_are
 
--- the octets from the place on are what is left after the frames found
 pub returns-clause-rest : goal.returns-clause-rest
 returns-clause-rest c =
     let inv = c.loop-next.invariant in
@@ -88,6 +83,5 @@ returns-clause-rest c =
     (scanned_end c.args.ended c.args.place c.args.octets.now c.loop-next.frames.items
     c.loop-next.next.place inv.0 (inv.2 none) (inv.3 none)).rest_is
 
--- what is left is shorter than the greatest length that a frame announces
 pub returns-clause-short : goal.returns-clause-short
 returns-clause-short c = λ _. c.loop-next.invariant.4 c.in_default.is

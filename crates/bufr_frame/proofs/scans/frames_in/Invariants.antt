@@ -1,4 +1,3 @@
--- The loop of `frames_in`: the frames found up to a place, and what stands at that place.
 use Rattle.std.proofs.Common.{◌≡◌, ◌<◌, true, None, length, ◌-◌, drop}
 use Rattle.std.specs.Prelude.{IfSome}
 use Rattle.bufr_frame.specs.declared.places.TheConstants.{LONGEST}
@@ -7,8 +6,7 @@ use Rattle.bufr_frame.specs.Starts.{start_of}
 use Rattle.bufr_frame.proofs.ScanLaws.{Scanned}
 use Rattle.bufr_frame.proofs.scans.frames_in.Given as goal
 
--- the frames found and those from the place on are all; a frame of the length told stands there, or
--- none, and then the place is open, and the end where the stream has ended
+-- the frames found and those from here on are all; here is a frame, an open place, or the end
 abbrev pub invariant-loop-next : goal.invariant-loop-next
 invariant-loop-next l =
     Scanned l.ended l.place l.octets l.frames.items l.next.place
@@ -17,6 +15,5 @@ invariant-loop-next l =
     × (l.next.length ≡ None → l.ended ≡ true → l.next.place ≡ length l.octets)
     × (l.next.length ≡ None → length (drop l.next.place l.octets) < LONGEST)
 
--- each frame found leaves fewer octets
 abbrev pub decreases-loop-next : goal.decreases-loop-next
 decreases-loop-next l = length l.octets - l.next.place

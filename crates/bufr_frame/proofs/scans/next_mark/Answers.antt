@@ -1,12 +1,10 @@
--- The clauses of `next_mark`: the search finds the first whole mark, and else only the last octets
--- can begin one.
+-- The search finds the first whole mark; else only the last three octets can begin one.
 use Rattle.std.proofs.Common.{Some, None, ◌-◌, ◌≡◌, length, drop, take, subst, ap, ◌∙◌, arith}
 use Rattle.std.proofs.lemmas.List.{take_rest, length-drop}
 use Rattle.memchr.specs.Find.{FindsNeedle}
 use Rattle.bufr_frame.proofs.MarkLaws.{found_others, none_others, found_mark}
 use Rattle.bufr_frame.proofs.scans.next_mark.Goals as goal
 
--- before the mark that the search found, no octets begin as the mark
 pub returns-in-Some-clause-others : goal.returns-in-Some-clause-others
 returns-in-Some-clause-others c =
     let octets = c.args.octets.now in
@@ -16,7 +14,6 @@ returns-in-Some-clause-others c =
     found_others octets c.args.finder.now c.args.from c.in-Some.further c.requires.mark
     c.requires.within found
 
--- where the search found it, the octets begin as the mark
 pub returns-in-Some-clause-mark : goal.returns-in-Some-clause-mark
 returns-in-Some-clause-mark c = λ _.
     let octets = c.args.octets.now in
@@ -25,7 +22,6 @@ returns-in-Some-clause-mark c = λ _.
     (take_rest octets c.args.from) c.in-Some.ensures in
     found_mark octets c.args.finder.now c.args.from c.in-Some.further c.requires.mark found
 
--- where the search found no mark, none begins before the last three octets
 pub loop-place-init : goal.loop-place-init
 loop-place-init c = λ k low high.
     let octets = c.args.octets.now in

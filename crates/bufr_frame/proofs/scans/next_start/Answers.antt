@@ -1,4 +1,4 @@
--- The clauses of `next_start`: what is passed over leaves the frames and the rest as they were.
+-- Passing octets that begin no frame changes neither frames nor rest.
 use Rattle.std.proofs.Common.{◌≡◌, ℕ, ◌+◌, ◌<◌, ◌≤◌, drop, sym, ap, ◌∙◌, subst, arith, inl, inr}
 use Rattle.std.proofs.lemmas.List.{take_rest}
 use Rattle.std.proofs.lemmas.Bool.Decides.{leb_tells}
@@ -8,11 +8,9 @@ use Rattle.bufr_frame.proofs.MarkLaws.{no_mark}
 use Rattle.bufr_frame.proofs.ScanLaws.{passed_on, passed_past, passed_first}
 use Rattle.bufr_frame.proofs.scans.next_start.Goals as goal
 
--- at first nothing is passed over
 pub loop-here-init : goal.loop-here-init
 loop-here-init c = passed_first c.args.ended c.args.octets.now c.args.from c.requires.within
 
--- in a stream that has ended, a place that is open is passed over
 pub loop-here-preserved-in-Open : goal.loop-here-preserved-in-Open
 loop-here-preserved-in-Open c =
     let octets = c.args.octets.now in
@@ -21,7 +19,6 @@ loop-here-preserved-in-Open c =
     passed_past c.args.ended octets c.args.from here c.if-not-ended.false c.loop-here.invariant
     c.loop-here-test.true start
 
--- where nothing stands, all up to the next mark is passed over, for nothing stands without a mark
 pub loop-here-preserved : goal.loop-here-preserved
 loop-here-preserved c =
     let octets = c.args.octets.now in

@@ -6,7 +6,8 @@ use Rattle.bufr_frame.specs.NextFrameLaws.{between_fed}
 use Rattle.bufr_io.specs.declared.fault.ToolFault.{ToolFault}
 use Rattle.bufr_io.specs.Taking.{frame_at, TakesPiece}
 use Rattle.bufr_io.proofs.TakingFacts.{amid_first, amid_few, amid_within, amid_more, hands}
-use Rattle.bufr_io.proofs.TakingFacts.{amid_stopped, err_of, ok_of, passed, piece_ends}
+use Rattle.bufr_io.specs.PassingLaws.{passed}
+use Rattle.bufr_io.proofs.TakingFacts.{amid_stopped, err_of, ok_of, piece_ends}
 use Rattle.bufr_io.proofs.TakingFacts.{piece_short}
 use Rattle.bufr_io.proofs.taking.take_piece.Goals as goal
 

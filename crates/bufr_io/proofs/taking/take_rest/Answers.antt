@@ -6,7 +6,8 @@ use Rattle.bufr_frame.specs.Streams.{sure, cut}
 use Rattle.bufr_frame.specs.NextFrameLaws.{handed_end}
 use Rattle.bufr_io.specs.Taking.{frame_at, AreFew, TakesAll}
 use Rattle.bufr_io.proofs.TakingFacts.{few_cut, few_sure, rest_stopped, few_first, item_is}
-use Rattle.bufr_io.proofs.TakingFacts.{parted_at, passed, taken_to}
+use Rattle.bufr_io.specs.PassingLaws.{passed}
+use Rattle.bufr_io.proofs.TakingFacts.{parted_at, taken_to}
 use Rattle.bufr_io.proofs.taking.take_rest.Goals as goal
 
 -- the sure frames are few

@@ -1,7 +1,8 @@
 -- The clauses of `take_stream`: piece by piece, until none is left or it stops.
 use Rattle.std.proofs.Common.{◌++◌, ◌∙◌, arith, length-append}
 use Rattle.bufr_io.specs.Taking.{unread, at_piece, at_end, TakesStream}
-use Rattle.bufr_io.proofs.TakingFacts.{nothing_read, passed, unread_bounded}
+use Rattle.bufr_io.specs.PassingLaws.{passed}
+use Rattle.bufr_io.proofs.TakingFacts.{nothing_read, unread_bounded}
 use Rattle.bufr_io.proofs.taking.take_stream.Goals as goal
 
 -- before the first read nothing was read or taken in

@@ -1,15 +1,13 @@
--- For `push_digits`: the digits are those of the number, with their point.
+-- A number of 64 bits has at most twenty digits, so they fit the row.
 use Rattle.std.proofs.Common.{rules, arith}
 use Rattle.std.proofs.lemmas.Fmt.{length-decimal-le}
 use Rattle.bufr_listing.proofs.QuoteFacts.{on_ok_same}
 use Rattle.bufr_listing.proofs.RowFacts.{row_written}
 use Rattle.bufr_listing.proofs.fields.push_digits.Goals as goal
 
--- a number of 64 bits has twenty digits at most
 pub write_digits-first-requires : goal.write_digits-first-requires
 write_digits-first-requires c = search (rules, length-decimal-le 20)
 
--- those before the point are added, and then the point with all behind it
 pub returns-clause-ok : goal.returns-clause-ok
 returns-clause-ok c =
     let digits = c.write_digits-first.ensures in

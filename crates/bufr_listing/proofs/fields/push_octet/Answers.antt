@@ -1,4 +1,3 @@
--- For `push_octet`: the two digits of an octet that can not be printed as itself.
 use Rattle.std.proofs.Common.{◌≡◌, ◌∙◌, sym, refl}
 use Rattle.std.specs.Prelude.{false}
 use Rattle.hex.specs.Hex.{encode_with}
@@ -6,7 +5,6 @@ use Rattle.bufr_listing.specs.Listings.{stands_for_itself}
 use Rattle.bufr_listing.proofs.QuoteFacts.{on_ok_same}
 use Rattle.bufr_listing.proofs.fields.push_octet.Goals as goal
 
--- they are those of its high and its low half
 pub returns-clause-ok : goal.returns-clause-ok
 unfolding encode_with
 returns-clause-ok c =

@@ -1,5 +1,4 @@
--- For `push_quoted`: octets that are all printed as themselves, those that are printed one by one,
--- and what stays where memory runs out.
+-- Each octet follows as it appears between quotes; a failed growth keeps the old octets.
 use Rattle.std.proofs.Common.{◌≡◌, ◌++◌, ◌∙◌, sym, refl, rules, tests}
 use Rattle.std.specs.List.{list_all, flat_map}
 use Rattle.std.proofs.lemmas.List.{take_all}
@@ -11,7 +10,6 @@ use Rattle.bufr_listing.proofs.QuoteFacts.{printed_themselves, on_ok_same, betwe
 use Rattle.bufr_listing.proofs.FrontFacts.{one_more, front_kept, front_kept_where_failed}
 use Rattle.bufr_listing.proofs.fields.push_quoted.Goals as goal
 
--- they are added as they are
 pub returns-then-all-clause-ok : goal.returns-then-all-clause-ok
 returns-then-all-clause-ok c =
     let octets = c.args.octets.now in
@@ -24,14 +22,12 @@ returns-then-all-clause-ok c =
     (between_quotes c.args.text.now.items _ _ _ _ (sym (printed_themselves octets all))
     c.in_ok-push.ensures.items c.in_ok-extend_from_slice.ensures.items)
 
--- one more is added as it is printed
 pub loop-octet-preserved : goal.loop-octet-preserved
 loop-octet-preserved c =
     one_more quoted_octet c.args.octets.now c.loop-octet.octet-index 0 _ c.push.new.self.items
     c.loop-octet.text.items _ c.loop-octet-test.true refl c.loop-octet.invariant
     c.in_ok-push_octet.ensures.ok
 
--- where one failed, the first octets of the text are what they were
 pub returns-in_err-push_octet-clause-kept : goal.returns-in_err-push_octet-clause-kept
 returns-in_err-push_octet-clause-kept c =
     MatchResult-from_err c.from_residual-in_err-push_octet.result _ _
@@ -39,7 +35,6 @@ returns-in_err-push_octet-clause-kept c =
     (λ _. front_kept c.args.text.now.items _ c.push.new.self.items _ _
     c.in_ok-push.ensures.items (c.in_err-push_octet.ensures.err ∙ c.loop-octet.invariant))
 
--- all of them stand between the quotes
 pub returns-clause-ok : goal.returns-clause-ok
 returns-clause-ok c =
     let all = take_all c.loop-octet.octet-index c.args.octets.now c.loop-octet-test.false in
@@ -48,7 +43,6 @@ returns-clause-ok c =
     (c.loop-octet.invariant
     ∙ (λ i. c.push.new.self.items ++ flat_map quoted_octet (all i))))
 
--- where the last quote failed, the first octets of the text are what they were
 pub returns-clause-kept : goal.returns-clause-kept
 returns-clause-kept c =
     front_kept_where_failed c.extend_from_slice-2.result c.args.text.now.items _

@@ -1,4 +1,4 @@
--- For `push_subset`: where all fields are written, the lines of the subset are.
+-- The first line and one line for each field; a failed growth is cut back.
 use Rattle.std.proofs.Common.{◌++◌, ◌∙◌}
 use Rattle.std.specs.List.{flat_map}
 use Rattle.std.proofs.lemmas.List.{take_all}
@@ -7,7 +7,6 @@ use Rattle.bufr_listing.proofs.ListingFacts.{subset_behind}
 use Rattle.bufr_listing.proofs.FrontFacts.{one_more, unless_failed, cut_back}
 use Rattle.bufr_listing.proofs.fields.push_subset.Goals as goal
 
--- the first line and those of all fields are the lines of the subset
 pub returns-clause-ok : goal.returns-clause-ok
 returns-clause-ok c =
     let all = take_all c.loop-field.field-index c.as_slice-field-items.result.now
@@ -16,13 +15,11 @@ returns-clause-ok c =
     ∙ (λ i. c.in_ok-push_subset_line.ensures.ok i ++ flat_map (λ f. line (field_line f)) (all i))
     ∙ subset_behind c.args.text.now.items c.args.subset.now
 
--- where memory runs out at a field, the text is what it was
 pub returns-then-is_err-clause-err : goal.returns-then-is_err-clause-err
 returns-then-is_err-clause-err c =
     cut_back _ _ _ _ _ _ _ _ _ (c.len-held.ensures ∙ c.args.text.now.ok.0) c.in_ok-push_subset_line.ensures.ok
     c.loop-field.invariant c.push_field-added.ensures.err c.truncate.ensures.items
 
--- the line of one more is behind them
 pub loop-field-preserved : goal.loop-field-preserved
 loop-field-preserved c =
     one_more (λ f. line (field_line f)) c.as_slice-field-items.result.now

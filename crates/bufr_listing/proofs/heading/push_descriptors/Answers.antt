@@ -1,4 +1,3 @@
--- For `push_descriptors`: where all descriptors are written, their line is.
 use Rattle.std.proofs.Common.{◌≡◌, ◌∷◌, ◌++◌, ◌∙◌, [], ap, codes}
 use Rattle.std.specs.List.{flat_map}
 use Rattle.std.proofs.lemmas.List.{take_all}
@@ -6,7 +5,6 @@ use Rattle.bufr_tables.specs.Descriptors.{six_digits}
 use Rattle.bufr_listing.proofs.ListingFacts.{words_behind}
 use Rattle.bufr_listing.proofs.heading.push_descriptors.Goals as goal
 
--- the first word, all descriptors and the end are their line
 pub returns : goal.returns
 returns c =
     let old = c.args.text.now.items in

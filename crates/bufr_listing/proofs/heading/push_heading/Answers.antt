@@ -1,5 +1,3 @@
--- For `push_heading`: the lines that are written one behind the other are those before the first
--- subset.
 use Rattle.std.proofs.Common.{◌∙◌, ◌++◌, refl, ap, codes}
 use Rattle.std.proofs.lemmas.Result.{on_ok_weaker}
 use Rattle.bufr_sections.specs.SectionsRead.{message_lent}
@@ -7,7 +5,6 @@ use Rattle.bufr_listing.specs.OctetLines.{octets_text}
 use Rattle.bufr_listing.proofs.ListingFacts.{heading_written, local_text, section2_text}
 use Rattle.bufr_listing.proofs.heading.push_heading.Goals as goal
 
--- all are written one behind the other
 pub returns : goal.returns
 returns c subsets =
     let m = message_lent c.args.sections.now subsets in

@@ -1,11 +1,10 @@
--- For `push_numbers`: where all numbers are put into the row, their line is written.
+-- A number of 16 bits has at most five digits, so each fits the row with its space.
 use Rattle.std.proofs.Common.{◌<◌, ◌^◌, ◌-◌, arith}
 use Rattle.std.proofs.lemmas.Fmt.{length-decimal-le}
 use Rattle.bufr_listing.proofs.QuoteFacts.{on_ok_same}
 use Rattle.bufr_listing.proofs.RowFacts.{number_put, room_before, numbers_written}
 use Rattle.bufr_listing.proofs.heading.push_numbers.Goals as goal
 
--- a number of 16 bits has five digits at most
 pub write_digits-first-requires : goal.write_digits-first-requires
 write_digits-first-requires c =
     let i = c.loop-left.invariant in
@@ -15,7 +14,6 @@ write_digits-first-requires c =
     (omega (arith, small)) in
     (omega (arith, short, i.1, c.loop-left-test.true), omega (arith, i.2))
 
--- so there is room for the space
 pub overflow_sub-first : goal.overflow_sub-first
 overflow_sub-first c =
     let i = c.loop-left.invariant in
@@ -24,7 +22,6 @@ overflow_sub-first c =
     (room_before _ _ _ small (omega (arith, i.1, c.loop-left-test.true))
     c.write_digits-first.ensures.start).0
 
--- a number more is put before the others
 pub loop-left-preserved : goal.loop-left-preserved
 loop-left-preserved c =
     let i = c.loop-left.invariant in
@@ -34,7 +31,6 @@ loop-left-preserved c =
     (omega (arith, c.write_digits-first.auto.buf)) c.write_digits-first.ensures.start
     c.write_digits-first.ensures.written
 
--- the first word, all numbers and the end are their line
 pub returns : goal.returns
 returns c =
     let i = c.loop-left.invariant in

@@ -1,10 +1,8 @@
--- For `push_section1`: its two lines are written one behind the other.
 use Rattle.std.proofs.Common.{◌∙◌, ◌++◌, ap}
 use Rattle.std.proofs.lemmas.Result.{on_ok_weaker}
 use Rattle.bufr_listing.specs.Listings.{line, time_line}
 use Rattle.bufr_listing.proofs.heading.push_section1.Goals as goal
 
--- the line of the time stands behind that of the other numbers
 pub returns : goal.returns
 returns c =
     let numbers =

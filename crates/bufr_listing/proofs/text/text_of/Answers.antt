@@ -1,5 +1,3 @@
--- For `text_of`: the lines before the first subset, those of all subsets and the last line are the
--- listing.
 use Rattle.std.proofs.Common.{◌++◌, ◌∙◌, ap, sym}
 use Rattle.std.specs.List.{flat_map}
 use Rattle.std.proofs.lemmas.List.{take_all}
@@ -8,7 +6,6 @@ use Rattle.bufr_listing.proofs.FrontFacts.{one_more}
 use Rattle.bufr_listing.proofs.ListingFacts.{listing_in_parts}
 use Rattle.bufr_listing.proofs.text.text_of.Goals as goal
 
--- they stand one behind the other
 pub returns : goal.returns
 returns c =
     let m = c.args.message.now in
@@ -21,7 +18,6 @@ returns c =
     c.in_ok-extend_from_slice.ensures.items ∙ (λ i. before i ++ c.end_text.ensures i)
     ∙ sym (listing_in_parts m)
 
--- the lines of one more are behind them
 pub loop-subset-preserved : goal.loop-subset-preserved
 loop-subset-preserved c =
     one_more (λ s. joined (subset_lines s)) c.as_slice-subset-items.result.now

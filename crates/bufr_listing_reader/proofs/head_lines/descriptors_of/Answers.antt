@@ -1,4 +1,3 @@
--- For `descriptors_of`: the descriptors of a line, or L1.
 use Rattle.std.proofs.Common.{◌≡◌, ◌∷◌, ◌∙◌, sym, ap, codes, ℕ, Vec, Global, Err, length, true}
 use Rattle.std.specs.Prelude.{◌==◌, Option, option_map}
 use Rattle.bufr_tables.specs.declared.fxy.Fxy.{Fxy}
@@ -15,7 +14,6 @@ use Rattle.bufr_listing_reader.proofs.head_lines.descriptors_of.Goals.{in_defaul
 use Rattle.bufr_listing_reader.proofs.head_lines.descriptors_of.Goals.{After-behind_first}
 use Rattle.bufr_listing_reader.proofs.head_lines.descriptors_of.Goals as goal
 
--- the words of a line that begins with `descriptors`
 in_words : (c : After-behind_first) → words_of c.args.line.text.now
     ≡ codes "descriptors" ∷ words_left c.behind_first.result
 in_words c =
@@ -24,13 +22,11 @@ in_words c =
     (bytes_same (first_word text) (codes "descriptors") (sym c.begins.ensures
     ∙ c.if-not-begins.false)) c.behind_first.ensures
 
--- a line that does not begin with `descriptors` has L1
 pub returns-then-not-begins-clause-fault : goal.returns-then-not-begins-clause-fault
 returns-then-not-begins-clause-fault c = λ tables.
     rw c.bad_line.ensures (untitled_descriptors tables c.args.line.number c.args.line.text.now
     (sym c.begins.ensures ∙ c.if-not-begins.true))
 
--- so has one with no words behind it, or with a word that is no descriptor
 pub returns-in_default-clause-fault : goal.returns-in_default-clause-fault
 returns-in_default-clause-fault c = λ tables.
     let n = c.args.line.number in
@@ -56,7 +52,6 @@ returns-in_default-clause-fault c = λ tables.
     ] in
     rw c.bad_line-in_default.ensures bad
 
--- else its descriptors are read
 pub returns-in-Some-clause-ok : goal.returns-in-Some-clause-ok
 returns-in-Some-clause-ok c = λ tables.
     let e = in_words (goal.at.returns-in-Some-clause-ok c).After-behind_first in

@@ -1,4 +1,4 @@
--- For `octets_of`: octets, L1 or L2, by the words behind the first and by their digits.
+-- The number of words decides L1, then the digits decide L2.
 use Rattle.std.proofs.Common.{◌≡◌, ◌∙◌, ◌∷◌, [], sym, ap, ℕ, length, true, false}
 use Rattle.std.specs.Prelude.{◌==◌}
 use Rattle.std.proofs.lemmas.Bool.{eqb-true}
@@ -12,18 +12,15 @@ use Rattle.bufr_listing_reader.proofs.OctetFacts.{octets_are, octets_are_bad, oc
 use Rattle.bufr_listing_reader.proofs.head_lines.octets_of.Goals.{After-behind_first, In-Some}
 use Rattle.bufr_listing_reader.proofs.head_lines.octets_of.Goals as goal
 
--- the line has octets, for its title has
 has : (c : After-behind_first) → has_octets c.args.line.text.now ≡ true
 has c =
     title_octets c.args.line.text.now c.args.title.now true c.requires.titled c.requires.octets
 
--- a line of a title and digits has these words
 in_words : (c : In-Some) → words_of c.args.line.text.now
     ≡ c.args.title.now ∷ c.in-Some.digits.now ∷ []
 in_words c = titled_words c.args.line.text.now c.args.title.now (c.in-Some.digits.now ∷ [])
     c.requires.titled (sym c.in-Some.ensures.some ∙ c.behind_first.ensures)
 
--- a line of other than two words has L1
 pub returns-in_default : goal.returns-in_default
 returns-in_default c =
     let text = c.args.line.text.now in
@@ -34,7 +31,6 @@ returns-in_default c =
     (has (goal.at.returns-in_default c).After-behind_first)
     (titled_words text title ws c.requires.titled c.behind_first.ensures) c.in_default.ensures.none)
 
--- digits that are those of no octets have L2
 pub returns-in_default-fault : goal.returns-in_default-fault
 returns-in_default-fault c =
     let on = goal.at.returns-in_default-fault c in
@@ -44,7 +40,6 @@ returns-in_default-fault c =
     c.in-Some.digits.now (has on.After-behind_first) (in_words on.In-Some) (ap octets_by none))
     c.in-Err.ensures.err)
 
--- digits of no octet at all have L2
 pub returns-in-Ok : goal.returns-in-Ok
 returns-in-Ok c =
     let on = goal.at.returns-in-Ok c in
@@ -55,7 +50,6 @@ returns-in-Ok c =
     c.args.line.text.now c.in-Some.digits.now (has on.After-behind_first) (in_words on.In-Some)
     (ap octets_by c.in-Ok.ensures.ok ∙ nil_from_length items (eqb-true (length items) 0 none)))
 
--- else the octets are those of the digits
 pub returns-in-Ok-2 : goal.returns-in-Ok-2
 returns-in-Ok-2 c =
     let on = goal.at.returns-in-Ok-2 c in

@@ -1,7 +1,6 @@
--- For the clause `read` of `read_descriptors`: descriptors and their template, L1 or L3.
 use Rattle.std.proofs.Common.{◌≡◌, List, ◌∙◌, sym, ap, subst, ℕ, Ok}
 use Rattle.std.proofs.lemmas.Result.{err_from_is_err_and}
-use Rattle.bufr_answers.specs.Answers.{Fails}
+use Rattle.bufr_base.specs.Answers.{Fails}
 use Rattle.bufr_expand.specs.Templates.{template}
 use Rattle.bufr_listing_reader.specs.Cursors.{left, past, printed}
 use Rattle.bufr_listing_reader.specs.Lines.{as_printed}
@@ -10,7 +9,6 @@ use Rattle.bufr_listing_reader.proofs.CallFacts.{taken_ok, taken_err}
 use Rattle.bufr_listing_reader.proofs.head_lines.read_descriptors.Goals.{After-as_slice}
 use Rattle.bufr_listing_reader.proofs.head_lines.read_descriptors.Goals as goal
 
--- the template of the descriptors that are lent is what is read of the line
 own : (c : After-as_slice) → read_descriptors c.args.templates.now c.in_ok-line.line.number
     (as_printed c.in_ok-line.line.text.now)
     ≡ described c.in_ok-line.line.number c.as_slice.result.now
@@ -20,7 +18,6 @@ own c =
     ∙ ap (λ (xs : List ℕ). described c.in_ok-line.line.number xs
     (template c.args.templates.now xs)) (sym c.as_slice.ensures.value)
 
--- what is no line of descriptors has L1, unless memory is wanting
 pub returns-in_err-descriptors-clause-read : goal.returns-in_err-descriptors-clause-read
 returns-in_err-descriptors-clause-read c =
     let p = err_from_is_err_and c.from_residual-in_err-descriptors.result
@@ -30,7 +27,6 @@ returns-in_err-descriptors-clause-read c =
     c.in_err-descriptors.field-0.0 c.in_ok-line.ensures.taken
     (c.in_err-descriptors.ensures.fault c.args.templates.now))
 
--- descriptors that have no template have L3, unless memory is wanting
 pub returns-in_err-template-clause-read : goal.returns-in_err-template-clause-read
 returns-in_err-template-clause-read c =
     let same = own (goal.at.returns-in_err-template-clause-read c).After-as_slice in
@@ -41,7 +37,6 @@ returns-in_err-template-clause-read c =
     c.in_err-template.field-0.0 c.in_ok-line.ensures.taken
     (subst (λ r. Fails c.in_err-template.field-0.0 r) (sym same) c.in_err-template.ensures.exact))
 
--- else the descriptors of the line and their template are read
 pub returns-clause-read : goal.returns-clause-read
 returns-clause-read c =
     let same = own (goal.at.returns-clause-read c).After-as_slice in

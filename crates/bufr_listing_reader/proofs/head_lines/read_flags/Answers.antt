@@ -1,9 +1,8 @@
--- For the clause `read` of `read_flags`: L1 at a line of another kind.
 use Rattle.std.proofs.Common.{◌≡◌, ◌∙◌, sym, ap, codes, false, length}
 use Rattle.std.specs.Prelude.{◌&&◌, nat_le}
 use Rattle.std.specs.Str.{bytes_eq}
 use Rattle.std.proofs.lemmas.Bool.{and_left, and_right}
-use Rattle.bufr_answers.specs.declared.failure.Failure.TheVariants.{Fault}
+use Rattle.bufr_base.specs.declared.failure.Failure.TheVariants.{Fault}
 use Rattle.bufr_listing.specs.declared.fault.ListingFault.TheVariants.{BadLine}
 use Rattle.bufr_listing_reader.specs.Cursors.{left, past, printed}
 use Rattle.bufr_listing_reader.specs.Lines.{first_word, words_of}
@@ -13,7 +12,6 @@ use Rattle.bufr_listing_reader.proofs.head_lines.read_flags.Goals.{else-begins-v
 use Rattle.bufr_listing_reader.proofs.head_lines.read_flags.Goals.{else-begins-via-else-begins}
 use Rattle.bufr_listing_reader.proofs.head_lines.read_flags.Goals as goal
 
--- a line that does not begin with `flags`, or has more than three words, has L1
 pub returns-clause-read : goal.returns-clause-read
 returns-clause-read c =
     let text = c.in_ok-line.line.text.now in

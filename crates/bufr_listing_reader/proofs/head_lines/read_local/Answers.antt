@@ -1,4 +1,3 @@
--- For the clause `read` of `read_local`: octets, or nothing where their line is absent.
 use Rattle.std.proofs.Common.{◌∙◌, sym, codes}
 use Rattle.std.proofs.lemmas.Result.{err_from_is_err_and}
 use Rattle.bufr_listing_reader.specs.Cursors.{left}
@@ -8,7 +7,6 @@ use Rattle.bufr_listing_reader.proofs.head_lines.read_local.Goals.{in_default-vi
 use Rattle.bufr_listing_reader.proofs.head_lines.read_local.Goals.{in_default-via-in_default}
 use Rattle.bufr_listing_reader.proofs.head_lines.read_local.Goals as goal
 
--- a fault of the octets is the answer
 pub returns-in_err-octets_of-in-Some-clause-read : goal.returns-in_err-octets_of-in-Some-clause-read
 returns-in_err-octets_of-in-Some-clause-read c =
     let p = err_from_is_err_and c.from_residual.result c.from_residual.ensures.1 in
@@ -18,7 +16,6 @@ returns-in_err-octets_of-in-Some-clause-read c =
     (sym c.begins.ensures ∙ c.if-begins.true)
     c.in_err-octets_of-in-Some.ensures)
 
--- octets that were read are those for local use
 pub returns-in_ok-octets_of-in-Some-clause-read : goal.returns-in_ok-octets_of-in-Some-clause-read
 returns-in_ok-octets_of-in-Some-clause-read c =
     let next = c.in-Some.ensures in
@@ -26,7 +23,6 @@ returns-in_ok-octets_of-in-Some-clause-read c =
     (left c.pass.new.self) c.in_ok-octets_of-in-Some.field-0.items next.1 c.pass.ensures.lines
     (sym c.begins.ensures ∙ c.if-begins.true) c.in_ok-octets_of-in-Some.ensures
 
--- where the next line has another first word or none is left, there are none
 pub returns-in_default-clause-read : goal.returns-in_default-clause-read
 returns-in_default-clause-read c =
     elim c.in_default.branch [

@@ -1,7 +1,7 @@
--- For the clause `read` of `read_numbers`: numbers, L1 or L2, by the line's words.
+-- The first word and the number of words decide L1, then the numbers decide L2.
 use Rattle.std.proofs.Common.{◌≡◌, ◌∷◌, ◌∙◌, sym, ap, ℕ, Vec, Global, Err}
 use Rattle.std.specs.Prelude.{Option, option_map, if◌then◌else◌}
-use Rattle.bufr_answers.specs.declared.failure.Failure.TheVariants.{Fault}
+use Rattle.bufr_base.specs.declared.failure.Failure.TheVariants.{Fault}
 use Rattle.bufr_listing.specs.declared.fault.ListingFault.TheVariants.{BadLine, BadValue}
 use Rattle.bufr_listing_reader.specs.Cursors.{left, past, printed}
 use Rattle.bufr_listing_reader.specs.Lines.{words_of, first_word}
@@ -13,7 +13,6 @@ use Rattle.bufr_listing_reader.proofs.NumberFacts.{untitled_numbers, numbers_are
 use Rattle.bufr_listing_reader.proofs.head_lines.read_numbers.Goals.{After-behind_first-words}
 use Rattle.bufr_listing_reader.proofs.head_lines.read_numbers.Goals as goal
 
--- the words of a line that begins with the title
 in_words : (c : After-behind_first-words) → words_of c.in_ok-line.line.text.now
     ≡ c.args.title.now ∷ words_left c.behind_first-words.result
 in_words c =
@@ -22,7 +21,6 @@ in_words c =
     (bytes_same (first_word text) c.args.title.now (sym c.begins.ensures ∙ c.if-not-begins.false))
     c.behind_first-words.ensures
 
--- a line that does not begin with the title has L1
 pub returns-then-not-begins-clause-read : goal.returns-then-not-begins-clause-read
 returns-then-not-begins-clause-read c =
     let title = c.args.title.now in
@@ -33,7 +31,6 @@ returns-then-not-begins-clause-read c =
     c.in_ok-line.ensures.taken (untitled_numbers title limits n c.in_ok-line.line.text.now
     c.requires.word (sym c.begins.ensures ∙ c.if-not-begins.true)))
 
--- numbers that its words are, are the line's
 pub returns-in-Some-clause-read : goal.returns-in-Some-clause-read
 returns-in-Some-clause-read c =
     let title = c.args.title.now in
@@ -48,7 +45,6 @@ returns-in-Some-clause-read c =
     c.requires.word c.requires.short c.requires.plain
     (in_words (goal.at.returns-in-Some-clause-read c).After-behind_first-words) found)
 
--- where they are none, it has L2 if they are as many as the limits
 pub returns-in-None-clause-read : goal.returns-in-None-clause-read
 returns-in-None-clause-read c =
     let title = c.args.title.now in
@@ -66,7 +62,6 @@ returns-in-None-clause-read c =
     ∙ ap (λ b. Err (if b then BadValue n else BadLine n))
     (sym c.has_count.ensures ∙ c.if-has_count.true)))
 
--- else it has L1
 pub returns-in-None-2-clause-read : goal.returns-in-None-2-clause-read
 returns-in-None-2-clause-read c =
     let title = c.args.title.now in

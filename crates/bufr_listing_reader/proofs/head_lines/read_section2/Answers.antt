@@ -1,8 +1,7 @@
--- For the clause `read` of `read_section2`: section 2, or nothing where its line is absent.
 use Rattle.std.proofs.Common.{◌∙◌, sym, ap, codes, subst}
 use Rattle.std.specs.Str.{bytes_eq}
 use Rattle.std.proofs.lemmas.Result.{err_from_is_err_and}
-use Rattle.bufr_answers.specs.Answers.{Fails}
+use Rattle.bufr_base.specs.Answers.{Fails}
 use Rattle.bufr_listing_reader.specs.Cursors.{left}
 use Rattle.bufr_listing_reader.specs.Reading.{read_section2}
 use Rattle.bufr_listing_reader.proofs.CallFacts.{found_ok, found_err, not_found, none_found}
@@ -11,7 +10,6 @@ use Rattle.bufr_listing_reader.proofs.head_lines.read_section2.Goals.{in_default
 use Rattle.bufr_listing_reader.proofs.head_lines.read_section2.Goals.{in_default-via-in_default}
 use Rattle.bufr_listing_reader.proofs.head_lines.read_section2.Goals as goal
 
--- a fault of its octets is the answer
 pub returns-in_err-octets-in-Some-clause-read : goal.returns-in_err-octets-in-Some-clause-read
 returns-in_err-octets-in-Some-clause-read c =
     let p = err_from_is_err_and c.from_residual.result c.from_residual.ensures.1 in
@@ -24,7 +22,6 @@ returns-in_err-octets-in-Some-clause-read c =
     (ap (bytes_eq c.in-Some.line.text.now) (sym c.as_slice.ensures) ∙ sym c.eq.ensures
     ∙ c.if-eq.false))) c.in_err-octets-in-Some.ensures))
 
--- octets that were read are those of section 2
 pub returns-in_ok-octets-in-Some-clause-read : goal.returns-in_ok-octets-in-Some-clause-read
 returns-in_ok-octets-in-Some-clause-read c =
     let next = c.in-Some.ensures in
@@ -36,7 +33,6 @@ returns-in_ok-octets-in-Some-clause-read c =
     (ap (bytes_eq c.in-Some.line.text.now) (sym c.as_slice.ensures) ∙ sym c.eq.ensures
     ∙ c.if-eq.false) ∙ c.in_ok-octets-in-Some.ensures))
 
--- where the next line has another first word or none is left, there is no section 2
 pub returns-in_default-clause-read : goal.returns-in_default-clause-read
 returns-in_default-clause-read c =
     elim c.in_default.branch [

@@ -1,13 +1,11 @@
--- For the clause `read` of `read_word`: L1 at another line.
 use Rattle.std.proofs.Common.{◌∙◌, sym}
-use Rattle.bufr_answers.specs.declared.failure.Failure.TheVariants.{Fault}
+use Rattle.bufr_base.specs.declared.failure.Failure.TheVariants.{Fault}
 use Rattle.bufr_listing.specs.declared.fault.ListingFault.TheVariants.{BadLine}
 use Rattle.bufr_listing_reader.specs.Cursors.{left, past, printed}
 use Rattle.bufr_listing_reader.specs.Reading.{read_word}
 use Rattle.bufr_listing_reader.proofs.CallFacts.{taken_err, word_is_not}
 use Rattle.bufr_listing_reader.proofs.head_lines.read_word.Goals as goal
 
--- a line that is not the word has L1
 pub returns-else-eq-clause-read : goal.returns-else-eq-clause-read
 returns-else-eq-clause-read c =
     rw c.bad_line.ensures

@@ -1,4 +1,3 @@
--- For the clauses `given` and `answered` of the law `faults_of_listings_are_the_first`.
 use Rattle.bufr_fields.specs.CourseLaws.{Laws}
 use Rattle.bufr_listing_reader.proofs.LowerLaws.{LowerLaws}
 use Rattle.bufr_listing_reader.proofs.FaultFields.{FaultLaws}
@@ -6,7 +5,6 @@ use Rattle.bufr_listing_reader.proofs.FaultMessages.{first_fault}
 use Rattle.bufr_listing_reader.proofs.RefusedMessages.{first_fault_read}
 use Rattle.bufr_listing_reader.proofs.laws.faults_of_listings_are_the_first.Goals as goal
 
--- what the crates below say of descriptors, specs, subsets and the fields that come next
 laws_of : goal.After-courses_begin_unrollings → FaultLaws
 laws_of c =
     let lower : LowerLaws = record {
@@ -27,10 +25,8 @@ laws_of c =
     } in
     record { lower = lower; courses = courses }
 
--- a fault that reading answers is the first of the text
 pub returns-clause-given : goal.returns-clause-given
 returns-clause-given c = first_fault (laws_of c)
 
--- and the first fault of a text is what reading answers
 pub returns-clause-answered : goal.returns-clause-answered
 returns-clause-answered c = first_fault_read (laws_of c)

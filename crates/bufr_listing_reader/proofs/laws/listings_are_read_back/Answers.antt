@@ -1,8 +1,6 @@
--- For the clause `read` of the law `listings_are_read_back`.
 use Rattle.bufr_listing_reader.proofs.ShownFacts.{listing_read_back}
 use Rattle.bufr_listing_reader.proofs.laws.listings_are_read_back.Goals as goal
 
--- the joined listings of messages are read back, by the laws of the crates below
 pub returns : goal.returns
 returns c =
     record {

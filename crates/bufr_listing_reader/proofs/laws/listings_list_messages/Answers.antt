@@ -1,9 +1,7 @@
--- For the clauses `read` and `listed` of the law `listings_list_messages`.
 use Rattle.bufr_listing_reader.proofs.LowerLaws.{LowerLaws}
 use Rattle.bufr_listing_reader.proofs.TextFacts.{read_listed, listed_read}
 use Rattle.bufr_listing_reader.proofs.laws.listings_list_messages.Goals as goal
 
--- what the crates below say of descriptors, specs and subsets
 laws_of : goal.After-counted_subsets_fit → LowerLaws
 laws_of c =
     record {
@@ -15,10 +13,8 @@ laws_of c =
       counted = c.counted_subsets_fit.ensures.all_counted;
     }
 
--- what is read of a text is listed by it
 pub returns-clause-read : goal.returns-clause-read
 returns-clause-read c = read_listed (laws_of c)
 
--- and what a text lists is read of it
 pub returns-clause-listed : goal.returns-clause-listed
 returns-clause-listed c = listed_read (laws_of c)

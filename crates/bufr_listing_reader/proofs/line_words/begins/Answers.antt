@@ -1,8 +1,6 @@
--- For `begins`: a line has a first word.
 use Rattle.std.proofs.Common.{◌∙◌, sym}
 use Rattle.bufr_listing_reader.proofs.WordFacts.{some_word}
 use Rattle.bufr_listing_reader.proofs.line_words.begins.Goals as goal
 
--- a line is not without words
 pub returns-in-None : goal.returns-in-None
 returns-in-None c = some_word c.args.line.now (sym c.of.ensures ∙ c.in-None.ensures.none)

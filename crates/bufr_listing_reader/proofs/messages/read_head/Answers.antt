@@ -1,11 +1,9 @@
--- For `read_head`: what is required of the numbers of section 1.
 use Rattle.std.proofs.Common.{codes}
 use Rattle.bufr_listing_reader.specs.Reading.{read_numbers, section1_limits}
 use Rattle.bufr_listing_reader.proofs.SubsetFacts.{line_takes}
 use Rattle.bufr_listing_reader.proofs.LineFacts.{numbers_take}
 use Rattle.bufr_listing_reader.proofs.messages.read_head.Goals as goal
 
--- the numbers that were read are below their limits
 pub head_of-requires-clause-numbers : goal.head_of-requires-clause-numbers
 head_of-requires-clause-numbers c =
     let one =

@@ -1,17 +1,14 @@
--- For the clause `read` of `read_message`: a message by its parts, or the first of these that
--- fails.
+-- The message has the fault of its first part that fails.
 use Rattle.std.proofs.lemmas.Result.{err_from_is_err_and}
 use Rattle.bufr_listing_reader.proofs.MessageSteps.{at_section2, at_flags, at_descriptors, at_subsets}
 use Rattle.bufr_listing_reader.proofs.MessageSteps.{step_fails, head_fails, subsets_fail, message_is}
 use Rattle.bufr_listing_reader.proofs.messages.read_message.Goals as goal
 
--- where section 1 fails, so does the message
 pub returns-in_err-head-clause-read : goal.returns-in_err-head-clause-read
 returns-in_err-head-clause-read c =
     let p = err_from_is_err_and c.from_residual.result c.from_residual.ensures.1 in
     rw (p.1, p.2) (head_fails _ _ _ _ c.in_err-head.ensures.read)
 
--- where section 2 fails, so does the message
 pub returns-in_err-section2-clause-read : goal.returns-in_err-section2-clause-read
 returns-in_err-section2-clause-read c =
     let p = err_from_is_err_and c.from_residual-in_err-section2.result
@@ -20,7 +17,6 @@ returns-in_err-section2-clause-read c =
     (step_fails _ _ _ _ (at_section2 _ _ _ _ _ c.in_ok-head.ensures.read)
     c.in_err-section2.ensures.read)
 
--- where the flags fail, so does the message
 pub returns-in_err-flags-clause-read : goal.returns-in_err-flags-clause-read
 returns-in_err-flags-clause-read c =
     let p = err_from_is_err_and c.from_residual-in_err-flags.result
@@ -31,7 +27,6 @@ returns-in_err-flags-clause-read c =
     (step_fails _ _ _ _ (at_flags _ _ _ _ _ _ _ c.in_ok-head.ensures.read
     c.in_ok-section2.ensures.read) flags)
 
--- where the descriptors fail, so does the message
 pub returns-in_err-descriptors-clause-read : goal.returns-in_err-descriptors-clause-read
 returns-in_err-descriptors-clause-read c =
     let p = err_from_is_err_and c.from_residual-in_err-descriptors.result
@@ -44,7 +39,6 @@ returns-in_err-descriptors-clause-read c =
     rw (p.1, p.2) (step_fails _ _ _ _ (at_descriptors _ _ _ _ _ _ _ _ _ c.in_ok-head.ensures.read
     c.in_ok-section2.ensures.read flags) list)
 
--- where the subsets fail, so does the message
 pub returns-in_err-subsets-clause-read : goal.returns-in_err-subsets-clause-read
 returns-in_err-subsets-clause-read c =
     let p = err_from_is_err_and c.from_residual-in_err-subsets.result
@@ -64,7 +58,6 @@ returns-in_err-subsets-clause-read c =
     rw (p.1, p.2) (subsets_fail _ _ _ _ _ _ _ _ _ (at_subsets _ _ _ _ _ _ _ _ _ _ _
     c.in_ok-head.ensures.read c.in_ok-section2.ensures.read flags list) subsets)
 
--- else the message is that of its parts
 pub returns-clause-read : goal.returns-clause-read
 returns-clause-read c =
     let flags =

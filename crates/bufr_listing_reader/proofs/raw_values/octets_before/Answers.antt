@@ -1,4 +1,3 @@
--- For `octets_before`: so many octets and the last quote, or none.
 use Rattle.std.specs.Str.{bytes_eq}
 use Rattle.std.proofs.Common.{◌≡◌, ◌∙◌, ◌+◌, ◌-◌, suc, sym, ap, arith}
 use Rattle.std.specs.Prelude.{Some, None}
@@ -8,14 +7,12 @@ use Rattle.bufr_listing_reader.proofs.RawFacts.{octets_next, octets_ended, octet
 use Rattle.bufr_listing_reader.proofs.raw_values.octets_before.Goals as goal
 use Rattle.bufr_listing_reader.proofs.raw_values.octets_before.Goals.{then-eq, else-eq}
 
--- before the first octet none has been read
 pub loop-i-init : goal.loop-i-init
 loop-i-init c =
     let whole : c.args.count - 0 ≡ c.args.count = omega arith in
     rw (c.new-octets.ensures.items, whole)
     (behind_none (octets_before c.args.count c.args.text.now))
 
--- where no octet stands at the front, there are none
 pub returns-in-None : goal.returns-in-None
 returns-in-None c =
     let next : c.args.count - c.loop-i._i ≡ suc (c.args.count - (c.loop-i._i + 1)) = omega arith in
@@ -24,7 +21,6 @@ returns-in-None c =
     (octets_next (c.args.count - c.loop-i._i) (c.args.count - (c.loop-i._i + 1)) c.loop-i.rest.now
     None next (sym none)))
 
--- one octet more was read
 pub loop-i-preserved : goal.loop-i-preserved
 loop-i-preserved c =
     let next : c.args.count - c.loop-i._i ≡ suc (c.args.count - (c.loop-i._i + 1)) = omega arith in
@@ -37,7 +33,6 @@ loop-i-preserved c =
     (octets_before (c.args.count - (c.loop-i._i + 1)) c.in-Some.behind.now)
     c.in_ok-push-in-Some.ensures.items
 
--- behind the last octet stands the quote alone, or there are none
 pub returns : goal.returns
 returns c =
     let none : c.args.count - c.loop-i._i ≡ 0 = omega arith in

@@ -1,11 +1,9 @@
--- For `ends`: the next line is compared as it stands.
 use Rattle.std.proofs.Common.{◌∙◌, sym, ap, codes, refl}
 use Rattle.std.specs.Str.{bytes_eq}
 use Rattle.bufr_listing_reader.specs.Cursors.{is_end}
 use Rattle.bufr_listing_reader.proofs.PrintedFacts.{same_test}
 use Rattle.bufr_listing_reader.proofs.subsets.ends.Goals as goal
 
--- whether the next line is `end`
 pub returns-in-Some : goal.returns-in-Some
 returns-in-Some c =
     let p = rw c.in-Some.is at c.peek.ensures in

@@ -1,6 +1,6 @@
--- For the clauses of `read_field`, by what the walk answers.
+-- One step of the walk is one step of its course.
 use Rattle.std.proofs.lemmas.Result.{err_from_is_err_and}
-use Rattle.bufr_answers.specs.declared.failure.Failure.TheVariants.{Fault}
+use Rattle.bufr_base.specs.declared.failure.Failure.TheVariants.{Fault}
 use Rattle.bufr_listing.specs.declared.fault.Cause.TheVariants as causes
 use Rattle.bufr_listing.specs.declared.fault.ListingFault.TheVariants.{Refused}
 use Rattle.bufr_listing_reader.specs.Cursors.{left, past, printed}
@@ -11,14 +11,12 @@ use Rattle.bufr_listing_reader.proofs.StepFacts.{count_fits}
 use Rattle.bufr_listing_reader.proofs.subsets.read_field.Goals as goal
 use Rattle.bufr_fields.specs.StepLaws.{field_goes_on, count_goes_on}
 
--- where the walk stops and no line is left, L1
 pub returns-in_err-line-in-Err-clause-err : goal.returns-in_err-line-in-Err-clause-err
 returns-in_err-line-in-Err-clause-err c =
     let p = err_from_is_err_and c.from_residual.result c.from_residual.ensures.1 in
     rw (p.1, p.2) (stop_is_refused _ _ _ _ _ _ c.in-Err.ensures
     (λ met. stop_none _ met _ _ _ c.in_err-line-in-Err.ensures.taken))
 
--- where the walk stops, L3 at the next line
 pub returns-in-Err-clause-err : goal.returns-in-Err-clause-err
 returns-in-Err-clause-err c =
     let line = c.in_ok-line-in-Err.line in
@@ -29,7 +27,6 @@ returns-in-Err-clause-err c =
     (λ met. stop_some last met c.in-Err.fault ls (printed line) (left c.take.new.self)
     c.in_ok-line-in-Err.ensures.taken))
 
--- where the line of a field fails, so do the fields
 pub returns-in_err-field-in-Field-clause-err : goal.returns-in_err-field-in-Field-clause-err
 returns-in_err-field-in-Field-clause-err c =
     let p = err_from_is_err_and c.from_residual-in_err-field-in-Field.result
@@ -37,7 +34,6 @@ returns-in_err-field-in-Field-clause-err c =
     let goes = rw c.in-Field.is at c.in-Ok.ensures in
     rw (p.1, p.2) (field_is_refused _ _ _ _ _ _ _ goes c.in_err-field-in-Field.ensures.read)
 
--- where the line of a count fails, so do the fields
 pub returns-in_err-field-in-Count-clause-err : goal.returns-in_err-field-in-Count-clause-err
 returns-in_err-field-in-Count-clause-err c =
     let p = err_from_is_err_and c.from_residual-in_err-field-in-Count.result
@@ -45,38 +41,32 @@ returns-in_err-field-in-Count-clause-err c =
     let goes = rw c.in-Count.is at c.in-Ok.ensures in
     rw (p.1, p.2) (count_is_refused _ _ _ _ _ _ _ goes c.in_err-field-in-Count.ensures.read)
 
--- the number of a count that was read fits what the walk waits for
 pub count-requires-clause-fits : goal.count-requires-clause-fits
 count-requires-clause-fits c =
     let goes = rw c.in-Count.is at c.in-Ok.ensures in
     rw c.number_of.ensures (count_fits _ _ _ _ _ _ _ _ goes c.in_ok-field-in-Count.ensures.read)
 
--- at the end there is no field
 pub returns-in-End-clause-ok : goal.returns-in-End-clause-ok
 returns-in-End-clause-ok c =
     let goes = rw c.in-End.is at c.in-Ok.ensures in
     end_is_read _ _ _ _ goes
 
--- a field that was read stands before those that follow
 pub returns-in_ok-field-in-Field-clause-ok : goal.returns-in_ok-field-in-Field-clause-ok
 returns-in_ok-field-in-Field-clause-ok c =
     let goes = rw c.in-Field.is at c.in-Ok.ensures in
     field_is_read _ _ _ _ _ _ _ _ c.requires goes c.in_ok-field-in-Field.ensures.read
 
--- after a field the walk can go on, with more items met
 pub returns-in_ok-field-in-Field-clause-advances : goal.returns-in_ok-field-in-Field-clause-advances
 returns-in_ok-field-in-Field-clause-advances c =
     let goes = rw c.in-Field.is at c.in-Ok.ensures in
     field_goes_on _ _ _ _ c.requires goes
 
--- a count that was read stands before the fields that follow
 pub returns-in_ok-field-in-Count-clause-ok : goal.returns-in_ok-field-in-Count-clause-ok
 returns-in_ok-field-in-Count-clause-ok c =
     let goes = rw c.in-Count.is at c.in-Ok.ensures in
     let counted = rw c.number_of.ensures at c.count.ensures in
     count_is_read _ _ _ _ _ _ _ _ _ goes counted c.in_ok-field-in-Count.ensures.read
 
--- after a count the walk can go on, with more items met
 pub returns-in_ok-field-in-Count-clause-advances : goal.returns-in_ok-field-in-Count-clause-advances
 returns-in_ok-field-in-Count-clause-advances c =
     let goes = rw c.in-Count.is at c.in-Ok.ensures in

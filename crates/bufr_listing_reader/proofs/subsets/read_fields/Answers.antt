@@ -1,9 +1,7 @@
--- For `read_fields`: each field that is read is one of the subset's.
 use Rattle.std.proofs.Common.{◌∙◌, refl}
 use Rattle.bufr_listing_reader.proofs.StepFacts.{behind_none, one_more}
 use Rattle.bufr_listing_reader.proofs.subsets.read_fields.Goals as goal
 
--- before the first field none has been read, and the walk can go on
 pub loop-fields-init : goal.loop-fields-init
 loop-fields-init c =
     rw c.new-fields.ensures.items (record {
@@ -17,7 +15,6 @@ loop-fields-init c =
       so_far = rw c.in_ok-walk.ensures.course (behind_none _);
     })
 
--- one field more was read, and the walk can go on
 pub loop-fields-preserved : goal.loop-fields-preserved
 loop-fields-preserved c =
     let step = rw c.in-Some.is at c.in_ok-field.ensures.ok in

@@ -1,4 +1,3 @@
--- For `read_fields`: the fields that were read so far.
 use Rattle.std.proofs.Common.{◌≡◌, ◌-◌}
 use Rattle.bufr_expand.specs.Courses.{course}
 use Rattle.bufr_expand.specs.Walks as walks
@@ -8,7 +7,7 @@ use Rattle.bufr_listing_reader.specs.Reading.{fields_read}
 use Rattle.bufr_listing_reader.specs.Steps.{behind_fields}
 use Rattle.bufr_listing_reader.proofs.subsets.read_fields.Given as goal
 
--- the walk can go on, and the subset's fields are these and then those that it asks for
+-- the walk can go on, and the fields read, with those that it asks for, are the subset's
 abbrev pub invariant-loop-fields : goal.invariant-loop-fields
 invariant-loop-fields l = record {
   ready : IsReady l.walk;
@@ -18,6 +17,5 @@ invariant-loop-fields l = record {
       (fields_read (past l.fn.lines) (walks.left l.walk) (left l.lines));
 }
 
--- fewer items can still be met after each field
 abbrev pub decreases-loop-fields : goal.decreases-loop-fields
 decreases-loop-fields l = 16777217 - walks.items_met l.walk

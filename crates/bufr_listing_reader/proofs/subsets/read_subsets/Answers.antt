@@ -1,11 +1,9 @@
--- For the clause `read` of `read_subsets`: subsets up to the line `end`.
 use Rattle.std.proofs.Common.{◌∙◌, sym}
 use Rattle.std.proofs.lemmas.Result.{err_from_is_err_and}
 use Rattle.bufr_listing_reader.proofs.LoopFacts.{one_subset, subset_shorter, subset_word_fails}
 use Rattle.bufr_listing_reader.proofs.LoopFacts.{subset_fields_fail, subsets_end}
 use Rattle.bufr_listing_reader.proofs.subsets.read_subsets.Goals as goal
 
--- where the line before a subset's fields fails, so do the subsets
 pub returns-in_err-read_word-clause-read : goal.returns-in_err-read_word-clause-read
 returns-in_err-read_word-clause-read c =
     let p = err_from_is_err_and c.from_residual.result c.from_residual.ensures.1 in
@@ -13,7 +11,6 @@ returns-in_err-read_word-clause-read c =
     rw (p.1, p.2) (subset_word_fails _ _ _ _ _ _ _ c.loop-alloc.invariant.so_far
     (sym c.ends.ensures ∙ c.loop-alloc-test.true) word)
 
--- where a subset's fields fail, so do the subsets
 pub returns-in_err-fields-clause-read : goal.returns-in_err-fields-clause-read
 returns-in_err-fields-clause-read c =
     let p = err_from_is_err_and c.from_residual-in_err-fields.result
@@ -25,7 +22,6 @@ returns-in_err-fields-clause-read c =
     rw (p.1, p.2) (subset_fields_fail _ _ _ _ _ _ _ _ c.loop-alloc.invariant.so_far
     (sym c.ends.ensures ∙ c.loop-alloc-test.true) word fields)
 
--- fewer lines are left behind a subset
 pub loop-alloc-smaller : goal.loop-alloc-smaller
 loop-alloc-smaller c =
     let word = rw c.loop-alloc.invariant.last at c.in_ok-read_word.ensures.read in
@@ -34,7 +30,6 @@ loop-alloc-smaller c =
     at c.in_ok-fields.ensures.read in
     subset_shorter _ _ _ _ _ word fields
 
--- one subset more was read
 pub loop-alloc-preserved : goal.loop-alloc-preserved
 loop-alloc-preserved c =
     let word = rw c.loop-alloc.invariant.last at c.in_ok-read_word.ensures.read in
@@ -50,7 +45,6 @@ loop-alloc-preserved c =
           (sym c.ends.ensures ∙ c.loop-alloc-test.true) word fields;
     }
 
--- at the line `end` the subsets are those that were read
 pub returns-clause-read : goal.returns-clause-read
 returns-clause-read c =
     rw c.pass.ensures.lines (subsets_end _ _ _ _ _ _ c.loop-alloc.invariant.so_far

@@ -1,8 +1,6 @@
--- For the clause `read` of `read_value`: a field, L1 or L2, by the line's first octets and its
--- word.
 use Rattle.std.proofs.Common.{◌∙◌, sym, ap, FitsSigned, rules}
 use Rattle.std.specs.Int.{w64}
-use Rattle.bufr_answers.specs.declared.failure.Failure.TheVariants.{Fault}
+use Rattle.bufr_base.specs.declared.failure.Failure.TheVariants.{Fault}
 use Rattle.bufr_listing.specs.declared.fault.ListingFault.TheVariants.{BadLine, BadValue}
 use Rattle.bufr_listing_reader.specs.Cursors.{left, past, printed}
 use Rattle.bufr_listing_reader.specs.FieldLines.{read_field}
@@ -12,7 +10,6 @@ use Rattle.bufr_listing_reader.proofs.CallFacts.{taken_ok, taken_err}
 use Rattle.bufr_listing_reader.proofs.ValueFacts.{value_some, value_none, value_elsewhere}
 use Rattle.bufr_listing_reader.proofs.subsets.read_value.Goals as goal
 
--- a line that does not begin with the descriptor and a space has L1
 pub returns-then-not-begins_field-clause-read : goal.returns-then-not-begins_field-clause-read
 returns-then-not-begins_field-clause-read c =
     rw c.bad_line.ensures
@@ -22,7 +19,6 @@ returns-then-not-begins_field-clause-read c =
     (value_elsewhere c.args.fxy c.args.spec c.in_ok-line.line.number c.in_ok-line.line.text.now
     (sym c.begins_field.ensures ∙ c.if-not-begins_field.true)))
 
--- one whose word is no raw value's has L2
 pub returns-in-None-clause-read : goal.returns-in-None-clause-read
 returns-in-None-clause-read c =
     let fits : FitsSigned w64 c.args.spec.reference = search rules in
@@ -35,7 +31,6 @@ returns-in-None-clause-read c =
     (value_none c.args.fxy c.args.spec c.in_ok-line.line.number c.in_ok-line.line.text.now fits
     (sym c.begins_field.ensures ∙ c.if-not-begins_field.false) (sym word ∙ sym own)))
 
--- else the field has the word's raw value
 pub returns-in-Some-clause-read : goal.returns-in-Some-clause-read
 returns-in-Some-clause-read c =
     let fits : FitsSigned w64 c.args.spec.reference = search rules in

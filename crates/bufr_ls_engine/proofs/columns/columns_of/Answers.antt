@@ -3,7 +3,7 @@ use Rattle.std.proofs.Common.{IfErr, rules, subst, sym}
 use Rattle.bufr_ls_engine.specs.Columns.{RefusesColumns}
 use Rattle.bufr_ls_engine.proofs.ColumnFacts.{HasNamed, cut_once, named_all}
 use Rattle.bufr_ls_engine.proofs.ColumnFacts.{named_more, named_none, named_refused, not_cut}
-use Rattle.bufr_ls_engine.proofs.EngineFacts.{passed}
+use Rattle.bufr_io.specs.PassingLaws.{passed}
 use Rattle.bufr_ls_engine.proofs.columns.columns_of.Goals as goal
 
 -- at first all words are left
@@ -18,7 +18,7 @@ words-init c = (
 pub split_once-requires-text-self : goal.split_once-requires-text-self
 split_once-requires-text-self c = λ _. c.words.invariant.1
 
--- so it is where there is no comma in it
+-- so it is without a comma
 pub add_column-requires-in-None-text-here : goal.add_column-requires-in-None-text-here
 add_column-requires-in-None-text-here c = λ _. c.words.invariant.1
 
@@ -64,7 +64,7 @@ returns-in-None-clause-named c =
     (not_cut c.words.rest.now c.split_once.result c.split_once.ensures.cases c.in-None.is)
     c.in_ok-add_column-in-None.ensures).0
 
--- and none stands there twice
+-- and none is there twice
 pub returns-in-None-clause-distinct : goal.returns-in-None-clause-distinct
 returns-in-None-clause-distinct c =
     (named_all c.args.text.now c.words.rest.now c.words.columns.items

@@ -1,7 +1,7 @@
 -- The clause `lists` of `list_input`: the input was taken in to its end, or that ended early.
 use Rattle.std.proofs.Common.{◌≤◌, ◌^◌, length, arith}
 use Rattle.bufr_ls_engine.specs.Listers.{ListsInput}
-use Rattle.bufr_ls_engine.proofs.EngineFacts.{passed}
+use Rattle.bufr_io.specs.PassingLaws.{passed}
 use Rattle.bufr_ls_engine.proofs.InputFacts.{input_early, input_whole}
 use Rattle.bufr_ls_engine.proofs.frames.list_input.Goals as goal
 

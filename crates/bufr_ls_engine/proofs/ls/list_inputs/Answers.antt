@@ -3,10 +3,11 @@ use Rattle.std.proofs.Common.{◌<◌, length, map, arith, refl, slice_set}
 use Rattle.std.proofs.lemmas.List.{map-set}
 use Rattle.bufr_frame.specs.Streams.{cut}
 use Rattle.bufr_ls_engine.specs.Listers.{ListsInputs}
-use Rattle.bufr_ls_engine.proofs.EngineFacts.{bounded_next, header_fails, passed, refused_at_most}
+use Rattle.bufr_io.specs.PassingLaws.{passed}
+use Rattle.bufr_ls_engine.proofs.EngineFacts.{bounded_next, header_fails, refused_at_most}
 use Rattle.bufr_ls_engine.proofs.EngineFacts.{through_next, through_none, through_stops}
 use Rattle.bufr_ls_engine.proofs.ListingFacts.{refused_few}
-use Rattle.bufr_ls_engine.proofs.ReaderFacts.{fresh_next, reach_item}
+use Rattle.bufr_io.specs.ReaderLaws.{fresh_next, reach_item}
 use Rattle.bufr_ls_engine.proofs.ls.list_inputs.Goals as goal
 
 -- the header line is not written
@@ -41,7 +42,7 @@ list_input-requires-clause-fresh g c =
     (reach_item g.S.Source.reading _ c.loop-index.inputs inv.streams c.loop-index.index
     c.index-inputs-index.result inv.through inside)
 
--- each input was read at most so often, the one at which it ended too
+-- each input gave at most n reads, the last one too
 pub returns-in_err-list_input-clause-bounded : goal.returns-in_err-list_input-clause-bounded
 returns-in_err-list_input-clause-bounded g c =
     bounded_next c.args.reads (map g.S.Source.reading c.loop-index.inputs) _ c.loop-index.index

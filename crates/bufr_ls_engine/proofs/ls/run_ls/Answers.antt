@@ -3,7 +3,8 @@ use Rattle.std.proofs.Common.{List, Err, IfErr, map, subst}
 use Rattle.bufr_io.specs.declared.fault.ToolFault.TheVariants as faults
 use Rattle.bufr_ls_engine.specs.Lists.{Lists, WritesFront}
 use Rattle.bufr_ls_engine.specs.declared.column.Column.{Column}
-use Rattle.bufr_ls_engine.proofs.EngineFacts.{ends_unwritten, passed}
+use Rattle.bufr_io.specs.PassingLaws.{passed}
+use Rattle.bufr_ls_engine.proofs.EngineFacts.{ends_unwritten}
 use Rattle.bufr_ls_engine.proofs.FrontFacts.{writes_front}
 use Rattle.bufr_ls_engine.proofs.ls.run_ls.Goals as goal
 

@@ -1,4 +1,4 @@
--- The clause `kept` of `push_descriptors`: what the text was before stands at its front.
+-- The clause `kept` of `push_descriptors`: the old text is its front.
 use Rattle.bufr_ls_engine.proofs.TextFacts.{kept_far}
 use Rattle.bufr_ls_engine.proofs.row.push_descriptors.Goals as goal
 

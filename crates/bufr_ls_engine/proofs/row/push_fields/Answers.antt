@@ -1,4 +1,4 @@
--- The clause `kept` of `push_fields`: what the text was before stands at its front.
+-- The clause `kept` of `push_fields`: the old text is its front.
 use Rattle.bufr_ls_engine.proofs.TextFacts.{kept_far, kept_grown}
 use Rattle.bufr_ls_engine.proofs.row.push_fields.Goals as goal
 

@@ -1,4 +1,4 @@
--- The loop of `push_words`: the words of the first columns behind the first one.
+-- The loop of `push_words`: the words of the columns after the first.
 use Rattle.std.proofs.Common.{◌≡◌, [], ◌∷◌, ◌++◌, take}
 use Rattle.std.specs.List.{flat_map}
 use Rattle.bufr_ls_engine.specs.Columns.{word}

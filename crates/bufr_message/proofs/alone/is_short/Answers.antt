@@ -1,9 +1,7 @@
--- For `is_short`: a subset is too long once the bits of its first fields are too many.
 use Rattle.std.proofs.Common.{arith}
 use Rattle.bufr_message.proofs.AloneBits.{too_many}
 use Rattle.bufr_message.proofs.alone.is_short.Goals as goal
 
--- with more than 8 times 16,777,215 bits a subset cannot be said alone
 pub returns-then-bits : goal.returns-then-bits
 returns-then-bits c =
     too_many c.args.descriptors.now c.args.subset.now c.as_slice-field-items.result.now

@@ -1,7 +1,5 @@
--- For `decode`: the clause `only`, from that of `view`.
 use Rattle.bufr_message.proofs.decoding.decode.Goals as goal
 
--- a message that the octets spell is viewed, and is what the view then gives
 pub returns-clause-only : goal.returns-clause-only
 returns-clause-only c = λ m z s.
     rw c.in_ok-into_decoded.ensures (c.in_ok-view.ensures.only m z s)

@@ -1,11 +1,9 @@
--- For `enclose`: octets whose bits are the filled data bits are those that a message has them in.
 use Rattle.std.proofs.Common.{arith, Err}
-use Rattle.bufr_answers.specs.AnswerLaws.{told_fault}
+use Rattle.bufr_base.specs.AnswerLaws.{told_fault}
 use Rattle.bufr_sections.specs.SectionsRead.{message_lent}
 use Rattle.bufr_message.proofs.EncodingFacts.{whole_octets_are, enclosed_is}
 use Rattle.bufr_message.proofs.encoding.enclose.Goals as goal
 
--- the octets of the parts are those of the message with these data bits
 pub returns-in-Ok : goal.returns-in-Ok
 returns-in-Ok c data_bits same =
     let octets =
@@ -14,7 +12,6 @@ returns-in-Ok c data_bits same =
     enclosed_is (message_lent c.args.sections.now c.args.subsets.now) c.args.contents.now data_bits
     _ octets c.in-Ok.ensures
 
--- the fault of the parts is that of the message with these data bits
 pub returns-in-Err-Fault : goal.returns-in-Err-Fault
 returns-in-Err-Fault c data_bits same =
     let octets =

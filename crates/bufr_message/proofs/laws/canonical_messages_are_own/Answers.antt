@@ -1,7 +1,5 @@
--- For the law `canonical_messages_are_own`: `canonical_is_own` says it.
 use Rattle.bufr_message.proofs.OwnBitsFacts.{canonical_is_own}
 use Rattle.bufr_message.proofs.laws.canonical_messages_are_own.Goals as goal
 
--- the canonical message of a report is what its own fields spell
 pub returns : goal.returns
 returns c = canonical_is_own c.laws_below.ensures

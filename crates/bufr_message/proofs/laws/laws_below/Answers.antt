@@ -1,7 +1,5 @@
--- For `laws_below`: the laws of the crates below, clause by clause.
 use Rattle.bufr_message.proofs.laws.laws_below.Goals as goal
 
--- what the laws of sections, templates and data say
 pub returns : goal.returns
 returns c =
     let spelt = c.sections_are_spelt.ensures in

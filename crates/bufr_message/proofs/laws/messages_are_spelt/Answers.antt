@@ -1,8 +1,6 @@
--- For the law `messages_are_spelt`: its two directions.
 use Rattle.bufr_message.proofs.MessageFacts.{message_of_takes, message_of_spelt}
 use Rattle.bufr_message.proofs.laws.messages_are_spelt.Goals as goal
 
--- a message is read of octets exactly where they spell it
 pub returns : goal.returns
 returns c =
     record

@@ -1,8 +1,6 @@
--- For the law `refusals_of_octets_are_the_first`: its two directions.
 use Rattle.bufr_message.proofs.FaultFacts.{fault_when_refused, refused_when_fault}
 use Rattle.bufr_message.proofs.laws.refusals_of_octets_are_the_first.Goals as goal
 
--- octets are refused with a fault exactly where this is their first
 pub returns : goal.returns
 returns c =
     record {

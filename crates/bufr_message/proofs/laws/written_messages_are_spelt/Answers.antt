@@ -1,10 +1,8 @@
--- For the law `written_messages_are_spelt`: its clauses from the lemmas of what is written.
 use Rattle.bufr_message.proofs.WrittenFacts.{bare_when_written, read_when_written}
 use Rattle.bufr_message.proofs.UnwrittenFacts.{plain_is_written, packable_is_written}
 use Rattle.bufr_message.proofs.UnwrittenFacts.{bare_is_written}
 use Rattle.bufr_message.proofs.laws.written_messages_are_spelt.Goals as goal
 
--- what is written spells the message and is read as it, and what can be written is
 pub returns : goal.returns
 returns c =
     let below = c.laws_below.ensures in

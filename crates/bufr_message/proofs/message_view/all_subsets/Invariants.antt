@@ -1,7 +1,6 @@
--- For `all_subsets`: what its loop keeps.
 use Rattle.std.proofs.Common.{◌≡◌, take}
 use Rattle.bufr_message.proofs.message_view.all_subsets.Given as goal
 
--- the subsets that were built are the first so many
+-- the subsets built are the first `index`
 abbrev pub invariant-loop-index : goal.invariant-loop-index
 invariant-loop-index l = l.built.items ≡ take l.index l.subsets

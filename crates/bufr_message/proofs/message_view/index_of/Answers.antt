@@ -1,4 +1,3 @@
--- For `index_of`: the clauses `stand`, `room` and `count`.
 use Rattle.std.proofs.Common.{◌∙◌, sym, ap}
 use Rattle.bufr_bits.specs.Bits.{bits}
 use Rattle.bufr_bits.specs.Ends.{left}
@@ -6,7 +5,6 @@ use Rattle.bufr_data.specs.Data.{subsets_in}
 use Rattle.bufr_message.proofs.OwnBitsFacts.{rooms_read}
 use Rattle.bufr_message.proofs.message_view.index_of.Goals as goal
 
--- the subsets that were indexed stand at the front of the octets
 pub returns-in-Ok-clause-stand : goal.returns-in-Ok-clause-stand
 returns-in-Ok-clause-stand c =
     let front = ap left c.new-reader.ensures in (
@@ -17,7 +15,6 @@ returns-in-Ok-clause-stand c =
           ∙ c.in-Ok.ensures.exact,
     )
 
--- so their fields have room
 pub returns-in-Ok-clause-room : goal.returns-in-Ok-clause-room
 returns-in-Ok-clause-room c =
     let front = ap left c.new-reader.ensures in
@@ -30,7 +27,6 @@ returns-in-Ok-clause-room c =
           ∙ c.in-Ok.ensures.exact,
     )
 
--- and they are as many as are announced
 pub returns-in-Ok-clause-count : goal.returns-in-Ok-clause-count
 returns-in-Ok-clause-count c =
     let front = ap left c.new-reader.ensures in

@@ -1,8 +1,6 @@
--- For `subsets_of`: the subsets stand in the octets that are there.
 use Rattle.std.proofs.Common.{arith}
 use Rattle.bufr_message.proofs.message_view.subsets_of.Goals as goal
 
--- the subsets that were indexed stand at the front of the octets, which have so many bits
 pub can_be_alone-requires : goal.can_be_alone-requires
 can_be_alone-requires c =
     let s = c.args.sections.now in

@@ -1,11 +1,9 @@
--- For `view_in`: what a view stands on.
 use Rattle.std.proofs.Common.{arith, rules}
 use Rattle.std.proofs.lemmas.List.Elements.{All-from_get_or}
 use Rattle.bufr_sections.specs.Sections.{IsOctet}
 use Rattle.bufr_sections.specs.SectionsRead.{envelope}
 use Rattle.bufr_message.proofs.message_view.view_in.Goals as goal
 
--- the sections were read of the octets, and octets hold their data
 pub invariant_of-result : goal.invariant_of-result
 invariant_of-result c = record {
   rooms = c.in_ok-subsets.ensures.room;

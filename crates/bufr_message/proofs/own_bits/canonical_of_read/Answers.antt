@@ -1,9 +1,6 @@
--- The clause `canonical` of `canonical_of_read`: a canonical message is what the report's own
--- fields spell, and this is what is answered.
 use Rattle.std.proofs.Common.{◌≡◌, ℕ, List, Option, IfOk, option_map, subst}
 use Rattle.bufr_message.proofs.own_bits.canonical_of_read.Goals as goal
 
--- by the law that a canonical message is what the report's own fields spell
 pub returns-clause-canonical : goal.returns-clause-canonical
 returns-clause-canonical c = λ tables octets is.
     subst (λ (spelt : Option (List ℕ)). IfOk c.spelt_alone.result

@@ -1,7 +1,5 @@
--- For `put_alone`: a head without its octets for local use is that of the report.
 use Rattle.bufr_message.proofs.own_bits.put_alone.Goals as goal
 
--- what is put with the copy of the head is put with the head
 pub returns-clause-put : goal.returns-clause-put
 returns-clause-put c subset data_bits same =
     rw (c.with_no_local-head.ensures, c.of_head.ensures)

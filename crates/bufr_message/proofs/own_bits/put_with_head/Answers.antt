@@ -1,13 +1,10 @@
--- For `put_with_head`: octets whose bits are the filled data bits are those that a report alone has
--- them in.
 use Rattle.std.proofs.Common.{arith}
-use Rattle.bufr_answers.specs.AnswerLaws.{told_fault}
+use Rattle.bufr_base.specs.AnswerLaws.{told_fault}
 use Rattle.bufr_message.specs.Reports.{with_parts}
 use Rattle.bufr_message.proofs.EncodingFacts.{whole_octets_are}
 use Rattle.bufr_message.proofs.OwnBitsFacts.{put_behind, none_behind}
 use Rattle.bufr_message.proofs.own_bits.put_with_head.Goals as goal
 
--- the octets of the parts are those of the report with these data bits
 pub returns-in-Ok-clause-put : goal.returns-in-Ok-clause-put
 returns-in-Ok-clause-put c subset data_bits same =
     let a = c.args in
@@ -16,7 +13,6 @@ returns-in-Ok-clause-put c subset data_bits same =
     put_behind (with_parts a.head.now a.observed a.descriptors.now subset) a.head.now a.contents.now
     data_bits a.out.now.items _ octets c.requires c.in-Ok.ensures.exact
 
--- where the parts are too long, so is the report
 pub returns-in-Err-Fault-clause-put : goal.returns-in-Err-Fault-clause-put
 returns-in-Err-Fault-clause-put c subset data_bits same =
     let a = c.args in

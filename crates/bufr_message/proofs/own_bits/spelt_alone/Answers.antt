@@ -1,10 +1,8 @@
--- For `spelt_alone`: what the bits of a report's own fields spell with its parts.
 use Rattle.bufr_message.specs.OwnBits.{spelt_alone}
 use Rattle.bufr_message.proofs.OwnBitsFacts.{own_put, told_own}
 use Rattle.std.proofs.Common.{sym}
 use Rattle.bufr_message.proofs.own_bits.spelt_alone.Goals as goal
 
--- where there are none, the report spells none alone
 pub returns-then-not-branch : goal.returns-then-not-branch
 returns-then-not-branch c =
     let r = c.args.report.now in
@@ -18,7 +16,6 @@ returns-then-not-branch c =
     ) at (c.in_ok-put_with_head.ensures.put r.subset data_bits (rw c.deref.ensures.value same))) in
     sym (told_own (spelt_alone r) _ _ _ put c.if-not-branch.true)
 
--- else what was put is what it spells
 pub returns : goal.returns
 returns c =
     let r = c.args.report.now in

@@ -1,10 +1,8 @@
--- For `canonical`: the clause `under`, from the law `written_messages_are_spelt`.
 use Rattle.std.proofs.Common.{subst}
-use Rattle.bufr_answers.specs.Answers.{Gives}
+use Rattle.bufr_base.specs.Answers.{Gives}
 use Rattle.bufr_message.specs.Reports.{alone}
 use Rattle.bufr_message.proofs.report.canonical.Goals as goal
 
--- a report's canonical message is what is written of it
 pub returns-clause-under : goal.returns-clause-under
 returns-clause-under c = λ octets is.
     subst (Gives (λ v. v.items) c.octets_of.result)

@@ -1,8 +1,6 @@
--- For `reports`: the clause `under`, from the law `reports_have_canonical_messages`.
 use Rattle.bufr_message.proofs.ViewFacts.{all_under_answer}
 use Rattle.bufr_message.proofs.report.reports.Goals as goal
 
--- the reports that are answered are those of the message, and have canonical messages
 pub returns-clause-under : goal.returns-clause-under
 returns-clause-under c =
     all_under_answer c.reports_have_canonical_messages.ensures c.args.message (λ v. v.items)

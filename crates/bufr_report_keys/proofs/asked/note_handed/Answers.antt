@@ -1,10 +1,9 @@
--- For `note_handed`: the next field that is asked for is noted.
+-- The next field of a key's element is noted.
 use Rattle.std.proofs.Common.{ap, sym, ◌∙◌}
 use Rattle.bufr_report_keys.specs.FirstValues.{all_noted}
 use Rattle.bufr_report_keys.proofs.FirstFacts.{next_noted, none_left}
 use Rattle.bufr_report_keys.proofs.asked.note_handed.Goals as goal
 
--- it is noted, and those in front of it are passed
 pub loop-left-preserved : goal.loop-left-preserved
 loop-left-preserved c =
     let handed = rw c.in-Some.is at c.in_ok-field-in-Err.ensures in
@@ -13,7 +12,6 @@ loop-left-preserved c =
     c.loop-left.values handed)
     ∙ c.loop-left.invariant
 
--- at the end all are noted
 pub returns-in_default : goal.returns-in_default
 returns-in_default c =
     sym (none_left c.loop-left.left c.next_asked.new.self c.in_ok-field-in-Err.field-0

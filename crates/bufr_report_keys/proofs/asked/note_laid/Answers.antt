@@ -1,11 +1,10 @@
--- For `note_laid`: the next field that is asked for is noted, a number or another.
+-- The next field of a key's element is noted, a number or another.
 use Rattle.std.proofs.Common.{ap, sym, ◌∙◌}
 use Rattle.bufr_fields.specs.Values.{as_field}
 use Rattle.bufr_report_keys.specs.FirstValues.{all_noted}
 use Rattle.bufr_report_keys.proofs.FirstFacts.{all_passed, next_noted, none_left}
 use Rattle.bufr_report_keys.proofs.asked.note_laid.Goals as goal
 
--- a number is noted, and those in front of it are passed
 pub loop-number-preserved-in-Some : goal.loop-number-preserved-in-Some
 loop-number-preserved-in-Some c =
     ap (all_noted c.next_asked_number.new.self) c.note_number.ensures
@@ -13,7 +12,6 @@ loop-number-preserved-in-Some c =
     c.loop-number.values c.in-Some.ensures.found)
     ∙ c.loop-number.invariant
 
--- another is noted, once those in front of it are passed
 pub loop-number-preserved : goal.loop-number-preserved
 loop-number-preserved c =
     let handed = rw c.in-Some-2.is at c.in_ok-field.ensures in
@@ -24,7 +22,6 @@ loop-number-preserved c =
     c.in_default.ensures.others)
     ∙ c.loop-number.invariant
 
--- at the end all are noted
 pub returns-in_default-2 : goal.returns-in_default-2
 returns-in_default-2 c =
     sym (none_left c.next_asked_number.new.self c.next_asked.new.self c.in_ok-field.field-0

@@ -1,4 +1,4 @@
--- For `note_listed`: the next field is noted where it is asked for.
+-- A field of a key's element is noted.
 use Rattle.std.proofs.Common.{◌≡◌, false, sym, ap, ◌∙◌}
 use Rattle.bufr_fields.specs.declared.field.Field.{Field}
 use Rattle.bufr_report_keys.specs.Asked.{is_asked}
@@ -7,7 +7,6 @@ use Rattle.bufr_report_keys.proofs.FirstFacts.{asked_noted, unasked_passed, none
 use Rattle.bufr_report_keys.proofs.asked.note_listed.Goals.{then-is_asked+in_ok-copied, else-is_asked}
 use Rattle.bufr_report_keys.proofs.asked.note_listed.Goals as goal
 
--- with it all are noted up to it
 pub loop-field-preserved : goal.loop-field-preserved
 loop-field-preserved c =
     elim c.if-is_asked.branch [
@@ -28,7 +27,6 @@ loop-field-preserved c =
           ∙ c.loop-field.invariant
     ]
 
--- at the end all are noted
 pub returns : goal.returns
 returns c =
     sym (none_behind c.args.fields.now c.loop-field.field-index c.loop-field.values

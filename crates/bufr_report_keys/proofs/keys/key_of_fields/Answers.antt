@@ -1,10 +1,9 @@
--- For `key_of_fields`: the first fields say the key.
+-- The first values make the key.
 use Rattle.std.proofs.Common.{ap, ◌∙◌}
 use Rattle.bufr_report_keys.specs.FirstValues.{all_noted, key_of}
 use Rattle.bufr_report_keys.proofs.FirstFacts.{are_noted, key_said}
 use Rattle.bufr_report_keys.proofs.keys.key_of_fields.Goals as goal
 
--- the key that is said is that of the fields
 pub returns : goal.returns
 returns c =
     c.key_of.ensures

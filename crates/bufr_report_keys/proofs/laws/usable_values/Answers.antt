@@ -1,11 +1,9 @@
--- For the law `usable_values`: its clauses on texts, from the lemmas of usable texts.
+-- By the lemmas of usable texts.
 use Rattle.bufr_report_keys.proofs.UsableFacts.{text_is_usable, usable_is_text}
 use Rattle.bufr_report_keys.proofs.laws.usable_values.Goals as goal
 
--- a usable text is that of a field of kind Text, not missing, without its last blanks
 pub returns-clause-texts : goal.returns-clause-texts
 returns-clause-texts c = text_is_usable
 
--- such a field has it as its usable text
 pub returns-clause-texts_only : goal.returns-clause-texts_only
 returns-clause-texts_only c = usable_is_text

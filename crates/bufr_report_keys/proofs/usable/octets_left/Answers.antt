@@ -1,11 +1,10 @@
--- For `octets_left`: what is left are the first octets.
+-- The octets left are a beginning.
 use Rattle.std.proofs.Common.{◌≡◌, ◌==◌, length, take, false, sym, ap, ◌∙◌, Some, arith}
 use Rattle.std.specs.Vec.{vec_len}
 use Rattle.bufr_report_keys.specs.Usable.{without_last_blanks}
 use Rattle.bufr_report_keys.proofs.BlankFacts.{some_left}
 use Rattle.bufr_report_keys.proofs.usable.octets_left.Goals as goal
 
--- they are the octets without their last blanks
 pub returns-else-is_empty : goal.returns-else-is_empty
 returns-else-is_empty c =
     let octets = c.into_vec-octets.ensures in

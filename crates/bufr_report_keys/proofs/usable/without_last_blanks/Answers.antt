@@ -1,10 +1,9 @@
--- For `without_last_blanks`: one blank less at the end has the same front.
+-- One blank less at the end leaves the same octets.
 use Rattle.std.proofs.Common.{◌≡◌, false, true, List, ℕ, sym, ap, ◌∙◌}
 use Rattle.bufr_report_keys.specs.Usable.{is_blank, without_last_blanks}
 use Rattle.bufr_report_keys.proofs.BlankFacts.{blank_is_cut, other_is_kept}
 use Rattle.bufr_report_keys.proofs.usable.without_last_blanks.Goals as goal
 
--- a text that ends with another octet than a blank is its own front
 pub returns-then-not-is_blank : goal.returns-then-not-is_blank
 returns-then-not-is_blank c =
     let e = c.in-Some.ensures.cases.0 in
@@ -13,7 +12,6 @@ returns-then-not-is_blank c =
     e ∙ sym (other_is_kept c.in-Some.front.now c.in-Some.last.now other)
     ∙ ap (λ (t : List ℕ). without_last_blanks t) (sym e) ∙ c.loop-last.invariant
 
--- without the blank at its end a text has the same front
 pub loop-last-preserved : goal.loop-last-preserved
 loop-last-preserved c =
     let e = c.in-Some.ensures.cases.0 in

@@ -1,4 +1,4 @@
--- For `are_bare`: the length, and the octets at the places of what is free, say it.
+-- The length and the octets at three places decide.
 use Rattle.std.proofs.Common.{◌≡◌, ◌+◌, ◌*◌, ◌∙◌, ℕ, Option, Some, None, List, [], length, refl, sym, arith}
 use Rattle.std.proofs.Common.{false, get_or, Ok}
 use Rattle.std.specs.Prelude.{◌==◌, ◌≢◌, is_some}
@@ -13,12 +13,10 @@ use Rattle.bufr_sections.proofs.bare.are_bare.Goals.{then-octets-place4-via-then
 use Rattle.bufr_sections.proofs.bare.are_bare.Goals.{then-octets-ne0-via-then-octets-ne0, then-octets-ne0-via-else-octets-ne0+then-octets-ne0-2, then-octets-ne0-via-else-octets-ne0+else-octets-ne0-2+then-octets-ne0-3}
 use Rattle.bufr_sections.proofs.bare.are_bare.Goals as goal
 
--- there is no section 2
 none_of : (local : Option (List ℕ)) → is_some local ≡ false → local ≡ None
 none_of None none = refl
 none_of (Some local) none = absurd cc
 
--- octets that pass each test are what is written
 pub returns-clause-spelt : goal.returns-clause-spelt
 returns-clause-spelt c = λ count read.
     let s = c.args.sections.now in
@@ -32,7 +30,6 @@ returns-clause-spelt c = λ count read.
     (none_of s.section2.now (sym c.is_some.ensures ∙ c.if-is_some.false)) long
     c.if-octets-ne0.false c.if-octets-ne0-2.false c.if-octets-ne0-3.false (eqb-true _ _ four))
 
--- octets of another length are not
 pub returns-then-octets-place4-clause-others : goal.returns-then-octets-place4-clause-others
 returns-then-octets-place4-clause-others c = λ count two local spelt.
     let e = envelope_lent c.args.sections.now count c.args.contents.now in
@@ -42,7 +39,6 @@ returns-then-octets-place4-clause-others c = λ count two local spelt.
       | then-octets-place4-via-else-octets-place4+then-octets-place4-2 w ↦ omega arith
     ]
 
--- nor are those with a bit in what is free in sections 1 and 3
 pub returns-then-octets-ne0-clause-others : goal.returns-then-octets-ne0-clause-others
 returns-then-octets-ne0-clause-others c = λ count two local spelt.
     let e = envelope_lent c.args.sections.now count c.args.contents.now in
@@ -53,7 +49,6 @@ returns-then-octets-ne0-clause-others c = λ count two local spelt.
       | then-octets-ne0-via-else-octets-ne0+else-octets-ne0-2+then-octets-ne0-3 w ↦ omega arith
     ]
 
--- or in section 4
 fourth_refused : (octets : List ℕ) (e : Envelope)
     → (get_or octets (37 + 2 * length e.descriptors + 3) 0 == 0) ≡ false → e.section2 ≡ None
     → e.head.local ≡ [] → spelt_or e ≢ Ok octets

@@ -1,4 +1,4 @@
--- For `are_listed`: whether the octets list these descriptors.
+-- Octets and list end together or part at a first difference.
 use Rattle.std.proofs.Common.{◌≡◌, ◌∙◌, ◌-◌, length, drop, arith, sym, length-drop}
 use Rattle.std.proofs.lemmas.Bool.{OnTrue_from, OnFalse_from, ltb-true, ltb-false}
 use Rattle.std.proofs.lemmas.List.{take_all}
@@ -7,14 +7,12 @@ use Rattle.bufr_sections.proofs.ListFacts.{listed_more, others_short, others_lon
 use Rattle.bufr_sections.proofs.ListFacts.{same_ended}
 use Rattle.bufr_sections.proofs.listed.are_listed.Goals as goal
 
--- the octets end first
 pub returns-in_default-clause-others : goal.returns-in_default-clause-others
 returns-in_default-clause-others c =
     others_short c.args.descriptors.now c.loop-descriptor.rest.now (descriptors_of c.args.octets.now)
     c.loop-descriptor.descriptor-index (omega (arith, c.in_default.len_below))
     (omega (arith, c.loop-descriptor-test.true)) c.loop-descriptor.invariant
 
--- the next two octets are another descriptor
 pub returns-in_default-2-clause-others : goal.returns-in_default-2-clause-others
 returns-in_default-2-clause-others c =
     others_here c.args.descriptors.now c.loop-descriptor.rest.now (descriptors_of c.args.octets.now)
@@ -23,7 +21,6 @@ returns-in_default-2-clause-others c =
     (λ e. c.if-number_of_two-bits.false (c.number_of_two.ensures ∙ e ∙ sym c.bits.ensures))
     c.descriptor-item.is
 
--- the next two octets are the next descriptor
 pub loop-descriptor-preserved : goal.loop-descriptor-preserved
 loop-descriptor-preserved c =
     let more =
@@ -38,14 +35,12 @@ loop-descriptor-preserved c =
     (omega (arith, size)) in
     rw whole more
 
--- at the list's end no octets but an odd one are left
 pub returns-clause-same : goal.returns-clause-same
 returns-clause-same c =
     OnTrue_from _ _ (λ t. same_ended c.args.descriptors.now c.loop-descriptor.rest.now
     (descriptors_of c.args.octets.now) c.loop-descriptor.descriptor-index (ltb-true _ _ t)
     c.loop-descriptor-test.false c.loop-descriptor.invariant)
 
--- or the octets go on
 pub returns-clause-others : goal.returns-clause-others
 returns-clause-others c =
     OnFalse_from _ _ (λ t. others_long c.args.descriptors.now c.loop-descriptor.rest.now

@@ -1,9 +1,8 @@
--- For `are_listed`: what its loop keeps.
 use Rattle.std.proofs.Common.{◌≡◌, ◌++◌, take}
 use Rattle.bufr_sections.specs.Sections.{descriptors_of}
 use Rattle.bufr_sections.proofs.listed.are_listed.Given as goal
 
--- the descriptors that were met, and behind them those of the rest, are those of all octets
+-- the descriptors compared, and those of the octets left, are those of all octets
 abbrev pub invariant-loop-descriptor : goal.invariant-loop-descriptor
 invariant-loop-descriptor l =
     take l.descriptor-index l.descriptors ++ descriptors_of l.rest ≡ descriptors_of l.fn.octets

@@ -1,11 +1,9 @@
--- For `descriptors_of`: each two octets are a descriptor, and an odd octet is none.
 use Rattle.std.proofs.Common.{◌≡◌, ◌∙◌, length, drop, ◌-◌, sym, arith, length-drop, append-nil}
 use Rattle.std.proofs.lemmas.List.{take_all}
 use Rattle.bufr_sections.proofs.ListFacts.{descriptors_more, descriptors_none}
 use Rattle.bufr_sections.specs.Sections.{descriptors_of}
 use Rattle.bufr_sections.proofs.listed.descriptors_of.Goals as goal
 
--- with the descriptor of the next two octets put, the list and the rest come to the same
 pub loop-rest-preserved : goal.loop-rest-preserved
 loop-rest-preserved c =
     let more =
@@ -18,7 +16,6 @@ loop-rest-preserved c =
     (omega (arith, size)) in
     rw (c.in_ok-push.ensures.items, whole) more
 
--- fewer than two octets hold no descriptor
 pub returns : goal.returns
 returns c =
     let none = descriptors_none c.loop-rest.rest.now (omega (arith, c.in_default.len_below)) in

@@ -1,12 +1,10 @@
--- For `descriptors_of`: what its loop keeps, and why it ends.
 use Rattle.std.proofs.Common.{◌≡◌, ◌++◌, length}
 use Rattle.bufr_sections.specs.Sections.{descriptors_of}
 use Rattle.bufr_sections.proofs.listed.descriptors_of.Given as goal
 
--- the list, and behind it the descriptors of the rest, are those of all octets
+-- the list, and the descriptors of the octets left, are those of all octets
 abbrev pub invariant-loop-rest : goal.invariant-loop-rest
 invariant-loop-rest l = l.list.items ++ descriptors_of l.rest ≡ descriptors_of l.fn.octets
 
--- the octets left
 abbrev pub decreases-loop-rest : goal.decreases-loop-rest
 decreases-loop-rest l = length l.rest

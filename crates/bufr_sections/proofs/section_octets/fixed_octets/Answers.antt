@@ -1,4 +1,4 @@
--- For `fixed_octets`: the octets are those of sections 0, 1 and 3 in their places.
+-- Each octet is at its place in sections 0, 1 and 3.
 use Rattle.std.proofs.Common.{◌≡◌, ℕ, ◌+◌, ◌*◌, Bool, Option, Some, None, List, ◌∷◌, length, arith, refl}
 use Rattle.std.specs.Prelude.{is_some}
 use Rattle.std.specs.List.{flat_map}
@@ -8,13 +8,11 @@ use Rattle.bufr_sections.specs.Sections.{flag, is_present, head_octets, nothing_
 use Rattle.bufr_sections.proofs.LengthFacts.{length_of_descriptors}
 use Rattle.bufr_sections.proofs.section_octets.fixed_octets.Goals as goal
 
--- the octet that announces section 2
 announces : (local : Option (List ℕ)) (there : Bool) (octet : ℕ) → there ≡ is_some local
     → octet ≡ flag there 128 → octet ≡ flag (is_present local) 128 + 0
 announces None there octet is here = rw is at here
 announces (Some local) there octet is here = rw is at here
 
--- sections 0 and 1
 pub returns-clause-start : goal.returns-clause-start
 returns-clause-start c =
     let s = c.args.sections.now in
@@ -39,7 +37,6 @@ returns-clause-start c =
       c.low-3.ensures,
     ) refl
 
--- section 3
 pub returns-clause-end : goal.returns-clause-end
 returns-clause-end c =
     let s = c.args.sections.now in

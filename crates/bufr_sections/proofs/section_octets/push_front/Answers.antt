@@ -1,10 +1,8 @@
--- For `push_front`: what is put at once where nothing stands between, and else piece by piece.
 use Rattle.std.proofs.Common.{sym, ◌∙◌}
 use Rattle.std.proofs.lemmas.Result.{on_ok_weaker}
 use Rattle.bufr_sections.proofs.BehindFacts.{on_err, still_in_front, when_ok, nothing_between}
 use Rattle.bufr_sections.proofs.section_octets.push_front.Goals as goal
 
--- with nothing between
 pub returns-then-is_empty-clause-ok : goal.returns-then-is_empty-clause-ok
 returns-then-is_empty-clause-ok c =
     let s = c.args.sections.now in
@@ -14,7 +12,6 @@ returns-then-is_empty-clause-ok c =
     on_ok_weaker c.extend_from_slice.result (λ is. is ∙ met)
     (when_ok c.extend_from_slice.result _ _ _ c.extend_from_slice.ensures.items)
 
--- where section 2 was not put, what stood before it is in front
 pub returns-in_err-push_section2-clause-kept : goal.returns-in_err-push_section2-clause-kept
 returns-in_err-push_section2-clause-kept c =
     on_err c.from_residual-in_err-push_section2.result

@@ -1,4 +1,4 @@
--- For `head3_of`: what section 1 says, by the places of its octets.
+-- Each part of the head is at its place.
 use Rattle.std.proofs.Common.{◌≡◌, ◌∙◌, ℕ, ◌≤◌, ◌-◌, List, length, get_or, take, drop, Ok, arith}
 use Rattle.std.proofs.Common.{length-drop}
 use Rattle.std.specs.Prelude.{nat_le}
@@ -7,7 +7,6 @@ use Rattle.bufr_sections.specs.Sections.{year_of_century, head3_of}
 use Rattle.bufr_sections.proofs.HeadFacts.{head3_is}
 use Rattle.bufr_sections.proofs.sections.head3_of.Goals as goal
 
--- the head by its parts, where the master table is 0
 head_said : (xs local : List ℕ) (year : ℕ) → 14 ≤ length xs → get_or xs 0 0 ≡ 0
     → year ≡ year_of_century (get_or xs 9 0) → local ≡ take (length xs - 14) (drop 14 xs)
     → head3_of xs ≡ Ok (
@@ -34,7 +33,6 @@ head_said xs local year long master y l =
     let all = take_all (length xs - 14) (drop 14 xs) (omega (arith, length-drop 14 xs)) in
     rw (y, l, all) (rw master at (head3_is xs long))
 
--- each part of the head is at its place
 pub returns : goal.returns
 returns c =
     head_said c.args.octets.now _ _ c.in-len14-up.len_at_least c.if-master-ne0.false

@@ -1,4 +1,4 @@
--- For `head4_of`: what section 1 says, by the places of its octets.
+-- Each part of the head is at its place.
 use Rattle.std.proofs.Common.{◌≡◌, ◌∙◌, ℕ, ◌≤◌, List, length, get_or, take, drop, Ok, ◌-◌}
 use Rattle.std.proofs.Common.{arith, length-drop}
 use Rattle.std.proofs.lemmas.List.{take_all}
@@ -7,7 +7,6 @@ use Rattle.bufr_sections.specs.Sections.{two, head4_of}
 use Rattle.bufr_sections.proofs.HeadFacts.{head_is}
 use Rattle.bufr_sections.proofs.sections.head4_of.Goals as goal
 
--- the head by its parts, where the master table is 0
 head_said : (xs local : List ℕ) (centre sub_centre year : ℕ) → 19 ≤ length xs → get_or xs 0 0 ≡ 0
     → centre ≡ two (get_or xs 1 0) (get_or xs 2 0)
     → sub_centre ≡ two (get_or xs 3 0) (get_or xs 4 0)
@@ -36,7 +35,6 @@ head_said xs local centre sub_centre year long master c s y l =
     let all = take_all (length xs - 19) (drop 19 xs) (omega (arith, length-drop 19 xs)) in
     rw (c, s, y, l, all) (rw master at (head_is xs long))
 
--- each part of the head is at its place
 pub returns : goal.returns
 returns c =
     head_said c.args.octets.now _ _ _ _ c.in-len19-up.len_at_least c.if-master-ne0.false

@@ -1,4 +1,5 @@
--- For `push_sections`: each section is short enough, and the pieces are the message.
+-- A message below 2 to the 24th octets has shorter sections, and the pieces in turn are the
+-- message.
 use Rattle.std.proofs.Common.{arith}
 use Rattle.std.proofs.lemmas.Result.{on_ok_weaker}
 use Rattle.bufr_sections.specs.SectionsRead.{envelope_lent}
@@ -6,35 +7,30 @@ use Rattle.bufr_sections.proofs.BehindFacts.{when_ok, message_put}
 use Rattle.bufr_sections.proofs.LengthFacts.{length_of_spelling}
 use Rattle.bufr_sections.proofs.spelling.push_sections.Goals as goal
 
--- the octets for local use of a message below 2 to the power of 24 octets fit section 1
 pub fixed_octets-fixed-requires-clause-local : goal.fixed_octets-fixed-requires-clause-local
 fixed_octets-fixed-requires-clause-local c =
     let long =
     length_of_spelling (envelope_lent c.args.sections.now c.args.count c.args.contents.now) in
     omega (arith, long, c.requires.long, c.requires.short)
 
--- its descriptors fit section 3
 pub fixed_octets-fixed-requires-clause-listed : goal.fixed_octets-fixed-requires-clause-listed
 fixed_octets-fixed-requires-clause-listed c =
     let long =
     length_of_spelling (envelope_lent c.args.sections.now c.args.count c.args.contents.now) in
     omega (arith, long, c.requires.long, c.requires.short)
 
--- section 2 is shorter than the message
 pub push_front-requires : goal.push_front-requires
 push_front-requires c =
     let long =
     length_of_spelling (envelope_lent c.args.sections.now c.args.count c.args.contents.now) in
     omega (arith, long, c.requires.long, c.requires.short)
 
--- so is section 4
 pub push_section-requires : goal.push_section-requires
 push_section-requires c =
     let long =
     length_of_spelling (envelope_lent c.args.sections.now c.args.count c.args.contents.now) in
     omega (arith, long, c.requires.long, c.requires.short)
 
--- the pieces are the message
 pub returns-clause-ok : goal.returns-clause-ok
 returns-clause-ok c =
     let whole =

@@ -1,20 +1,18 @@
--- For `shelve`: a shelf keeps of the entries what is kept of them in any order.
+-- What is kept does not depend on the order of entries.
 use Rattle.std.proofs.Common.{◌∙◌, ◌++◌, ◌∷◌, [], ap, sym}
 use Rattle.std.proofs.lemmas.List.{map-id}
 use Rattle.std.proofs.lemmas.Iterator.Adapters.{YieldsList-from_vec}
 use Rattle.std.proofs.lemmas.Iterator.Consumers.{YieldsList-end}
-use Rattle.bufr_shelves.specs.Entries.{kept}
-use Rattle.bufr_shelves.specs.Orders.{kept-early, kept-same}
+use Rattle.bufr_entries.specs.Entries.{kept}
+use Rattle.bufr_entries.specs.Orders.{kept-early, kept-same}
 use Rattle.bufr_shelves.proofs.shelving.shelve.Goals as goal
 
--- with one entry more put, the shelf has what is kept of those so far
 pub loop-key-preserved : goal.loop-key-preserved
 loop-key-preserved g c =
     c.in_ok-put.ensures.ok
     ∙ ap (λ es. kept (es ++ c.in-Some.field-0 ∷ [])) c.loop-key.invariant
     ∙ kept-early c.loop-key.yielded (c.in-Some.field-0 ∷ [])
 
--- other entries with the same members give the same shelf
 pub returns-clause-agrees : goal.returns-clause-agrees
 returns-clause-agrees g c others same =
     let gives = c.into_iter-key-iterator.ensures.into_iter_gives in

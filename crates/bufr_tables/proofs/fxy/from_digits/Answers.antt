@@ -1,10 +1,9 @@
--- For `from_digits`: six digits are a descriptor where F, X and Y are in their ranges.
+-- Six digits are a descriptor if F, X and Y are in range.
 use Rattle.std.proofs.Common.{◌∙◌, ◌+◌, ◌*◌, ◌<◌, sym, arith}
 use Rattle.bufr_tables.specs.Descriptors.{digit_value}
 use Rattle.bufr_tables.specs.DescriptorLaws.{of_text-digits, wide_y}
 use Rattle.bufr_tables.proofs.fxy.from_digits.Goals as goal
 
--- digits of a Y above 255 are no descriptor
 pub returns-then-y-gt-GREATEST_Y : goal.returns-then-y-gt-GREATEST_Y
 returns-then-y-gt-GREATEST_Y c =
     let e =
@@ -15,7 +14,6 @@ returns-then-y-gt-GREATEST_Y c =
     ∙ wide_y (digit_value c.args.f) (10 * digit_value c.args.x10 + digit_value c.args.x1)
     (100 * digit_value c.args.y100 + 10 * digit_value c.args.y10 + digit_value c.args.y1) w)
 
--- the others are one where F and X are in their ranges
 pub returns : goal.returns
 returns c =
     let e =

@@ -7,7 +7,7 @@ use Rattle.clap.specs.declared.error.ErrorKind.TheVariants.{OutOfMemory}
 use Rattle.clap.specs.declared.error.Error.{Error}
 use Rattle.clap.proofs.OnLiterals.{clap_on_literals}
 use Rattle.clap.proofs.TakesLemmas.{passed_up}
-use Rattle.bufr_tool.specs.CommandLines.{Named, commands, task_in, value_in, values_in, flag_in}
+use Rattle.bufr_tool.specs.CommandLines.{Named, commands, command_in, value_in, values_in, flag_in}
 use Rattle.bufr_tool.proofs.command_line.line.Goals as goal
 
 -- the words of the program's commands are read in the simple way
@@ -22,11 +22,11 @@ said : {A : Type 0} (made : Named → A) (answer : A) (a : App) (words : List Te
 said made answer a words matches is named has =
     is ∙ ap made (subst (λ (a : App). HasMatchesOf a words matches) named has simple).1
 
--- the task is that of the command that the words name
-pub returns-clause-task : goal.returns-clause-task
-returns-clause-task g c =
-    said task_in _ _ (map g.S.AsStr.text c.args.words.now) c.in_ok-matches.matches
-    c.in_ok-line_of.ensures.task c.in_ok-bufr.ensures c.in_ok-matches.ensures.matches
+-- the command is the one that the words name
+pub returns-clause-command : goal.returns-clause-command
+returns-clause-command g c =
+    said command_in _ _ (map g.S.AsStr.text c.args.words.now) c.in_ok-matches.matches
+    c.in_ok-line_of.ensures.command c.in_ok-bufr.ensures c.in_ok-matches.ensures.matches
 
 -- the path of the file of Table B is the value of its option
 pub returns-clause-b : goal.returns-clause-b

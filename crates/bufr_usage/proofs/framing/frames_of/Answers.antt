@@ -1,13 +1,11 @@
--- The clauses of `frames_of`: what a framer hands out for a stream that comes as one piece.
+-- A framer that gets the stream as one piece.
 use Rattle.std.proofs.Common.{[], length}
 use Rattle.bufr_frame.specs.Streams.{sure}
 use Rattle.bufr_usage.proofs.framing.frames_of.Goals as goal
 
--- the frames handed out before the end are the sure ones, for none was handed out before
 pub returns-clause-sure : goal.returns-clause-sure
 returns-clause-sure c = c.in_ok-sure.ensures.found [] 0 c.new-framer.ensures.starts
 
--- those handed out at the end are the others of the cut
 pub returns-clause-last : goal.returns-clause-last
 returns-clause-last c =
     let stands = c.in_ok-sure.ensures.next [] 0 c.new-framer.ensures.starts in

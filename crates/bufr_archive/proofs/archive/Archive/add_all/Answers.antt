@@ -1,9 +1,8 @@
--- The clause of `Archive::add_all`: report by report, until memory runs out or none is left.
+-- Report by report, until memory runs out or none is left.
 use Rattle.std.proofs.Common.{◌<◌, length, arith}
 use Rattle.bufr_archive.proofs.AddFacts.{one_more}
 use Rattle.bufr_archive.proofs.archive.Archive.add_all.Goals as goal
 
--- one report more was added, and its change counted
 pub loop-index-preserved : goal.loop-index-preserved
 loop-index-preserved g c =
     let reports = g.L.ReportList.entries c.args.reports.now in

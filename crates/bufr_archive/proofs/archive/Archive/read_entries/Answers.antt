@@ -1,18 +1,17 @@
--- The clause of `Archive::read_entries`: entry by entry, until one is not right or none is left.
+-- Entry by entry, until one is wrong or none is left.
 use Rattle.std.proofs.Common.{◌≡◌, ◌++◌, ◌∷◌, [], ◌+◌, ◌-◌, length, take, drop, Some, None, List, ℕ, sym, ap}
 use Rattle.std.proofs.Common.{subst, ◌∙◌, arith}
 use Rattle.std.specs.Option.{option_map}
 use Rattle.std.proofs.lemmas.List.{length-drop}
-use Rattle.bufr_shelves.specs.declared.entry.Entry.{Entry}
-use Rattle.bufr_shelves.specs.Entries.{kept}
-use Rattle.bufr_archive.specs.Texts.{right_entry}
-use Rattle.bufr_archive.proofs.EntryFacts.{from_on}
-use Rattle.bufr_archive.specs.Reading.{read, archive_or}
-use Rattle.bufr_archive.specs.ReportEntries.{IsReportEntry, entry_in}
-use Rattle.bufr_archive.proofs.ReadFacts.{ReadSoFar, read_next, read_all, read_stops}
+use Rattle.bufr_entries.specs.declared.entry.Entry.{Entry}
+use Rattle.bufr_entries.specs.Entries.{kept}
+use Rattle.bufr_gather.specs.Texts.{right_entry}
+use Rattle.bufr_gather.specs.EntryFacts.{from_on}
+use Rattle.bufr_gather.specs.Reading.{read, archive_or}
+use Rattle.bufr_gather.specs.ReportEntries.{IsReportEntry, entry_in}
+use Rattle.bufr_gather.specs.ReadFacts.{ReadSoFar, read_next, read_all, read_stops}
 use Rattle.bufr_archive.proofs.archive.Archive.read_entries.Goals as goal
 
--- where no right entry begins, its place is told
 pub returns-in_default : goal.returns-in_default
 returns-in_default g c =
     let tables = c.args.tables.now in
@@ -25,7 +24,6 @@ returns-in_default g c =
     c.args.octets.now (g.S.Shelf.entries c.loop-rest.shelf)
     before c.loop-rest.place c.loop-rest.rest.now c.loop-rest.invariant.so_far (omega arith) none)
 
--- one entry more was read and put on the shelf, and the octets behind it are left
 pub loop-rest-preserved : goal.loop-rest-preserved
 loop-rest-preserved g c =
     let e = read c.in-Some.entry in
@@ -47,7 +45,6 @@ loop-rest-preserved g c =
       tables = c.in_ok-entry.ensures.same ∙ c.loop-rest.invariant.tables;
     }
 
--- a right entry has some octets, so fewer are left
 pub loop-rest-smaller : goal.loop-rest-smaller
 loop-rest-smaller g c =
     let found = rw c.loop-rest.invariant.tables at c.in_ok-entry.ensures.is in
@@ -62,7 +59,6 @@ loop-rest-smaller g c =
     ap length (from_on c.loop-rest.rest.now n) ∙ length-drop n c.loop-rest.rest.now in
     omega (arith, some, within, size)
 
--- where no octets are left, the entries of the whole text were read
 pub returns : goal.returns
 returns g c =
     let tables = c.args.tables.now in

@@ -1,16 +1,15 @@
--- The clauses of `Archive::write`: entry by entry, until the sink fails or none is left.
+-- Entry by entry, until the sink fails or none is left.
 use Rattle.std.proofs.Common.{◌≡◌, ◌+◌, ◌≤◌, [], ◌∷◌, ◌++◌, length, take, sym, ap, subst, ◌∙◌}
 use Rattle.std.proofs.Common.{arith, append_assoc}
 use Rattle.std.proofs.lemmas.List.{length-append}
 use Rattle.bufr_bits.specs.Devices.{Writes}
 use Rattle.bufr_bits.specs.DeviceLaws.{Writes-more}
 use Rattle.bufr_shelves.specs.Shelves.{lent}
-use Rattle.bufr_archive.specs.Texts.{text}
+use Rattle.bufr_gather.specs.Texts.{text}
 use Rattle.bufr_shelves.specs.WalkLaws.{after-in-order, goes-on}
-use Rattle.bufr_archive.proofs.TextLemmas.{text-push, text-split, take-over}
+use Rattle.bufr_gather.specs.TextLemmas.{text-push, text-split, take-over}
 use Rattle.bufr_archive.proofs.archive.Archive.write.Goals as goal
 
--- where the sink fails at an entry, it has taken as many first octets of the text as are told
 pub returns-in-Err-clause-front : goal.returns-in-Err-clause-front
 returns-in-Err-clause-front g c =
     let i = c.loop.invariant in
@@ -34,7 +33,6 @@ returns-in-Err-clause-front g c =
     (g.W.Sink.writing c.write_all.new.sink) (text i.done) (take n c.as_slice-bytes.result.now)
     i.wrote c.in-Err.ensures.front)
 
--- the octets of one entry more were written and counted
 pub loop-preserved : goal.loop-preserved
 loop-preserved g c =
     let i = c.loop.invariant in

@@ -1,14 +1,13 @@
--- The loop of `Archive::write`: the entries written so far, and those that are still to write.
 use Rattle.std.proofs.Common.{◌≡◌, ◌≤◌, ◌++◌, false, List, length, ◌*◌, ◌^◌}
 use Rattle.std.specs.Option.{option_map}
 use Rattle.bufr_bits.specs.Devices.{Writes}
-use Rattle.bufr_shelves.specs.Keeping.{first_of}
+use Rattle.bufr_entries.specs.Keeping.{first_of}
 use Rattle.bufr_shelves.specs.Shelves.{lent}
-use Rattle.bufr_archive.specs.Texts.{text}
-use Rattle.bufr_shelves.specs.declared.entry.Entry.{Entry}
+use Rattle.bufr_gather.specs.Texts.{text}
+use Rattle.bufr_entries.specs.declared.entry.Entry.{Entry}
 use Rattle.bufr_archive.proofs.archive.Archive.write.Given as goal
 
--- the text of the entries so far was written and counted, and the next is the first of the others
+-- the text of the entries before is written and counted, and `next` is the first of the others
 abbrev pub invariant-loop : goal.invariant-loop
 invariant-loop g l =
     record {

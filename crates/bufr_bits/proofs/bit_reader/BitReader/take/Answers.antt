@@ -1,9 +1,8 @@
--- For `BitReader::take`: the field at the place is the number at the front of the bits left.
+-- The field at the place is the number that begins the bits left.
 use Rattle.std.proofs.Common.{arith}
 use Rattle.bufr_bits.proofs.Fronts.{number_found, number_missing}
 use Rattle.bufr_bits.proofs.bit_reader.BitReader.take.Goals as goal
 
--- no number stands at the front where fewer bits are left
 pub returns-then-left-from-clause-short : goal.returns-then-left-from-clause-short
 returns-then-left-from-clause-short c =
     let rest = rw (← c.self.view_is) at c.left.ensures.rest in
@@ -11,7 +10,6 @@ returns-then-left-from-clause-short c =
     (number_missing c.self.inside.octets.now c.self.inside.place c.args.width
     (omega (arith, rest, c.from.ensures)) (omega (arith, c.self.invariant)))
 
--- the field at the place is the number at the front, and the bits behind it are left
 pub returns-clause-found : goal.returns-clause-found
 returns-clause-found c =
     let rest = rw (← c.self.view_is) at c.left.ensures.rest in

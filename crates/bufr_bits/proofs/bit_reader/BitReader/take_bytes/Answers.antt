@@ -1,9 +1,8 @@
--- For `BitReader::take_bytes`: the octets at the place are those at the front of the bits left.
+-- The octets at the place begin the bits left.
 use Rattle.std.proofs.Common.{◌+◌, ◌*◌, arith, refl}
 use Rattle.bufr_bits.proofs.Fronts.{octets_found, octets_missing}
 use Rattle.bufr_bits.proofs.bit_reader.BitReader.take_bytes.Goals as goal
 
--- no so many octets stand at the front where fewer bits are left
 pub returns-then-left-width-clause-short : goal.returns-then-left-width-clause-short
 returns-then-left-width-clause-short c =
     let rest = rw (← c.self.view_is) at c.left.ensures.rest in (
@@ -13,7 +12,6 @@ returns-then-left-width-clause-short c =
       refl,
     )
 
--- the octets at the place are those at the front, and the bits behind them are left
 pub returns-clause-found : goal.returns-clause-found
 returns-clause-found c =
     let rest = rw (← c.self.view_is) at c.left.ensures.rest in

@@ -1,9 +1,7 @@
--- For `BitReader::take_left`: the field at the place is the number at the front of the bits left.
 use Rattle.std.proofs.Common.{arith}
 use Rattle.bufr_bits.proofs.Fronts.{length-left, number_found}
 use Rattle.bufr_bits.proofs.bit_reader.BitReader.take_left.Goals as goal
 
--- its bits are among those of the octets
 pub field-number-requires-clause-within : goal.field-number-requires-clause-within
 field-number-requires-clause-within c =
     let enough = rw (← c.self.view_is) at c.requires.enough in
@@ -14,7 +12,6 @@ field-number-requires-clause-within c =
       c.self.invariant,
     )
 
--- so the place is no further than the octets end
 pub invariant_of-self : goal.invariant_of-self
 invariant_of-self c =
     let enough = rw (← c.self.view_is) at c.requires.enough in
@@ -26,7 +23,6 @@ invariant_of-self c =
       c.self.invariant,
     ))
 
--- the field at the place is the number at the front, and the bits behind it are left
 pub returns-clause-found : goal.returns-clause-found
 returns-clause-found c =
     let enough = rw (← c.self.view_is) at c.requires.enough in

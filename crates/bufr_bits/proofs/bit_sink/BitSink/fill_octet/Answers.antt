@@ -1,4 +1,4 @@
--- For `BitSink::fill_octet`: the octets hold zero bits up to the end of the last one already.
+-- The last octet has zero bits up to its end already.
 use Rattle.std.proofs.Common.{◌≡◌, ◌*◌, length, take, ap, ◌∙◌, arith}
 use Rattle.std.proofs.lemmas.List.{length-take-le}
 use Rattle.bufr_bits.specs.Bits.{bits}
@@ -6,13 +6,11 @@ use Rattle.bufr_bits.specs.OctetLaws.{length-bits}
 use Rattle.bufr_bits.proofs.Puts.{filled_whole, fill_is}
 use Rattle.bufr_bits.proofs.bit_sink.BitSink.fill_octet.Goals as goal
 
--- octets are filled where all their bits count
 pub invariant_of-self : goal.invariant_of-self
 invariant_of-self c =
     let s = c.self.inside in
     filled_whole s.octets.items (8 * c.len.result) (ap (λ k. 8 * k) (c.len.ensures ∙ s.octets.ok.0))
 
--- the bits that come to count are the zero bits at the end of the last octet
 pub returns-clause-filled : goal.returns-clause-filled
 returns-clause-filled c =
     let s = c.self.inside in
@@ -20,7 +18,6 @@ returns-clause-filled c =
     (fill_is s.octets.items s.len (8 * c.len.result) c.self.invariant
     (ap (λ k. 8 * k) (c.len.ensures ∙ s.octets.ok.0)))
 
--- all bits of octets are a multiple of 8
 pub returns-clause-whole : goal.returns-clause-whole
 returns-clause-whole c =
     let items = c.self.inside.octets.items in

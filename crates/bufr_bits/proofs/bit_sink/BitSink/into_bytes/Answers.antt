@@ -1,11 +1,10 @@
--- For `BitSink::into_bytes`: octets that are full have the bits of the view, and no others.
+-- Full octets have the bits of the view and no others.
 use Rattle.std.proofs.Common.{◌≡◌, ◌%◌, length, take, sym, ap, ◌∙◌, arith}
 use Rattle.std.proofs.lemmas.List.{length-take-le, take_all}
 use Rattle.bufr_bits.specs.Bits.{bits}
 use Rattle.bufr_bits.specs.OctetLaws.{length-bits}
 use Rattle.bufr_bits.proofs.bit_sink.BitSink.into_bytes.Goals as goal
 
--- a multiple of 8 bits that fill the octets are all their bits
 pub returns : goal.returns
 returns c =
     let s = c.self.inside in

@@ -1,11 +1,9 @@
--- For `BitSink::len_bits`: the count that is kept is the length of the view.
 use Rattle.std.proofs.Common.{sym, arith}
 use Rattle.std.proofs.lemmas.List.{length-take-le}
 use Rattle.bufr_bits.specs.Bits.{bits}
 use Rattle.bufr_bits.specs.OctetLaws.{length-bits}
 use Rattle.bufr_bits.proofs.bit_sink.BitSink.len_bits.Goals as goal
 
--- the view has as many bits as were counted, for the octets have no fewer
 pub returns : goal.returns
 returns c =
     let s = c.self.inside in

@@ -1,4 +1,3 @@
--- For `all_of` of the tests: what its loop keeps.
 use Rattle.std.proofs.Common.{◌≡◌, ◌<◌, false, length}
 use Rattle.bufr_bits_tests.proofs.tests.devices.all_of.Given as goal
 

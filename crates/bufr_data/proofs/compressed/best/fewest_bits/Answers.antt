@@ -1,9 +1,7 @@
--- The clause of `fewest_bits`: width by width, until the difference is less than all ones.
 use Rattle.std.proofs.Common.{◌∙◌, ◌≤◌, ◌<◌, ◌+◌, ◌^◌, sym, arith}
 use Rattle.bufr_data.proofs.CompressedFacts.Puts.{fewest_here, fewest_later, fewest_done, shift_is}
 use Rattle.bufr_data.proofs.compressed.best.fewest_bits.Goals as goal
 
--- the first width in which the difference is less than all ones is answered
 pub returns-then-from-k : goal.returns-then-from-k
 returns-then-from-k c =
     let shift = shift_is c.loop-k.k c.loop-k-test.true in
@@ -11,7 +9,6 @@ returns-then-from-k c =
     omega (arith, c.if-from-k.true, shift, c.from.ensures) in
     fewest_here c.loop-k.k c.args.difference _ c.loop-k-test.true fits c.loop-k.invariant
 
--- a width in which it is not leaves what the search from the next on answers
 pub loop-k-preserved : goal.loop-k-preserved
 loop-k-preserved c =
     let shift = shift_is c.loop-k.k c.loop-k-test.true in
@@ -19,7 +16,6 @@ loop-k-preserved c =
     omega (arith, c.if-from-k.false, shift, c.from.ensures) in
     fewest_later c.loop-k.k c.args.difference _ c.loop-k-test.true more c.loop-k.invariant
 
--- where no width below 64 will do, 64 is answered
 pub returns : goal.returns
 returns c =
     sym (c.loop-k.invariant

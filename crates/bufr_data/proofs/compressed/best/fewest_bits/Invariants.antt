@@ -1,8 +1,7 @@
--- The loop of `fewest_bits`: the widths in which the difference does not stand.
 use Rattle.std.proofs.Common.{◌≡◌, ◌-◌}
 use Rattle.bufr_data.specs.Compressed.Best.{fewest_bits}
 use Rattle.bufr_data.proofs.compressed.best.fewest_bits.Given as goal
 
--- the search from 1 on answers what the search from this width on answers
+-- the search from 1 finds what the search from this width finds
 abbrev pub invariant-loop-k : goal.invariant-loop-k
 invariant-loop-k l = fewest_bits 63 1 l.difference ≡ fewest_bits (64 - l.k) l.k l.difference

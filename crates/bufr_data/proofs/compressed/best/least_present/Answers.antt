@@ -1,4 +1,3 @@
--- The clause of `least_present`: number by number.
 use Rattle.std.proofs.Common.{◌∙◌, ◌≤◌, length, ap, arith}
 use Rattle.std.proofs.lemmas.List.{take_all}
 use Rattle.bufr_data.specs.Compressed.Best.{present}
@@ -6,7 +5,6 @@ use Rattle.bufr_data.specs.Compressed.Places.{least_of, least_step}
 use Rattle.bufr_data.proofs.CompressedFacts.Puts.{least_by, least_or, present_more}
 use Rattle.bufr_data.proofs.compressed.best.least_present.Goals as goal
 
--- one number more is missing, or the least or not
 pub loop-number-preserved : goal.loop-number-preserved
 loop-number-preserved c =
     c.lesser-found.ensures
@@ -14,7 +12,6 @@ loop-number-preserved c =
     c.args.numbers.now c.loop-number.number-index _ (omega (arith, c.loop-number-test.true))
     c.loop-number.invariant
 
--- where no number is left, the least of all is found, and 0 where all are missing
 pub returns : goal.returns
 returns c =
     let done : length c.args.numbers.now ≤ c.loop-number.number-index =

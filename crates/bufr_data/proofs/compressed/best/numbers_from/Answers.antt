@@ -1,4 +1,3 @@
--- The clause of `numbers_from`: subset by subset.
 use Rattle.std.proofs.Common.{◌∙◌, ◌++◌, ◌∷◌, [], ◌<◌, ◌≤◌, length, map, sym, ap, arith}
 use Rattle.std.proofs.lemmas.List.{take_all}
 use Rattle.bufr_fields.specs.Forms.{number_of}
@@ -6,12 +5,10 @@ use Rattle.bufr_data.specs.Compressed.Places.{rows_from, values_from}
 use Rattle.bufr_data.proofs.CompressedFacts.Puts.{values_more}
 use Rattle.bufr_data.proofs.compressed.best.numbers_from.Goals as goal
 
--- at first the number of the field is there
 pub loop-other-init : goal.loop-other-init
 loop-other-init c =
     c.in_ok-push.ensures.items ∙ (λ t. c.new-numbers.ensures.items t ++ c.number.ensures t ∷ [])
 
--- the number of one subset more is behind those so far
 pub loop-other-preserved : goal.loop-other-preserved
 loop-other-preserved c =
     let less : c.loop-other.other-index < length c.args.others.now =
@@ -21,7 +18,6 @@ loop-other-preserved c =
     ∙ sym (values_more number_of c.args.field.now c.args.place c.args.others.now
     c.loop-other.other-index c.other-item.result less c.other-item.is)
 
--- where no subset is left, the numbers are those of the place
 pub returns : goal.returns
 returns c =
     let done : length c.args.others.now ≤ c.loop-other.other-index =

@@ -1,4 +1,4 @@
--- What `put_best` owes to `put_numbers`: differing numbers that can be a column, each of its form.
+-- Numbers that differ and can be one column fit their width.
 use Rattle.std.proofs.Common.{◌∙◌, sym, ap}
 use Rattle.std.specs.Prelude.{◌^◌, nat_lt}
 use Rattle.std.specs.List.{list_all}
@@ -6,7 +6,6 @@ use Rattle.bufr_data.specs.Compressed.Places.{rows_from, values_from}
 use Rattle.bufr_data.proofs.CompressedFacts.Puts.{short_numbers, numbers_below}
 use Rattle.bufr_data.proofs.compressed.best.put_best.Goals as goal
 
--- values that differ and are no text are numbers of at most 63 bits, each below its bound
 pub put_numbers-requires : goal.put_numbers-requires
 put_numbers-requires c =
     let values = values_from c.args.field.now (rows_from c.args.place c.args.others.now) in

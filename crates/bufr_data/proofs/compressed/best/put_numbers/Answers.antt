@@ -1,4 +1,4 @@
--- The clauses of `put_numbers`: the minimum and each increment stand in their bits.
+-- The minimum and every increment fit their bits.
 use Rattle.std.proofs.Common.{◌++◌, ◌<◌, length, map, take, get_or, arith}
 use Rattle.bufr_bits.specs.Bits.{bin}
 use Rattle.bufr_data.specs.Compressed.Best.{increment_of}
@@ -7,7 +7,6 @@ use Rattle.bufr_data.proofs.CompressedFacts.Puts.{put_step, put_two}
 use Rattle.bufr_data.proofs.compressed.best.put_numbers.Goals.{After-fewest_bits-k}
 use Rattle.bufr_data.proofs.compressed.best.put_numbers.Goals as goal
 
--- minimum, width and increments fit the fields that they are put in
 numbers_fit : (c : After-fewest_bits-k) → NumbersPut c.args.width c.args.numbers.now
     c.least_present-minimum.result c.fewest_bits-k.result
 numbers_fit c =
@@ -16,12 +15,10 @@ numbers_fit c =
     c.requires.forms c.least_present-minimum.ensures c.greatest_present.ensures
     c.saturating_sub.ensures c.fewest_bits-k.ensures
 
--- at first the minimum and the width of the increments are put
 pub loop-number-init : goal.loop-number-init
 loop-number-init c =
     put_two _ _ _ _ _ c.in_ok-put.ensures.ok (rw c.from.ensures at c.in_ok-put-2.ensures.ok)
 
--- the increment of one number more is put
 pub loop-number-preserved : goal.loop-number-preserved
 loop-number-preserved c =
     let i = c.loop-number.number-index in
@@ -35,32 +32,27 @@ loop-number-preserved c =
     (bin c.args.width minimum ++ bin 6 k) _ _
     (increments_push c.args.width minimum k ns i less) c.loop-number.invariant put
 
--- the least of the numbers stands in the width of the element
 pub put-requires-clause-fits : goal.put-requires-clause-fits
 put-requires-clause-fits c =
     let fits = numbers_fit (goal.at.put-requires-clause-fits c).After-fewest_bits-k in
     fits.below
 
--- the width of the increments stands in six bits
 pub put-requires-2-clause-fits : goal.put-requires-2-clause-fits
 put-requires-2-clause-fits c =
     let fits = numbers_fit (goal.at.put-requires-2-clause-fits c).After-fewest_bits-k in
     omega (arith, fits.few, c.from.ensures)
 
--- an increment has fewer than 64 bits
 pub increment-requires : goal.increment-requires
 increment-requires c =
     let fits = numbers_fit (goal.at.increment-requires c).After-fewest_bits-k in
     omega (arith, fits.few)
 
--- an increment has no more bits than one call puts
 pub put-requires-in-loop-number-clause-width : goal.put-requires-in-loop-number-clause-width
 put-requires-in-loop-number-clause-width c =
     let fits = numbers_fit (goal.at.put-requires-in-loop-number-clause-width c).After-fewest_bits-k
     in
     omega (arith, fits.few)
 
--- the increment of each number stands in the width of the increments
 pub put-requires-in-loop-number-clause-fits : goal.put-requires-in-loop-number-clause-fits
 put-requires-in-loop-number-clause-fits c =
     let fits = numbers_fit (goal.at.put-requires-in-loop-number-clause-fits c).After-fewest_bits-k

@@ -1,4 +1,3 @@
--- The clauses of `put_texts`: the head of the column, and then text by text.
 use Rattle.std.proofs.Common.{ℕ, ◌∙◌, ◌++◌, ◌+◌, ◌/◌, ◌<◌, ◌≤◌, length, map, take, drop, ap, arith}
 use Rattle.std.specs.Prelude.{replicate}
 use Rattle.std.specs.List.{flat_map}
@@ -9,7 +8,6 @@ use Rattle.bufr_data.specs.Compressed.Places.{rows_from, values_from}
 use Rattle.bufr_data.proofs.CompressedFacts.Puts.{values_more, put_step, put_text_head, zeros_are, kept_more}
 use Rattle.bufr_data.proofs.compressed.best.put_texts.Goals as goal
 
--- at first the minimum of zeros, the width and the text of the first subset are put
 pub loop-other-init : goal.loop-other-init
 loop-other-init c =
     let octets = c.args.field.now.spec.width / 8 in
@@ -18,7 +16,6 @@ loop-other-init c =
     put_text_head c.args.sink.now _ _ _ octets _ c.args.field.now.raw zeros
     c.in_ok-put_bytes.ensures.ok put c.in_ok-put_text.ensures.put
 
--- the text of one subset more is put
 pub loop-other-preserved : goal.loop-other-preserved
 loop-other-preserved c =
     let less : c.loop-other.other-index < length c.args.others.now =
@@ -33,12 +30,10 @@ loop-other-preserved c =
     (bits (replicate octets 0) ++ bin 6 octets) c.loop-other.sink c.put_text_at.new.sink more
     c.loop-other.invariant c.in_ok-put_text_at.ensures.put
 
--- where memory runs out, the sink begins as before
 pub returns-in_err-put_text_at-clause-kept : goal.returns-in_err-put_text_at-clause-kept
 returns-in_err-put_text_at-clause-kept c =
     kept_more _ _ _ (_, c.loop-other.invariant) c.in_err-put_text_at.ensures.kept
 
--- where no subset is left, the best column of the texts is put
 pub returns-clause-put : goal.returns-clause-put
 returns-clause-put c =
     let done : length c.args.others.now ≤ c.loop-other.other-index =
@@ -52,6 +47,5 @@ returns-clause-put c =
     (map octets_of (values_from c.args.field.now (rows_from c.args.place ss)))))
     (take_all c.loop-other.other-index c.args.others.now done)
 
--- and the sink begins as before
 pub returns-clause-kept : goal.returns-clause-kept
 returns-clause-kept c = (_, c.loop-other.invariant)

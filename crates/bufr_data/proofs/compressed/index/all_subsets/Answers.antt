@@ -1,20 +1,15 @@
--- The clause of `all_subsets`: subset by subset.
-use Rattle.std.proofs.Common.{◌≡◌, ◌∙◌, ◌-◌, ◌+◌, sym, ap, arith}
+use Rattle.std.proofs.Common.{◌≡◌, ◌∙◌, refl, sym, ap, arith}
 use Rattle.bufr_data.specs.Compressed.{subsets_from}
 use Rattle.bufr_data.specs.Compressed.Indexed.{Indexed}
 use Rattle.bufr_data.proofs.CompressedFacts.Places.{one_subset_more}
 use Rattle.bufr_data.proofs.compressed.index.all_subsets.Goals as goal
 
--- one subset more is behind those so far
 pub loop-index-preserved : goal.loop-index-preserved
 loop-index-preserved c =
-    let back : c.loop-index.index + 1 - 1 ≡ c.loop-index.index = omega arith in
-    one_subset_more c.loop-index.index
-    (c.loop-index.index + 1 - 1) c.args.columns.now.columns c.loop-index.subsets.items
-    c.push.new.self.items c.in_ok-subset.field-0
-    c.in_ok-push.ensures.items c.loop-index.invariant c.in_ok-subset.ensures back
+    one_subset_more c.loop-index.index c.loop-index.index c.args.columns.now.columns c.loop-index.subsets.items
+    c.push.new.self.items c.in_ok-subset_at.field-0
+    c.in_ok-push.ensures.items c.loop-index.invariant c.in_ok-subset_at.ensures refl
 
--- where no number is left, the subsets are all of the columns
 pub returns : goal.returns
 returns c =
     let many : c.args.columns.now.subsets ≡ c.columns.inside.subsets =

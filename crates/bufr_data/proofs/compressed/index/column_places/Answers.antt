@@ -1,4 +1,4 @@
--- The clause `exact` of `column_places`: column by column along the walk.
+-- Column by column along the walk.
 use Rattle.std.proofs.Common.{◌≡◌, ◌∙◌, ◌+◌, ◌∷◌, [], Some, length, length-append, refl, ap, subst}
 use Rattle.std.proofs.Common.{arith}
 use Rattle.bufr_bits.specs.Ends.{left}
@@ -9,7 +9,6 @@ use Rattle.bufr_data.proofs.ListFacts.{all_grown}
 use Rattle.bufr_data.proofs.CompressedFacts.Places.{behind_no_column, place_kept}
 use Rattle.bufr_data.proofs.compressed.index.column_places.Goals as goal
 
--- at first the walk stands at the start of the course, and no column is passed
 pub loop-fault-init : goal.loop-fault-init
 loop-fault-init c =
     rw c.new-places.ensures.items (record {
@@ -23,7 +22,6 @@ loop-fault-init c =
       so_far = rw c.in_ok-walk.ensures.course (behind_no_column _);
     })
 
--- one column more is passed, and its place kept
 pub loop-fault-preserved : goal.loop-fault-preserved
 loop-fault-preserved c =
     let octets = c.args.reader.now.octets in

@@ -1,4 +1,3 @@
--- The loop of `column_places`: the places of the columns passed so far.
 use Rattle.std.proofs.Common.{◌≡◌, ◌≤◌, ◌+◌, ◌-◌, length, map}
 use Rattle.bufr_bits.specs.Ends.{left}
 use Rattle.bufr_expand.specs.Courses.{course}
@@ -9,8 +8,8 @@ use Rattle.bufr_data.specs.Compressed.Indexed.{AllOpen, behind_columns, column_f
 use Rattle.bufr_fields.specs.Steady.{IsReady}
 use Rattle.bufr_data.proofs.compressed.index.column_places.Given as goal
 
--- the walk is ready, at each place so far a column begins, and the index of all is the columns
--- there and those from the next on
+-- the walk can go on, a column begins at each place found, and the index is these columns and those
+-- from the next on
 abbrev pub invariant-loop-fault : goal.invariant-loop-fault
 invariant-loop-fault l = record {
   ready : IsReady l.walk;
@@ -24,6 +23,6 @@ invariant-loop-fault l = record {
       (columns_at l.subsets (length l.places.items + 1) (walks.left l.walk) (left l.reader));
 }
 
--- each field is one item more at least, and there is a limit to items
+-- each field is at least one more item, and items are limited
 abbrev pub decreases-loop-fault : goal.decreases-loop-fault
 decreases-loop-fault l = most_items + 1 - walks.items_met l.walk

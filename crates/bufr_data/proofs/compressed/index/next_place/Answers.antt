@@ -1,4 +1,4 @@
--- The clauses of `next_place`: one step of the walk is one column passed.
+-- One step of the walk passes one column.
 use Rattle.std.proofs.Common.{◌≡◌, drop, ap, sym}
 use Rattle.std.proofs.lemmas.Result.{err_from_is_err_and}
 use Rattle.bufr_bits.specs.Bits.{bits}
@@ -10,18 +10,15 @@ use Rattle.bufr_data.proofs.CompressedFacts.Places.{field_passes, count_passes}
 use Rattle.bufr_data.proofs.CompressedFacts.Places.{count_is_below, is_count}
 use Rattle.bufr_data.proofs.compressed.index.next_place.Goals as goal
 
--- where the walk stops, its fault is that of the columns
 pub returns-in-Err-clause-err : goal.returns-in-Err-clause-err
 returns-in-Err-clause-err c =
     stop_refused _ _ c.args.n c.args.i _ _ _ c.in-Err.ensures c.stop_fault.ensures
 
--- where the walk ends, the columns end
 pub returns-in-End-clause-ok : goal.returns-in-End-clause-ok
 returns-in-End-clause-ok c =
     let goes = rw c.in-End.is at c.in-Ok.ensures in
     end_passes _ _ c.args.n c.args.i c.args.reader.now.octets _ goes
 
--- a column with which there would be too many values is refused
 pub returns-in_err-within_limit-in-Field-clause-err :
     goal.returns-in_err-within_limit-in-Field-clause-err
 returns-in_err-within_limit-in-Field-clause-err c =
@@ -30,7 +27,6 @@ returns-in_err-within_limit-in-Field-clause-err c =
     rw (p.1, p.2) (step_past _ c.args.n c.args.i _ _ _ _ (field_asked _ _ _ _ goes)
     (sym c.in_err-within_limit-in-Field.ensures))
 
--- a column that does not stand there is refused
 pub returns-in_err-pass_column-in-Field-clause-err :
     goal.returns-in_err-pass_column-in-Field-clause-err
 returns-in_err-pass_column-in-Field-clause-err c =
@@ -43,7 +39,6 @@ returns-in_err-pass_column-in-Field-clause-err c =
     (factor_refused c.args.n c.args.i c.in-Field.spec (left c.args.reader.now) _
     c.in_err-pass_column-in-Field.ensures.err))
 
--- a factor's column with which there would be too many values is refused
 pub returns-in_err-within_limit-in-Count-clause-err :
     goal.returns-in_err-within_limit-in-Count-clause-err
 returns-in_err-within_limit-in-Count-clause-err c =
@@ -54,7 +49,6 @@ returns-in_err-within_limit-in-Count-clause-err c =
     rw (p.1, p.2) (step_past _ c.args.n c.args.i _ _ _ _ (count_asked _ _ _ _ goes)
     (sym c.in_err-within_limit-in-Count.ensures))
 
--- a factor's column that does not stand there, or whose values differ, is refused
 pub returns-in_err-number-in-Count-clause-err : goal.returns-in_err-number-in-Count-clause-err
 returns-in_err-number-in-Count-clause-err c =
     let p =
@@ -64,7 +58,6 @@ returns-in_err-number-in-Count-clause-err c =
     rw (p.1, p.2) (step_refused _ c.args.n c.args.i _ _ _ _ (count_asked _ _ _ _ goes)
     (sym c.in_ok-within_limit-in-Count.ensures) c.in_err-number-in-Count.ensures.err)
 
--- the column is passed, and its place told
 pub returns-in_ok-pass_column-in-Field-clause-ok : goal.returns-in_ok-pass_column-in-Field-clause-ok
 returns-in_ok-pass_column-in-Field-clause-ok c =
     let goes = rw c.in-Field.is at c.in-Ok.ensures in
@@ -75,14 +68,12 @@ returns-in_ok-pass_column-in-Field-clause-ok c =
     (left c.pass_column.new.reader) c.requires.ready goes
     (sym c.in_ok-within_limit-in-Field.ensures) c.in_ok-pass_column-in-Field.ensures.ok there
 
--- the walk goes on after it
 pub returns-in_ok-pass_column-in-Field-clause-advances :
     goal.returns-in_ok-pass_column-in-Field-clause-advances
 returns-in_ok-pass_column-in-Field-clause-advances c =
     let goes = rw c.in-Field.is at c.in-Ok.ensures in
     field_goes_on _ _ _ _ c.requires.ready goes
 
--- the factor's column is passed, its place told, and the course goes on by its one number
 pub returns-in_ok-number-in-Count-clause-ok : goal.returns-in_ok-number-in-Count-clause-ok
 returns-in_ok-number-in-Count-clause-ok c =
     let goes = rw c.in-Count.is at c.in-Ok.ensures in
@@ -93,19 +84,16 @@ returns-in_ok-number-in-Count-clause-ok c =
     (left c.pass_factor.new.reader) goes c.count.ensures
     (sym c.in_ok-within_limit-in-Count.ensures) c.in_ok-number-in-Count.ensures.ok there
 
--- the spec of a count is a count's
 pub pass_factor-requires-clause-counts : goal.pass_factor-requires-clause-counts
 pass_factor-requires-clause-counts c =
     let goes = rw c.in-Count.is at c.in-Ok.ensures in is_count _ _ _ _ goes
 
--- the number of a factor is below its bound
 pub count-requires-clause-fits : goal.count-requires-clause-fits
 count-requires-clause-fits c =
     let goes =
     rw c.in-Count.is at c.in-Ok.ensures in
     count_is_below _ _ _ _ _ goes c.in_ok-number-in-Count.ensures.fits
 
--- the walk goes on after it
 pub returns-in_ok-number-in-Count-clause-advances :
     goal.returns-in_ok-number-in-Count-clause-advances
 returns-in_ok-number-in-Count-clause-advances c =

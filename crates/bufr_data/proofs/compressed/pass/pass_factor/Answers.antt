@@ -1,4 +1,4 @@
--- The clauses of `pass_factor`: the numbers of a factor's column are the same, or it is refused.
+-- The numbers of a factor's column are equal, or it is refused.
 use Rattle.std.proofs.Common.{◌≡◌, ◌*◌, ◌<◌, ◌≤◌, length, arith}
 use Rattle.std.proofs.lemmas.Result.{err_from_is_err_and}
 use Rattle.bufr_bits.specs.Ends.{left}
@@ -7,7 +7,6 @@ use Rattle.bufr_data.proofs.CompressedFacts.Passed.{factor_agrees, factor_differ
 use Rattle.bufr_data.proofs.compressed.pass.pass_factor.Goals.{After-from-2}
 use Rattle.bufr_data.proofs.compressed.pass.pass_factor.Goals as goal
 
--- where the width of the increments is not zero, they have so many bits together
 increments : (c : After-from-2)
     → (c.from.result * c.from-2.result ≡ c.args.n * c.in_ok-minimum.k) × (0 < c.in_ok-minimum.k)
 increments c = (
@@ -16,14 +15,12 @@ increments c = (
   some_bits c.in_ok-minimum.k c.if-k-eq0.false,
 )
 
--- without increments the minimum is the one number
 pub returns-then-k-eq0-clause-ok : goal.returns-then-k-eq0-clause-ok
 returns-then-k-eq0-clause-ok c =
     factor_equal c.args.n c.args.i c.args.spec
     (left c.args.reader.now) _ _ _ c.requires.counts c.requires.some c.in_ok-minimum.ensures.ok
     c.if-k-eq0.true
 
--- where the increments are not all there, the data end
 pub returns-then-left-from-clause-err : goal.returns-then-left-from-clause-err
 returns-then-left-from-clause-err c =
     let some = increments (goal.at.returns-then-left-from-clause-err c).After-from-2 in
@@ -33,7 +30,6 @@ returns-then-left-from-clause-err c =
     (numbers_end c.args.n c.args.i c.args.spec (left c.args.reader.now) _ _ _
     (no_text _ c.requires.counts) c.in_ok-minimum.ensures.ok some.1 short)
 
--- the first increment that passes the width is told
 pub returns-in_err-number-clause-err : goal.returns-in_err-number-clause-err
 returns-in_err-number-clause-err c =
     let p =
@@ -48,7 +44,6 @@ returns-in_err-number-clause-err c =
     (no_text _ c.requires.counts) c.in_ok-minimum.ensures.ok some.1 long
     c.in_err-number.ensures.err))
 
--- where all numbers are the same, the first is the one number
 pub returns-then-equal-clause-ok : goal.returns-then-equal-clause-ok
 returns-then-equal-clause-ok c =
     let some = increments (goal.at.returns-then-equal-clause-ok c).After-from-2 in
@@ -58,7 +53,6 @@ returns-then-equal-clause-ok c =
     (left c.args.reader.now) _ _ _ _ _ _ c.requires.counts c.in_ok-minimum.ensures.ok some.1 long
     c.in_ok-number.ensures.ok c.in_ok-number.ensures.moved c.if-equal.true
 
--- where they differ, the factor is refused
 pub returns-else-equal-clause-err : goal.returns-else-equal-clause-err
 returns-else-equal-clause-err c =
     let some = increments (goal.at.returns-else-equal-clause-err c).After-from-2 in

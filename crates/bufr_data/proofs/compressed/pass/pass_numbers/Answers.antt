@@ -1,4 +1,4 @@
--- The clauses of `pass_numbers`: increments are read only where one may pass the width.
+-- Only increments that may be too large need be read.
 use Rattle.std.proofs.Common.{◌≡◌, ◌∙◌, ◌*◌, ◌<◌, ◌≤◌, length, drop, sym, ap, arith}
 use Rattle.std.proofs.lemmas.Bool.{ltb-true}
 use Rattle.std.proofs.lemmas.Result.{err_from_is_err_and}
@@ -8,7 +8,6 @@ use Rattle.bufr_data.proofs.CompressedFacts.Passed.{numbers_refused, numbers_rea
 use Rattle.bufr_data.proofs.compressed.pass.pass_numbers.Goals.{After-from-2}
 use Rattle.bufr_data.proofs.compressed.pass.pass_numbers.Goals as goal
 
--- where the width of the increments is not zero, they have so many bits together
 increments : (c : After-from-2)
     → (c.from.result * c.from-2.result ≡ c.args.n * c.in_ok-minimum.k) × (0 < c.in_ok-minimum.k)
 increments c = (
@@ -17,13 +16,11 @@ increments c = (
   some_bits c.in_ok-minimum.k c.if-k-eq0.false,
 )
 
--- a column without increments is passed with its minimum
 pub returns-then-k-eq0-clause-ok : goal.returns-then-k-eq0-clause-ok
 returns-then-k-eq0-clause-ok c =
     numbers_flat c.args.n c.args.i c.args.spec
     (left c.args.reader.now) _ _ _ c.requires c.in_ok-minimum.ensures.ok c.if-k-eq0.true
 
--- where increments are to be read and are not all there, the data end
 pub returns-then-left-bits-clause-err : goal.returns-then-left-bits-clause-err
 returns-then-left-bits-clause-err c =
     let some = increments (goal.at.returns-then-left-bits-clause-err c).After-from-2 in
@@ -32,7 +29,6 @@ returns-then-left-bits-clause-err c =
     numbers_end c.args.n c.args.i c.args.spec
     (left c.args.reader.now) _ _ _ c.requires c.in_ok-minimum.ensures.ok some.1 short
 
--- increments none of which can pass the width are passed unread
 pub returns-then-pass-clause-ok : goal.returns-then-pass-clause-ok
 returns-then-pass-clause-ok c =
     let some = increments (goal.at.returns-then-pass-clause-ok c).After-from-2 in
@@ -43,7 +39,6 @@ returns-then-pass-clause-ok c =
     (left c.args.reader.now) _ _ _ _ c.requires c.in_ok-minimum.ensures.ok some.1 long narrow
     (c.if-pass.ensures.rest ∙ ap (λ m. drop m (left c.column_head.new.reader)) some.0)
 
--- where these are not all there, the data end
 pub returns-else-pass-clause-err : goal.returns-else-pass-clause-err
 returns-else-pass-clause-err c =
     let some = increments (goal.at.returns-else-pass-clause-err c).After-from-2 in
@@ -52,7 +47,6 @@ returns-else-pass-clause-err c =
     numbers_end c.args.n c.args.i c.args.spec
     (left c.args.reader.now) _ _ _ c.requires c.in_ok-minimum.ensures.ok some.1 short
 
--- the first increment that passes the width is told
 pub returns-in_err-read_increments-clause-err : goal.returns-in_err-read_increments-clause-err
 returns-in_err-read_increments-clause-err c =
     let p =
@@ -66,7 +60,6 @@ returns-in_err-read_increments-clause-err c =
     (left c.args.reader.now) _ _ _ _ c.requires c.in_ok-minimum.ensures.ok some.1 long
     c.in_err-read_increments.ensures.err)
 
--- where no increment that is read passes the width, the column is passed
 pub returns-clause-ok : goal.returns-clause-ok
 returns-clause-ok c =
     let some = increments (goal.at.returns-clause-ok c).After-from-2 in

@@ -1,5 +1,3 @@
--- The clauses of `pass_texts`: the minimum, the width and the increments are there, or the first of
--- these that is not is told.
 use Rattle.std.proofs.Common.{◌*◌, arith}
 use Rattle.bufr_bits.specs.Ends.{left}
 use Rattle.bufr_data.proofs.CompressedFacts.Passed.{TextHead, text_head, texts_no_minimum, texts_no_width}
@@ -7,7 +5,6 @@ use Rattle.bufr_data.proofs.CompressedFacts.Passed.{texts_too_wide, texts_end, t
 use Rattle.bufr_data.proofs.compressed.pass.pass_texts.Goals.{In-Some}
 use Rattle.bufr_data.proofs.compressed.pass.pass_texts.Goals as goal
 
--- the minimum and the width of the increments stand at the front
 head : (c : In-Some)
     → TextHead c.args.spec (left c.args.reader.now) c.in-Some.k (left c.take.new.self)
 head c =
@@ -16,14 +13,12 @@ head c =
     (omega (arith, c.from.ensures, c.from-octets.ensures)) c.if-not-pass.ensures.enough
     c.if-not-pass.ensures.rest c.in-Some.ensures.found
 
--- where the minimum is not all there, the data end
 pub returns-then-not-pass-clause-err : goal.returns-then-not-pass-clause-err
 returns-then-not-pass-clause-err c =
     texts_no_minimum c.args.n c.args.i c.args.spec (left c.args.reader.now)
     (8 * c.from.result) c.requires
     (omega (arith, c.from.ensures, c.from-octets.ensures)) c.if-not-pass.ensures.short
 
--- where the width of the increments is not all there, the data end
 pub returns-in-None-clause-err : goal.returns-in-None-clause-err
 returns-in-None-clause-err c =
     texts_no_width c.args.n c.args.i c.args.spec (left c.args.reader.now) (left c.pass.new.self)
@@ -31,14 +26,12 @@ returns-in-None-clause-err c =
     (omega (arith, c.from.ensures, c.from-octets.ensures)) c.if-not-pass.ensures.enough
     c.if-not-pass.ensures.rest c.in-None.ensures.short
 
--- increments wider than the field are refused
 pub returns-then-k-octets-clause-err : goal.returns-then-k-octets-clause-err
 returns-then-k-octets-clause-err c =
     texts_too_wide c.args.n c.args.i c.args.spec (left c.args.reader.now)
     c.in-Some.k (left c.take.new.self) (head (goal.at.returns-then-k-octets-clause-err c).In-Some)
     (omega (arith, c.from-octets.ensures, c.if-k-octets.true))
 
--- where the increments are all there, the column is passed
 pub returns-then-pass-clause-ok : goal.returns-then-pass-clause-ok
 returns-then-pass-clause-ok c =
     texts_pass c.args.n c.args.i c.args.spec (left c.args.reader.now)
@@ -48,7 +41,6 @@ returns-then-pass-clause-ok c =
     (times_is _ _ _ _ c.from-2.ensures c.from-3.ensures) c.if-pass.ensures.enough
     c.if-pass.ensures.rest
 
--- where they are not, the data end
 pub returns-else-pass-clause-err : goal.returns-else-pass-clause-err
 returns-else-pass-clause-err c =
     texts_end c.args.n c.args.i c.args.spec (left c.args.reader.now)

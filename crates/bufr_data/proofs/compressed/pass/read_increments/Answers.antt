@@ -1,4 +1,4 @@
--- The clauses of `read_increments`: increment by increment, until one passes the width.
+-- Increment by increment, until one is too large.
 use Rattle.std.proofs.Common.{◌≡◌, ◌∙◌, ◌-◌, ◌*◌, drop, refl, ap, sym, arith}
 use Rattle.bufr_bits.specs.Ends.{left}
 use Rattle.bufr_data.proofs.CompressedFacts.Increments.{none_yet, none_left, one_raised, raised_fails}
@@ -6,7 +6,6 @@ use Rattle.bufr_data.proofs.CompressedFacts.Increments.{all_raised_so_far, enoug
 use Rattle.bufr_data.proofs.CompressedFacts.Increments.{first_below}
 use Rattle.bufr_data.proofs.compressed.pass.read_increments.Goals as goal
 
--- at first no increment is read
 pub loop-j-init : goal.loop-j-init
 loop-j-init c =
     let whole : c.args.n - 0 ≡ c.args.n = omega arith in
@@ -20,28 +19,24 @@ loop-j-init c =
       so_far = none_yet _ _ _ _ _ 0 _;
     }
 
--- the bits of an increment are all there, so the data cannot end within it: no fault is told
 pub returns-in-None-clause-err : goal.returns-in-None-clause-err
 returns-in-None-clause-err c =
     absurd
     (none_left c.args.n c.loop-j.j c.args.k _ c.loop-j-test.true c.loop-j.invariant.enough
     c.in-None.ensures.short)
 
--- for the same reason nothing is owed of the reader's octets
 pub returns-in-None-clause-octets : goal.returns-in-None-clause-octets
 returns-in-None-clause-octets c =
     absurd
     (none_left c.args.n c.loop-j.j c.args.k _ c.loop-j-test.true c.loop-j.invariant.enough
     c.in-None.ensures.short)
 
--- nor of its place
 pub returns-in-None-clause-onward : goal.returns-in-None-clause-onward
 returns-in-None-clause-onward c =
     absurd
     (none_left c.args.n c.loop-j.j c.args.k _ c.loop-j-test.true c.loop-j.invariant.enough
     c.in-None.ensures.short)
 
--- the first increment that passes the width is told, with its subset
 pub returns-in-None-raised-clause-err : goal.returns-in-None-raised-clause-err
 returns-in-None-raised-clause-err c =
     rw c.from.ensures
@@ -51,7 +46,6 @@ returns-in-None-raised-clause-err c =
     c.loop-j-test.true c.loop-j.invariant.so_far c.in-Some.ensures.found
     c.in-None-raised.ensures.value)
 
--- one increment more is read, and compared with the first number
 pub loop-j-preserved : goal.loop-j-preserved
 loop-j-preserved c =
     let gone =
@@ -80,7 +74,6 @@ loop-j-preserved c =
           c.in-Some-raised.ensures.value);
     }
 
--- where no increment is left, all numbers are known by the first and whether they are the same
 pub returns-clause-ok : goal.returns-clause-ok
 returns-clause-ok c =
     all_raised_so_far _ _ _ _ _ _ _ _ _ _ c.loop-j-test.false c.loop-j.invariant.so_far

@@ -1,11 +1,10 @@
--- The loop of `read_increments`: the increments read so far, and the bits left for the others.
 use Rattle.std.proofs.Common.{◌≡◌, ◌≤◌, ◌<◌, ◌-◌, ◌*◌, ◌^◌, length, drop}
 use Rattle.bufr_bits.specs.Ends.{left}
 use Rattle.bufr_data.proofs.CompressedFacts.Increments.{RaisedSoFar}
 use Rattle.bufr_data.proofs.compressed.pass.read_increments.Given as goal
 
--- so many increments are read, the first number and whether all are the same are known,
--- and the bits of the others are there
+-- the first j increments are read, with the first number and whether all are equal, and the others
+-- are there
 abbrev pub invariant-loop-j : goal.invariant-loop-j
 invariant-loop-j l = record {
   octets : l.reader.octets ≡ l.fn.reader.octets;

@@ -1,11 +1,9 @@
--- The clause of `are_alike`: subset by subset, until one has no such field at the place.
 use Rattle.std.proofs.Common.{◌∙◌, ◌<◌, ◌≤◌, length, drop, sym, arith}
 use Rattle.bufr_fields.specs.declared.field.Subset.{Subset}
 use Rattle.bufr_data.specs.Compressed.Best.{begins_like}
 use Rattle.bufr_data.proofs.CompressedFacts.Rows.{all_false, all_step, all_end, rows_all}
 use Rattle.bufr_data.proofs.compressed.places.are_alike.Goals as goal
 
--- where one subset has no such field, not all have
 pub returns-then-not-is_alike : goal.returns-then-not-is_alike
 returns-then-not-is_alike c =
     let less : c.loop-other.other-index < length c.args.others.now =
@@ -16,7 +14,6 @@ returns-then-not-is_alike c =
     (drop c.args.place s.fields)) c.args.others.now c.loop-other.other-index c.other-item.result
     less c.other-item.is (sym c.is_alike.ensures ∙ c.if-not-is_alike.true))
 
--- one subset more has such a field
 pub loop-other-preserved : goal.loop-other-preserved
 loop-other-preserved c =
     let less : c.loop-other.other-index < length c.args.others.now =
@@ -27,7 +24,6 @@ loop-other-preserved c =
     less c.other-item.is c.loop-other.invariant
     (sym c.is_alike.ensures ∙ c.if-not-is_alike.false)
 
--- where no subset is left, all have such a field
 pub returns : goal.returns
 returns c =
     let done : length c.args.others.now ≤ c.loop-other.other-index =

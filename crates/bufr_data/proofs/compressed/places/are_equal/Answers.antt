@@ -1,4 +1,3 @@
--- The clause of `are_equal`: subset by subset, until one has another value at the place.
 use Rattle.std.proofs.Common.{◌∙◌, ◌<◌, ◌≤◌, length, drop, sym, arith}
 use Rattle.bufr_fields.specs.declared.field.Subset.{Subset}
 use Rattle.bufr_data.specs.Compressed.Best.{first_raw}
@@ -6,7 +5,6 @@ use Rattle.bufr_data.specs.Compressed.Reading.{same_raw}
 use Rattle.bufr_data.proofs.CompressedFacts.Rows.{all_false, all_step, all_end, values_all}
 use Rattle.bufr_data.proofs.compressed.places.are_equal.Goals as goal
 
--- where one subset has another value, the values are not all the same
 pub returns-then-not-has_raw : goal.returns-then-not-has_raw
 returns-then-not-has_raw c =
     let less : c.loop-other.other-index < length c.args.others.now =
@@ -18,7 +16,6 @@ returns-then-not-has_raw c =
     (drop c.args.place s.fields)) c.args.raw.now) c.args.others.now c.loop-other.other-index
     c.other-item.result less c.other-item.is (sym c.has_raw.ensures ∙ c.if-not-has_raw.true))
 
--- one subset more has the same value
 pub loop-other-preserved : goal.loop-other-preserved
 loop-other-preserved c =
     let less : c.loop-other.other-index < length c.args.others.now =
@@ -30,7 +27,6 @@ loop-other-preserved c =
     c.other-item.result less c.other-item.is c.loop-other.invariant
     (sym c.has_raw.ensures ∙ c.if-not-has_raw.false)
 
--- where no subset is left, all have the same value
 pub returns : goal.returns
 returns c =
     let done : length c.args.others.now ≤ c.loop-other.other-index =

@@ -1,14 +1,12 @@
--- The clauses of `check_places`: place by place, until one cannot be a column or none is left.
+-- Place by place, until one can't be one column or none is left.
 use Rattle.std.proofs.Common.{◌∙◌, ◌<◌, length, refl, sym, arith}
 use Rattle.bufr_data.proofs.CompressedFacts.Rows.{no_place_yet, place_more, place_refused, places_pass}
 use Rattle.bufr_data.proofs.CompressedFacts.Rows.{places_end_apart}
 use Rattle.bufr_data.proofs.compressed.places.check_places.Goals as goal
 
--- at first no place is judged
 pub loop-place-init : goal.loop-place-init
 loop-place-init c = no_place_yet _ _
 
--- the first place that cannot be a column is told
 pub returns-then-not-is_one_place-clause-err : goal.returns-then-not-is_one_place-clause-err
 returns-then-not-is_one_place-clause-err c =
     let less : c.loop-place.place < length c.args.fields.now =
@@ -17,7 +15,6 @@ returns-then-not-is_one_place-clause-err c =
     c.loop-place.invariant less c.index-fields-place.is
     (sym c.is_one_place.ensures ∙ c.if-not-is_one_place.true)
 
--- a place that can be a column leaves what is told from the next on
 pub loop-place-preserved : goal.loop-place-preserved
 loop-place-preserved c =
     let less : c.loop-place.place < length c.args.fields.now =
@@ -26,14 +23,12 @@ loop-place-preserved c =
     c.loop-place.invariant less c.index-fields-place.is
     (sym c.is_one_place.ensures ∙ c.if-not-is_one_place.false)
 
--- where all subsets end together, each place is a column
 pub returns-then-have_ended-clause-ok : goal.returns-then-have_ended-clause-ok
 returns-then-have_ended-clause-ok c =
     places_pass c.args.fields.now c.args.others.now c.loop-place.place
     (length c.args.fields.now) c.loop-place.invariant c.loop-place-test.false
     c.loop-place.auto.place-end refl (sym c.if-have_ended.ensures)
 
--- where another subset has more fields, the place behind the first one's last is told
 pub returns-else-have_ended-clause-err : goal.returns-else-have_ended-clause-err
 returns-else-have_ended-clause-err c =
     places_end_apart c.args.fields.now c.args.others.now c.loop-place.place

@@ -1,11 +1,9 @@
--- The clause of `have_ended`: subset by subset, until one has a field at the place.
 use Rattle.std.proofs.Common.{◌∙◌, ◌<◌, ◌≤◌, length, drop, sym, arith}
 use Rattle.bufr_fields.specs.declared.field.Subset.{Subset}
 use Rattle.bufr_data.specs.Compressed.Best.{is_empty}
 use Rattle.bufr_data.proofs.CompressedFacts.Rows.{all_false, all_step, all_end, rows_all}
 use Rattle.bufr_data.proofs.compressed.places.have_ended.Goals as goal
 
--- where one subset has a field there, not all have ended
 pub returns-then-not-has_ended : goal.returns-then-not-has_ended
 returns-then-not-has_ended c =
     let less : c.loop-other.other-index < length c.args.others.now =
@@ -16,7 +14,6 @@ returns-then-not-has_ended c =
     (drop c.args.place s.fields)) c.args.others.now c.loop-other.other-index c.other-item.result
     less c.other-item.is (sym c.has_ended.ensures ∙ c.if-not-has_ended.true))
 
--- one subset more has ended
 pub loop-other-preserved : goal.loop-other-preserved
 loop-other-preserved c =
     let less : c.loop-other.other-index < length c.args.others.now =
@@ -27,7 +24,6 @@ loop-other-preserved c =
     less c.other-item.is c.loop-other.invariant
     (sym c.has_ended.ensures ∙ c.if-not-has_ended.false)
 
--- where no subset is left, all have ended
 pub returns : goal.returns
 returns c =
     let done : length c.args.others.now ≤ c.loop-other.other-index =

@@ -1,16 +1,13 @@
--- The clause of `is_alike`: the field at a place is the first of those from there on.
 use Rattle.std.proofs.Common.{◌∙◌, sym, ap}
 use Rattle.bufr_data.specs.Compressed.Best.{begins_like}
 use Rattle.bufr_data.proofs.CompressedFacts.Rows.{next_is, none_next}
 use Rattle.bufr_data.proofs.compressed.places.is_alike.Goals as goal
 
--- a subset with no field at the place has none from there on
 pub returns-in-None : goal.returns-in-None
 returns-in-None c =
     sym (ap (begins_like c.args.field.now)
     (none_next c.args.other.now.fields c.args.place (sym c.in-None.ensures)))
 
--- the field at the place is compared by its descriptor and its spec
 pub returns-in-Some : goal.returns-in-Some
 returns-in-Some c =
     c.is_like.ensures

@@ -1,10 +1,8 @@
--- The clause of `filled`: what fills a text is told by whether it is all ones.
 use Rattle.std.proofs.Common.{◌∙◌, length, ap, sym}
 use Rattle.bufr_data.proofs.compressed.value.filled.Goals.{then-are_ones, else-are_ones}
 use Rattle.bufr_data.proofs.CompressedFacts.Values.{filled_is}
 use Rattle.bufr_data.proofs.compressed.value.filled.Goals as goal
 
--- a text of all ones is filled with ones, and each other with spaces
 pub returns : goal.returns
 returns c =
     elim c.if-are_ones.branch [

@@ -1,4 +1,4 @@
--- The clause of `number_value`: the increment of an index stands behind those before it.
+-- The increment at an index comes after those before it.
 use Rattle.std.proofs.Common.{arith}
 use Rattle.bufr_bits.specs.Ends.{left}
 use Rattle.bufr_bits.specs.BitLaws.{number_at_is}
@@ -6,12 +6,10 @@ use Rattle.bufr_data.proofs.CompressedFacts.Passed.{product_is}
 use Rattle.bufr_data.proofs.CompressedFacts.Values.{number_past, narrow_number}
 use Rattle.bufr_data.proofs.compressed.value.number_value.Goals as goal
 
--- the width of the increments, of six bits, fits its word
 pub overflow_cast-k : goal.overflow_cast-k
 overflow_cast-k c =
     let below = (number_at_is 6 _ _ _ c.in_ok-k.ensures.found).1 in omega (arith, below)
 
--- where the increments before it are not all there, the index has no value
 pub returns-then-not-pass : goal.returns-then-not-pass
 returns-then-not-pass c =
     number_past c.args.spec c.args.index (left c.args.reader.now) (left c.take.new.self)
@@ -20,11 +18,9 @@ returns-then-not-pass c =
     c.in_ok-minimum.ensures.found) c.in_ok-k.ensures.found c.if-k-eq0.false
     (product_is _ _ _ _ c.from.ensures c.from-2.ensures) c.if-not-pass.ensures.short
 
--- an increment has no more bits than one call takes
 pub take-requires-3 : goal.take-requires-3
 take-requires-3 c =
     let below = (number_at_is 6 _ _ _ c.in_ok-k.ensures.found).1 in omega (arith, below)
 
--- an increment has fewer than 64 bits
 pub raised-requires-clause-few : goal.raised-requires-clause-few
 raised-requires-clause-few c = (number_at_is 6 _ _ _ c.in_ok-k.ensures.found).1

@@ -1,4 +1,4 @@
--- The clause of `text_value`: the text of an index stands behind those before it.
+-- The text at an index comes after those before it.
 use Rattle.std.proofs.Common.{◌*◌, ◌∙◌, Some, ap, arith}
 use Rattle.bufr_bits.specs.Ends.{left}
 use Rattle.bufr_data.proofs.CompressedFacts.Passed.{TextHead, text_head}
@@ -7,7 +7,6 @@ use Rattle.bufr_data.proofs.CompressedFacts.Values.{text_past, text_there_is, ow
 use Rattle.bufr_data.proofs.compressed.value.text_value.Goals.{In-Some}
 use Rattle.bufr_data.proofs.compressed.value.text_value.Goals as goal
 
--- the minimum and the width of the increments stand at the front
 head : (c : In-Some)
     → TextHead c.args.spec (left c.args.reader.now) c.in-Some.k (left c.take.new.self)
 head c =
@@ -16,14 +15,12 @@ head c =
     (omega (arith, c.from.ensures, c.from-octets.ensures)) c.if-not-pass.ensures.enough
     c.if-not-pass.ensures.rest c.in-Some.ensures.found
 
--- where the minimum is not all there, the index has no value
 pub returns-then-not-pass : goal.returns-then-not-pass
 returns-then-not-pass c =
     text_without_minimum c.args.spec c.args.index (left c.args.reader.now)
     (8 * c.from.result) c.requires
     (omega (arith, c.from.ensures, c.from-octets.ensures)) c.if-not-pass.ensures.short
 
--- nor where the width of the increments is not all there
 pub returns-in-None : goal.returns-in-None
 returns-in-None c =
     text_without_width c.args.spec c.args.index (left c.args.reader.now) (left c.pass.new.self)
@@ -31,14 +28,12 @@ returns-in-None c =
     (omega (arith, c.from.ensures, c.from-octets.ensures)) c.if-not-pass.ensures.enough
     c.if-not-pass.ensures.rest c.in-None.ensures.short
 
--- nor where this is more than the octets of the field
 pub returns-then-k-octets : goal.returns-then-k-octets
 returns-then-k-octets c =
     text_too_wide c.args.spec c.args.index (left c.args.reader.now)
     c.in-Some.k (left c.take.new.self) (head (goal.at.returns-then-k-octets c).In-Some)
     (omega (arith, c.from-octets.ensures, c.if-k-octets.true))
 
--- nor where the texts before it are not all there
 pub returns-then-not-pass-2 : goal.returns-then-not-pass-2
 returns-then-not-pass-2 c =
     text_past c.args.spec c.args.index (left c.args.reader.now)
@@ -47,13 +42,11 @@ returns-then-not-pass-2 c =
     c.if-k-eq0.false (omega (arith, c.from-octets.ensures, c.if-k-octets.false))
     (behind_is _ _ _ _ c.from-2.ensures c.from-3.ensures) c.if-not-pass-2.ensures.short
 
--- the text has no more octets than the field
 pub filled-requires : goal.filled-requires
 filled-requires c =
     let found = rw c.in-Some-2.is at c.in_ok-take_bytes.ensures.found in
     let size = own_octets c.in-Some.k _ _ _ found in omega (arith, size, c.if-k-octets.false)
 
--- where its own text is not all there, the index has no value
 pub returns-in-None-2 : goal.returns-in-None-2
 returns-in-None-2 c =
     let none = rw c.in-None-2.is at c.in_ok-take_bytes.ensures.short in
@@ -63,7 +56,6 @@ returns-in-None-2 c =
     c.if-k-eq0.false (omega (arith, c.from-octets.ensures, c.if-k-octets.false))
     (behind_is _ _ _ _ c.from-2.ensures c.from-3.ensures) c.if-not-pass-2.ensures.rest none.0
 
--- its own text, filled, is the value of the index
 pub returns-in_ok-filled-in-Some-2 : goal.returns-in_ok-filled-in-Some-2
 returns-in_ok-filled-in-Some-2 c =
     let found = rw c.in-Some-2.is at c.in_ok-take_bytes.ensures.found in

@@ -1,10 +1,8 @@
--- The clause of `fit_each`: subset by subset, until one does not fit.
 use Rattle.std.proofs.Common.{◌∙◌, ◌<◌, length, arith}
 use Rattle.std.proofs.lemmas.Result.{err_from_is_err_and}
 use Rattle.bufr_data.proofs.CompressedFacts.Puts.{each_next, each_fails, each_end}
 use Rattle.bufr_data.proofs.compressed.write.fit_each.Goals as goal
 
--- the first misfit of a subset is that of all
 pub returns-in_err-fit_fields : goal.returns-in_err-fit_fields
 returns-in_err-fit_fields c =
     let less : c.loop-index.index < length c.args.subsets.now =
@@ -15,7 +13,6 @@ returns-in_err-fit_fields c =
     (each_fails c.args.template.now c.loop-index.index c.args.subsets.now
     c.index-subsets-index.result _ less c.index-subsets-index.is fails c.loop-index.invariant)
 
--- a subset that fits leaves what is told from the next on
 pub loop-index-preserved : goal.loop-index-preserved
 loop-index-preserved c =
     let less : c.loop-index.index < length c.args.subsets.now =
@@ -25,7 +22,6 @@ loop-index-preserved c =
     ∙ each_next c.args.template.now c.loop-index.index _ c.args.subsets.now
     c.index-subsets-index.result less c.index-subsets-index.is fits
 
--- where no subset is left, each fits
 pub returns : goal.returns
 returns c =
     c.loop-index.invariant

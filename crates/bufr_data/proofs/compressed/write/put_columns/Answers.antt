@@ -1,4 +1,3 @@
--- The clauses of `put_columns`: place by place.
 use Rattle.std.proofs.Common.{◌∙◌, ◌+◌, ◌++◌, ◌<◌, length, drop, append-nil, append_assoc, sym, ap}
 use Rattle.std.proofs.Common.{arith}
 use Rattle.std.proofs.lemmas.List.{drop_all}
@@ -9,7 +8,6 @@ use Rattle.bufr_data.proofs.CompressedFacts.Puts.{place_forms, row_forms, own_at
 use Rattle.bufr_data.proofs.CompressedFacts.Puts.{kept_more, columns_step}
 use Rattle.bufr_data.proofs.compressed.write.put_columns.Goals as goal
 
--- the values at the place can be a column
 pub put_best-requires-clause-can : goal.put_best-requires-clause-can
 put_best-requires-clause-can c =
     let less : c.loop-place.place < length c.args.fields.now =
@@ -17,7 +15,6 @@ put_best-requires-clause-can c =
     (columns_step c.args.fields.now c.args.others.now c.loop-place.place c.index-fields-place.result
     less c.index-fields-place.is c.loop-place.invariant.can).can
 
--- and each has its spec's form
 pub put_best-requires-clause-forms : goal.put_best-requires-clause-forms
 put_best-requires-clause-forms c =
     let less : c.loop-place.place < length c.args.fields.now =
@@ -30,7 +27,6 @@ put_best-requires-clause-forms c =
     c.index-fields-place.is c.requires.forms) here.like
     (row_forms c.loop-place.place c.args.others.now c.requires.other_forms)
 
--- the best column of one place more is put
 pub loop-place-preserved : goal.loop-place-preserved
 loop-place-preserved c =
     let less : c.loop-place.place < length c.args.fields.now =
@@ -61,7 +57,6 @@ loop-place-preserved c =
       kept = kept_more _ _ _ c.loop-place.invariant.kept c.in_ok-put_best.ensures.kept;
     }
 
--- where no place is left, the best columns of all are put
 pub returns-clause-put : goal.returns-clause-put
 returns-clause-put c =
     sym (c.loop-place.invariant.put

@@ -1,4 +1,4 @@
--- The clause of `write_compressed`: subsets that fit, whose places can be columns.
+-- The subsets fit, and each field can be one column.
 use Rattle.std.proofs.Common.{◌*◌, ◌<◌, ◌≤◌, length, refl, sym}
 use Rattle.bufr_data.specs.Compressed.Best.{best_bits}
 use Rattle.bufr_data.proofs.CompressedFacts.Puts.{first_in, columns_in, written_past, written_whole}
@@ -6,7 +6,6 @@ use Rattle.bufr_data.proofs.CompressedFacts.Puts.{first_forms}
 use Rattle.bufr_data.proofs.compressed.write.write_compressed.Goals as goal
 use Rattle.bufr_fields.specs.Limits.{most_values}
 
--- more values than compressed data may have are refused, and the sink is as before
 pub returns-then-fields-subsets : goal.returns-then-fields-subsets
 returns-then-fields-subsets c =
     let can = rw c.as_slice-fields.ensures at c.in_default.ensures.ok in
@@ -18,20 +17,17 @@ returns-then-fields-subsets c =
       refl,
     )
 
--- each field of the first subset has its spec's form, for it fits
 pub put_columns-requires-clause-forms : goal.put_columns-requires-clause-forms
 put_columns-requires-clause-forms c =
     rw c.as_slice-fields.ensures
     (first_forms c.args.template.now c.args.subsets.now c.index-subsets-0.result _
     (sym c.if-is_empty.ensures) c.in_ok-fit_each.ensures).0
 
--- and so has each field of the others
 pub put_columns-requires-clause-other_forms : goal.put_columns-requires-clause-other_forms
 put_columns-requires-clause-other_forms c =
     (first_forms c.args.template.now c.args.subsets.now c.index-subsets-0.result _
     (sym c.if-is_empty.ensures) c.in_ok-fit_each.ensures).1
 
--- where all fit, can be columns and are within the limit, the best columns are put
 pub returns-in-Ok : goal.returns-in-Ok
 returns-in-Ok c =
     let can = rw c.as_slice-fields.ensures at c.in_default.ensures.ok in

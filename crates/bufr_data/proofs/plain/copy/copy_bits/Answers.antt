@@ -1,8 +1,7 @@
--- For `copy_bits`: whole octets from an edge on, and then the bits behind them.
+-- Whole octets first, and then the bits after them.
 use Rattle.bufr_data.proofs.PlainFacts.Copied.{edge_put, ok_then}
 use Rattle.bufr_data.proofs.plain.copy.copy_bits.Goals as goal
 
--- both are the bits from the edge on
 pub returns-clause-put : goal.returns-clause-put
 returns-clause-put c =
     ok_then c.copy_fields-2.result

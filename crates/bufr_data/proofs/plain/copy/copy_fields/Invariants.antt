@@ -1,13 +1,12 @@
--- The loop of `copy_fields`: the bits put so far.
 use Rattle.std.proofs.Common.{◌-◌}
 use Rattle.bufr_data.proofs.PlainFacts.Copied.{IsPutSoFar}
 use Rattle.bufr_data.proofs.plain.copy.copy_fields.Given as goal
 
--- the bits up to the next one of the reader are put
+-- the bits up to the reader's place are put
 abbrev pub invariant-loop-reader : goal.invariant-loop-reader
 invariant-loop-reader l =
     IsPutSoFar l.fn.octets l.fn.from l.fn.end l.fn.sink l.reader l.sink
 
--- fewer are left each time
+-- each turn leaves fewer bits
 abbrev pub decreases-loop-reader : goal.decreases-loop-reader
 decreases-loop-reader l = l.fn.end - l.reader.place

@@ -1,9 +1,8 @@
--- For `lent_octets`: the octets from an edge to an edge are the bits between, filled.
+-- Whole octets are the bits between their ends, filled with zero bits.
 use Rattle.bufr_bits.specs.Ends.{left}
 use Rattle.bufr_data.proofs.PlainFacts.Copied.{lent_there}
 use Rattle.bufr_data.proofs.plain.copy.lent_octets.Goals as goal
 
--- the octets that are lent have the bits, and zero bits behind them
 pub returns-in-Some-eq0 : goal.returns-in-Some-eq0
 returns-in-Some-eq0 c =
     lent_there c.args.octets.now c.args.from c.args.end c.in-Some-eq0.field-0

@@ -1,9 +1,8 @@
--- For `put_field`: seven octets of a number are its field.
+-- Seven octets of a number are its field.
 use Rattle.std.proofs.Common.{ap, ◌++◌, ◌∙◌}
 use Rattle.bufr_data.proofs.PlainFacts.Copied.{seven_octets, ok_then}
 use Rattle.bufr_data.proofs.plain.copy.put_field.Goals as goal
 
--- the field has all their bits
 pub returns-clause-ok : goal.returns-clause-ok
 returns-clause-ok c =
     ok_then c.put_bytes.result

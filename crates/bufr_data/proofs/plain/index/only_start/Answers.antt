@@ -1,4 +1,4 @@
--- The clauses of `only_start`: where the subset is passed, it is all subsets.
+-- The one subset passed is all subsets.
 use Rattle.std.proofs.Common.{◌≡◌, ◌+◌, ◌-◌, ◌∙◌, drop, refl, sym, ap, subst, arith}
 use Rattle.std.specs.Prelude.{◌≤◌, ◌*◌, length}
 use Rattle.std.proofs.lemmas.Result.{err_from_is_err_and}
@@ -11,7 +11,6 @@ use Rattle.bufr_data.proofs.PlainFacts.Even.{only_read, only_begins, only_fails}
 use Rattle.bufr_data.proofs.PlainFacts.Subsets.{fails_map}
 use Rattle.bufr_data.proofs.plain.index.only_start.Goals as goal
 
--- where it is refused, the subsets are refused with its fault
 pub returns-in_err-items-clause-exact : goal.returns-in_err-items-clause-exact
 returns-in_err-items-clause-exact c =
     let tree = c.args.template.now in
@@ -21,7 +20,6 @@ returns-in_err-items-clause-exact c =
     (fails_map c.in_err-items.field-0.0 _ (subsets_at (course tree) 1 1 0 front)
     (only_fails tree 0 front c.in_err-items.field-0.0 c.in_err-items.ensures.err))
 
--- where it is passed, it begins at the one start
 pub returns-clause-exact : goal.returns-clause-exact
 returns-clause-exact c =
     let octets = c.args.reader.now.octets in
@@ -36,7 +34,6 @@ returns-clause-exact c =
     rw (only_read octets c.args.template.now s (left c.args.reader.now) _ _ there
     c.in_ok-items.ensures.ok) refl
 
--- and ends where the reader stands then
 pub returns-clause-stand : goal.returns-clause-stand
 returns-clause-stand c =
     let octets = c.args.reader.now.octets in

@@ -1,4 +1,4 @@
--- The clauses of `pass_one`: where all subsets are alike, one is passed by its bits alone.
+-- A subset of known size is passed by its bits.
 use Rattle.std.proofs.Common.{◌≡◌, ◌∙◌, arith}
 use Rattle.bufr_bits.specs.Ends.{left}
 use Rattle.bufr_expand.specs.Courses.{course}
@@ -10,7 +10,6 @@ use Rattle.bufr_data.proofs.plain.index.pass_one.Goals.{in_default-via-in-Some+t
 use Rattle.bufr_data.proofs.plain.index.pass_one.Goals.{in_default-via-in-Some+then-used-le-MOST_ITEMS+then-each-used+else-pass}
 use Rattle.bufr_data.proofs.plain.index.pass_one.Goals as goal
 
--- a subset that is like all others, and whose bits are there, is passed with just these
 pub returns-in-Some-clause-ok : goal.returns-in-Some-clause-ok
 returns-in-Some-clause-ok c =
     let law = c.courses_are_unrollings.ensures in
@@ -21,7 +20,6 @@ returns-in-Some-clause-ok c =
     (omega (arith, c.if-used-le-MOST_ITEMS.true, c.if-each-used.true))
     passed.enough passed.rest
 
--- what fails for subset 1 fails for the subset of this number, which is told
 pub returns-in-Err-clause-err : goal.returns-in-Err-clause-err
 returns-in-Err-clause-err c =
     let unmoved : c.in_default.reader ≡ c.args.reader.now =

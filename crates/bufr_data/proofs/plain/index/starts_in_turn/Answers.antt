@@ -1,4 +1,4 @@
--- The clauses of `starts_in_turn`: subset by subset, until one is refused or none is left.
+-- Subset by subset, until one is refused or none is left.
 use Rattle.std.proofs.Common.{◌≡◌, ◌+◌, ◌∙◌, drop, refl, sym, ap, subst, arith}
 use Rattle.std.specs.Prelude.{◌≤◌, ◌*◌, length}
 use Rattle.std.proofs.lemmas.Result.{err_from_is_err_and}
@@ -11,7 +11,6 @@ use Rattle.bufr_data.proofs.PlainFacts.Starts.{one_start, one_stands}
 use Rattle.bufr_data.proofs.PlainFacts.Subsets.{one_fails, all_read, fails_map}
 use Rattle.bufr_data.proofs.plain.index.starts_in_turn.Goals as goal
 
--- where a subset is refused, the subsets are refused with its fault
 pub returns-in_err-items-clause-exact : goal.returns-in_err-items-clause-exact
 returns-in_err-items-clause-exact c =
     let all = subsets_at (course c.args.template.now) 1 c.args.count 0 (left c.args.reader.now) in
@@ -24,7 +23,6 @@ returns-in_err-items-clause-exact c =
     (left c.loop-index.reader) _ all c.in_err-items.field-0.0
     c.loop-index-test.true c.loop-index.invariant.read c.in_err-items.ensures.err))
 
--- one subset more was passed, and begins at the start that was put behind the others
 pub loop-index-preserved : goal.loop-index-preserved
 loop-index-preserved c =
     let octets = c.args.reader.now.octets in
@@ -55,7 +53,6 @@ loop-index-preserved c =
           c.in_ok-items.ensures.ok;
     }
 
--- where no subset is left, those at the starts are all
 pub returns-clause-exact : goal.returns-clause-exact
 returns-clause-exact c =
     rw (all_read (course c.args.template.now)

@@ -1,4 +1,3 @@
--- The loop of `starts_in_turn`: where the subsets so far begin.
 use Rattle.std.proofs.Common.{◌≡◌, ◌+◌, ◌-◌, ◌≤◌, map}
 use Rattle.bufr_bits.specs.Ends.{left}
 use Rattle.bufr_expand.specs.Courses.{course}
@@ -7,7 +6,7 @@ use Rattle.bufr_data.specs.Plain.Numbered.{after}
 use Rattle.bufr_data.specs.Plain.Starts.{AllBegin, subset_from}
 use Rattle.bufr_data.proofs.plain.index.starts_in_turn.Given as goal
 
--- a subset begins at each start so far, and these and those read behind them are all subsets
+-- a subset begins at each start found, and with those read after them they are all subsets
 abbrev pub invariant-loop-index : goal.invariant-loop-index
 invariant-loop-index l = record {
   onward : l.fn.reader.place ≤ l.reader.place;

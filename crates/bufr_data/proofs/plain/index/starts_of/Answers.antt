@@ -1,10 +1,9 @@
--- The clauses of `starts_of`: where all subsets are alike, all are passed at once.
+-- Subsets of known size are passed at once.
 use Rattle.std.proofs.Common.{◌≡◌, length, refl, ap, arith}
 use Rattle.bufr_bits.specs.Ends.{left}
 use Rattle.bufr_data.proofs.PlainFacts.Even.{stand_alike, alike_begin, alike_read}
 use Rattle.bufr_data.proofs.plain.index.starts_of.Goals as goal
 
--- the last of them ends where the octets do at the latest
 pub invariant_of-result : goal.invariant_of-result
 invariant_of-result c =
     let size : length c.octets-octets.result.now ≡ length c.args.reader.now.octets =
@@ -19,7 +18,6 @@ invariant_of-result c =
       omega (arith, c.if-count-each.true),
     )
 
--- those that begin at even distances are all subsets
 pub returns-in-Some-clause-exact : goal.returns-in-Some-clause-exact
 returns-in-Some-clause-exact c =
     let octets = c.args.reader.now.octets in
@@ -35,7 +33,6 @@ returns-in-Some-clause-exact c =
       c.if-pass.ensures.rest,
     ) refl
 
--- and one begins at each start
 pub returns-in-Some-clause-stand : goal.returns-in-Some-clause-stand
 returns-in-Some-clause-stand c =
     let octets = c.args.reader.now.octets in

@@ -1,22 +1,18 @@
--- For `first_asked`: each turn passes one field more.
 use Rattle.std.proofs.Common.{sym, subst, ◌∙◌, arith}
 use Rattle.bufr_data.specs.Handed.{FirstIsAsked, moved_on}
 use Rattle.bufr_data.proofs.PlainFacts.Layouts.{none_passed, one_more_passed, first_asked, none_left}
 use Rattle.bufr_data.proofs.plain.laid_fields.first_asked.Goals as goal
 
--- at first none is passed
 pub loop-field-init : goal.loop-field-init
 loop-field-init g c =
     none_passed g.A.Asks.is_asked c.args.fields.now c.args.reader.now c.requires
 
--- the one in front is asked for
 pub returns-then-asks-clause-asked : goal.returns-then-asks-clause-asked
 returns-then-asks-clause-asked g c =
     first_asked g.A.Asks.is_asked c.loop-field.left.now c.in-Some.others.now c.in-Some.field.now
     (moved_on c.args.reader.now c.loop-field.bits) c.in-Some.ensures.cases.0
     (sym c.asks.ensures ∙ c.if-asks.true)
 
--- the bits so far are among those that are left
 pub overflow_add-bits : goal.overflow_add-bits
 overflow_add-bits g c =
     let more =
@@ -26,7 +22,6 @@ overflow_add-bits g c =
     c.standing_bits-bits.ensures in
     omega (arith, more.within, c.left-most.ensures.bits)
 
--- one more is passed
 pub loop-field-preserved : goal.loop-field-preserved
 loop-field-preserved g c =
     one_more_passed g.A.Asks.is_asked c.args.fields.now c.loop-field.left.now c.in-Some.others.now
@@ -34,7 +29,6 @@ loop-field-preserved g c =
     c.in-Some.ensures.cases.0 c.loop-field.invariant (sym c.asks.ensures ∙ c.if-asks.false)
     c.standing_bits-bits.ensures
 
--- none is left
 pub returns-clause-asked : goal.returns-clause-asked
 returns-clause-asked g c =
     let none =

@@ -1,9 +1,7 @@
--- For `read_number`: a number that is there has its bits.
 use Rattle.bufr_bits.specs.Ends.{left}
 use Rattle.bufr_data.proofs.PlainFacts.Passed.{number_has_bits}
 use Rattle.bufr_data.proofs.plain.laid_fields.read_number.Goals as goal
 
--- they are at the front
 pub take_left-requires : goal.take_left-requires
 take_left-requires c =
     let has =

@@ -1,14 +1,11 @@
--- The clauses of `bits_of`: a text takes whole octets, and another field its width.
 use Rattle.std.proofs.Common.{refl}
 use Rattle.bufr_data.proofs.PlainFacts.Alike.{text_takes, number_takes}
 use Rattle.bufr_data.proofs.plain.pass.bits_of.Goals as goal
 
--- a text takes the bits of its whole octets
 pub returns-in-Text-clause-takes : goal.returns-in-Text-clause-takes
 returns-in-Text-clause-takes c =
     text_takes c.args.spec _ c.from.result c.in-Text.is refl c.from.ensures
 
--- another field whose width is at most 64 takes so many bits
 pub returns-in_default-2 : goal.returns-in_default-2
 returns-in_default-2 c = record {
   takes =

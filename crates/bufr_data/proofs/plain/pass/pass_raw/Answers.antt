@@ -1,10 +1,8 @@
--- The clause `ok` of `pass_raw`: a field is passed with just the bits that it takes.
 use Rattle.std.proofs.Common.{sym, subst}
 use Rattle.bufr_bits.specs.Ends.{left}
 use Rattle.bufr_data.specs.Plain.Starts.{PassesRaw}
 use Rattle.bufr_data.proofs.plain.pass.pass_raw.Goals as goal
 
--- where the bits of a field are there, it stands there, and those behind it are left
 pub returns-in-Some-clause-ok : goal.returns-in-Some-clause-ok
 returns-in-Some-clause-ok c =
     subst (PassesRaw c.args.i c.args.spec (left c.args.reader.now)) (sym c.if-pass.ensures.rest)

@@ -1,4 +1,3 @@
--- The clauses of `pass_subset`: field by field or turns at once, until one is refused or none is left.
 use Rattle.std.proofs.Common.{[], refl, ◌∙◌, arith}
 use Rattle.bufr_fields.specs.StepLaws.{ready_there}
 use Rattle.bufr_expand.specs.Walks as walks
@@ -6,7 +5,6 @@ use Rattle.bufr_data.proofs.PlainFacts.Reads.{behind_none}
 use Rattle.bufr_data.proofs.PlainFacts.Passed.{more_passed}
 use Rattle.bufr_data.proofs.plain.pass.pass_subset.Goals as goal
 
--- at first no field was passed
 pub loop-fault-init : goal.loop-fault-init
 loop-fault-init c = record {
   ready = ready_there _ _ _ c.in_ok-walk.ensures.answered c.in_ok-walk.ensures.items
@@ -18,7 +16,6 @@ loop-fault-init c = record {
   so_far = ([], rw c.in_ok-walk.ensures.course (behind_none _));
 }
 
--- fields were passed, and the walk and the reader are behind them
 pub loop-fault-preserved : goal.loop-fault-preserved
 loop-fault-preserved c =
     let step = rw c.in-Ok-Some.field-0-is at c.in-Ok-Some.ensures.ok in

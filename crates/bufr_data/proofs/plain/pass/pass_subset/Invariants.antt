@@ -1,4 +1,3 @@
--- The loop of `pass_subset`: the fields passed so far.
 use Rattle.std.proofs.Common.{◌≡◌, ◌≤◌, ◌+◌, ◌-◌, List}
 use Rattle.bufr_bits.specs.Ends.{left}
 use Rattle.bufr_expand.specs.Courses.{course}
@@ -10,7 +9,7 @@ use Rattle.bufr_data.specs.Plain.Reads.{behind_fields}
 use Rattle.bufr_fields.specs.Steady.{IsReady}
 use Rattle.bufr_data.proofs.plain.pass.pass_subset.Given as goal
 
--- what is read of the subset is the fields passed so far and what is read behind them
+-- the subset is the fields passed and those read after them
 abbrev pub invariant-loop-fault : goal.invariant-loop-fault
 invariant-loop-fault l = record {
   ready : IsReady l.walk;
@@ -24,6 +23,6 @@ invariant-loop-fault l = record {
       ≡ behind_fields fields (fields_at 1 l.i (walks.left l.walk) (left l.reader)));
 }
 
--- each turn meets an item more, and a message has only so many
+-- each turn meets an item more, and items are limited
 abbrev pub decreases-loop-fault : goal.decreases-loop-fault
 decreases-loop-fault l = most_items + 1 - walks.items_met l.walk

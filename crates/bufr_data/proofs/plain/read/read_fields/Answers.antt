@@ -1,10 +1,8 @@
--- The clause `exact` of `read_fields`: field by field along the walk.
 use Rattle.std.proofs.Common.{◌≡◌, ◌+◌, [], ◌∷◌, length, length-append, refl, ap, ◌∙◌, arith}
 use Rattle.bufr_fields.specs.StepLaws.{ready_there}
 use Rattle.bufr_data.proofs.PlainFacts.Reads.{behind_none, fields_read}
 use Rattle.bufr_data.proofs.plain.read.read_fields.Goals as goal
 
--- at first the walk stands at the start of the course, and no field is read
 pub loop-fields-init : goal.loop-fields-init
 loop-fields-init c =
     rw c.in_ok-fields.ensures.items (record {
@@ -17,7 +15,6 @@ loop-fields-init c =
       so_far = rw c.in_ok-walk.ensures.course (behind_none _);
     })
 
--- one field more is read behind those so far
 pub loop-fields-preserved : goal.loop-fields-preserved
 loop-fields-preserved c =
     let step = rw c.in-Some.is at c.in_ok-field.ensures.ok in

@@ -1,4 +1,3 @@
--- The loop of `read_fields`: the fields read so far.
 use Rattle.std.proofs.Common.{◌≡◌, ◌≤◌, ◌+◌, ◌-◌, length}
 use Rattle.bufr_bits.specs.Ends.{left}
 use Rattle.bufr_expand.specs.Courses.{course}
@@ -9,8 +8,8 @@ use Rattle.bufr_data.specs.Plain.Reads.{behind_fields}
 use Rattle.bufr_fields.specs.Steady.{IsReady}
 use Rattle.bufr_data.proofs.plain.read.read_fields.Given as goal
 
--- the walk is ready, has met at least as many items as fields, and the reading of the subset is
--- the fields so far and the reading from the next on
+-- the walk can go on, has met an item for each field, and the subset is the fields read and those
+-- from the next on
 abbrev pub invariant-loop-fields : goal.invariant-loop-fields
 invariant-loop-fields l = record {
   ready : IsReady l.walk;
@@ -23,6 +22,6 @@ invariant-loop-fields l = record {
       (fields_at 1 (length l.fields.items + 1) (walks.left l.walk) (left l.reader));
 }
 
--- each field is one item more at least, and there is a limit to items
+-- each field is at least one more item, and items are limited
 abbrev pub decreases-loop-fields : goal.decreases-loop-fields
 decreases-loop-fields l = most_items + 1 - walks.items_met l.walk

@@ -1,15 +1,14 @@
--- The clause `exact` of `read_each`: subset by subset, until one is refused or none is left.
+-- Subset by subset, until one is refused or none is left.
 use Rattle.std.proofs.Common.{◌+◌, ◌∙◌, ap, refl, arith}
 use Rattle.bufr_bits.specs.Ends.{left}
 use Rattle.bufr_expand.specs.Courses.{course}
-use Rattle.bufr_answers.specs.Answers.{Fails}
+use Rattle.bufr_base.specs.Answers.{Fails}
 use Rattle.bufr_data.specs.Plain.{fields_at, subsets_at}
 use Rattle.bufr_data.specs.Plain.Numbered.{numbered, failure_of_subset}
 use Rattle.bufr_data.proofs.PlainFacts.Subsets.{one_more, one_fails, all_read, fails_map}
 use Rattle.bufr_data.proofs.PlainFacts.Subsets.{fields_at_numbered, fails_numbered}
 use Rattle.bufr_data.proofs.plain.read_each.read_each.Goals as goal
 
--- the fault of the first subset that is refused is that of all
 pub returns-in-Err-clause-exact : goal.returns-in-Err-clause-exact
 returns-in-Err-clause-exact c =
     let tree = c.args.template.now in
@@ -26,7 +25,6 @@ returns-in-Err-clause-exact c =
     (failure_of_subset number c.in-Err.failure)
     c.loop-index-test.true c.loop-index.invariant.read fails))
 
--- one subset more is read behind those so far
 pub loop-index-preserved : goal.loop-index-preserved
 loop-index-preserved c = record {
   onward = omega (arith, c.in-Ok.ensures.onward, c.loop-index.invariant.onward);
@@ -48,7 +46,6 @@ loop-index-preserved c = record {
       ∙ ap (numbered (c.loop-index.index + 1)) c.in-Ok.ensures.exact));
 }
 
--- where no subset is left, all are read
 pub returns-clause-exact : goal.returns-clause-exact
 returns-clause-exact c =
     let all = subsets_at (course c.args.template.now) 1 c.args.count 0 (left c.args.reader.now) in

@@ -1,4 +1,3 @@
--- The loop of `read_each`: the subsets read so far.
 use Rattle.std.proofs.Common.{◌≡◌, ◌+◌, ◌-◌, ◌≤◌}
 use Rattle.bufr_bits.specs.Ends.{left}
 use Rattle.bufr_expand.specs.Courses.{course}
@@ -6,7 +5,7 @@ use Rattle.bufr_data.specs.Plain.{subsets_at}
 use Rattle.bufr_data.specs.Plain.Numbered.{after}
 use Rattle.bufr_data.proofs.plain.read_each.read_each.Given as goal
 
--- the reading of all is the subsets so far and the reading from the next on
+-- all subsets are those read and those from the next on
 abbrev pub invariant-loop-index : goal.invariant-loop-index
 invariant-loop-index l = record {
   onward : l.fn.reader.place ≤ l.reader.place;

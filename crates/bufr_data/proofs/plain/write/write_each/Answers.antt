@@ -1,4 +1,4 @@
--- The clauses of `write_each`: subset by subset, until one does not fit or none is left.
+-- Subset by subset, until one does not fit or none is left.
 use Rattle.std.proofs.Common.{◌<◌, length, arith}
 use Rattle.std.proofs.lemmas.Result.{err_from_is_err_and}
 use Rattle.bufr_expand.specs.Courses.{course}
@@ -8,7 +8,6 @@ use Rattle.bufr_data.proofs.PlainFacts.Writes.{subsets_step, subsets_fail, subse
 use Rattle.bufr_data.proofs.PlainFacts.Writes.{counted_forms}
 use Rattle.bufr_data.proofs.plain.write.write_each.Goals as goal
 
--- the first misfit of a subset is that of all
 pub returns-in_err-used-clause-err : goal.returns-in_err-used-clause-err
 returns-in_err-used-clause-err c =
     let p = err_from_is_err_and c.from_residual.result c.from_residual.ensures.1 in
@@ -19,7 +18,6 @@ returns-in_err-used-clause-err c =
     c.index-subsets-index.result _ _
     (omega arith) c.index-subsets-index.is c.loop-index.invariant.so_far fails)
 
--- one subset more fits, and its bits are put
 pub loop-index-preserved : goal.loop-index-preserved
 loop-index-preserved c =
     let within : c.loop-index.index < length c.args.subsets.now = omega arith in
@@ -36,14 +34,12 @@ loop-index-preserved c =
           c.loop-index.invariant.put put;
     }
 
--- where no subset is left, all fit and their bits are those written
 pub returns-clause-ok : goal.returns-clause-ok
 returns-clause-ok c =
     subsets_end
     (course c.args.template.now) c.loop-index.index c.loop-index.used c.args.subsets.now _
     (omega arith) c.loop-index.invariant.so_far
 
--- each field of a subset that fits has its spec's form
 pub put_fields-requires : goal.put_fields-requires
 put_fields-requires c =
     let fits =

@@ -1,9 +1,7 @@
--- The clause of `SubsetIndex::count`: of compressed data.
 use Rattle.std.proofs.Common.{◌∙◌, sym}
 use Rattle.bufr_data.proofs.CompressedFacts.Shown.{many_shown}
 use Rattle.bufr_data.proofs.subset_index.SubsetIndex.count.Goals as goal
 
--- the columns count as many subsets as the list has
 pub returns-in-Compressed : goal.returns-in-Compressed
 returns-in-Compressed c =
     c.from.ensures ∙ c.count.ensures

@@ -1,6 +1,5 @@
--- The clause of `SubsetIndex::lent`: of plain data, the bits at the start of a number are those of
--- the subset at its place.
-use Rattle.std.proofs.Common.{◌≡◌, ◌-◌, ◌∙◌, ap, map, sym}
+-- The bits from a start to its end are those of its subset.
+use Rattle.std.proofs.Common.{◌≡◌, ◌∙◌, ap, map, sym}
 use Rattle.std.proofs.lemmas.Option.{IfSome_then}
 use Rattle.bufr_data.specs.Plain.Starts.{subset_from}
 use Rattle.bufr_data.specs.Shown.{shown}
@@ -9,26 +8,23 @@ use Rattle.bufr_data.proofs.PlainFacts.Shown.{begins_there, start_shown}
 use Rattle.bufr_data.proofs.PlainFacts.Starts.{bits_between}
 use Rattle.bufr_data.proofs.subset_index.SubsetIndex.lent.Goals as goal
 
--- a subset ends no sooner than it begins
 pub lent_octets-requires-clause-onward : goal.lent_octets-requires-clause-onward
 lent_octets-requires-clause-onward c =
     (bits_between _ _ _
-    (begins_there _ _ _ (c.args.number - 1) _ c.subsets.invariant.0 c.at-start.ensures)).0
+    (begins_there _ _ _ c.args.index _ c.subsets.invariant.0 c.at-start.ensures)).0
 
--- and inside the octets
 pub lent_octets-requires-clause-inside : goal.lent_octets-requires-clause-inside
 lent_octets-requires-clause-inside c =
-    (begins_there _ _ _ (c.args.number - 1) _ c.subsets.invariant.0 c.at-start.ensures).2
+    (begins_there _ _ _ c.args.index _ c.subsets.invariant.0 c.at-start.ensures).2
 
--- the octets that are lent have the bits of this subset
 pub returns-in-Plain : goal.returns-in-Plain
 returns-in-Plain c =
     let begins =
-    begins_there _ _ _ (c.args.number - 1) _ c.subsets.invariant.0 c.at-start.ensures in
+    begins_there _ _ _ c.args.index _ c.subsets.invariant.0 c.at-start.ensures in
     let shows : map (subset_from c.subsets.inside.octets.now c.subsets.inside.template)
     c.subsets.inside.starts ≡ c.args.self.now =
     c.subsets.view_is ∙ sym (ap shown c.in-Plain.is) ∙ c.self.view_is in
     IfSome_then c.lent_octets.result c.lent_octets.ensures
     (λ lent is. rw (start_shown c.subsets.inside.octets.now c.subsets.inside.template
-    c.subsets.inside.starts c.args.self.now (c.args.number - 1) c.at-start.result shows
+    c.subsets.inside.starts c.args.self.now c.args.index c.at-start.result shows
     c.at-start.ensures) (is ∙ ap filled (bits_between _ _ _ begins).1))

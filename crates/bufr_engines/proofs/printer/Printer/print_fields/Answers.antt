@@ -9,7 +9,7 @@ use Rattle.bufr_engines.proofs.ListingFacts.{amid_fields, field_more, field_stop
 use Rattle.bufr_engines.proofs.ListingFacts.{amid_few}
 use Rattle.bufr_engines.proofs.LineFacts.{line_whole}
 use Rattle.bufr_engines.proofs.PartFacts.{adds_halts, adds_held, adds_written, keeps_both}
-use Rattle.bufr_engines.proofs.PrintingFacts.{passed}
+use Rattle.bufr_io.specs.PassingLaws.{passed}
 use Rattle.bufr_engines.proofs.printer.Printer.print_fields.Goals as goal
 
 -- at first none was handed out

@@ -6,7 +6,8 @@ use Rattle.bufr_engines.specs.declared.printer.Printer.{Printer}
 use Rattle.bufr_engines.specs.Lines.{AreWholeLines}
 use Rattle.bufr_engines.specs.Output.{frame_text}
 use Rattle.bufr_engines.specs.StreamEngines.{PrintsFrame, WritesAllBut}
-use Rattle.bufr_engines.proofs.PrintingFacts.{frame_ends, passed}
+use Rattle.bufr_io.specs.PassingLaws.{passed}
+use Rattle.bufr_engines.proofs.PrintingFacts.{frame_ends}
 use Rattle.bufr_engines.proofs.printer.Printer.print_frame.Goals as goal
 
 -- where printing it stopped, what was written and is held can be counted

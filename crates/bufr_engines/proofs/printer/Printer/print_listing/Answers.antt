@@ -12,7 +12,7 @@ use Rattle.bufr_engines.proofs.ListingFacts.{fields_few, subset_added, subset_fe
 use Rattle.bufr_engines.proofs.ListingFacts.{subset_stopped}
 use Rattle.bufr_engines.proofs.PartFacts.{adds_halts, adds_held, adds_longer, adds_none, adds_written}
 use Rattle.bufr_engines.proofs.PartFacts.{held_less, held_more, keeps_both}
-use Rattle.bufr_engines.proofs.PrintingFacts.{passed}
+use Rattle.bufr_io.specs.PassingLaws.{passed}
 use Rattle.bufr_engines.proofs.printer.Printer.print_listing.Goals as goal
 
 -- what is held, with the lines before the first subset, has whole lines

@@ -6,7 +6,7 @@ use Rattle.bufr_engines.specs.Output.{frame_text}
 use Rattle.bufr_engines.specs.StreamEngines.{Adds, WritesAllBut}
 use Rattle.bufr_engines.proofs.LineFacts.{frame_whole}
 use Rattle.bufr_engines.proofs.PartFacts.{adds_held, adds_none}
-use Rattle.bufr_engines.proofs.PrintingFacts.{passed}
+use Rattle.bufr_io.specs.PassingLaws.{passed}
 use Rattle.bufr_engines.proofs.printer.Printer.print_message.Goals as goal
 
 -- where there is no memory for it, what is held is as it was

@@ -1,4 +1,4 @@
--- For `Operators::quantity`: no step of the arithmetic leaves its type.
+-- No step of the arithmetic overflows its type.
 use Rattle.std.proofs.Common.{rules, refl, ℕ, ◌≡◌, ◌*ℤ◌, ◌+ℤ◌, ◌^◌, ◌*◌, ◌+◌, ◌/◌, pos}
 use Rattle.std.proofs.Common.{Option, Some, None, FitsSigned, w32, w64, to_z, of_z, ap, ◌∙◌, arith}
 use Rattle.std.proofs.Common.{ℤ, negsuc, ◌<◌, ◌≤◌, ◌≤ℤ◌}
@@ -20,29 +20,24 @@ use Rattle.bufr_expand.proofs.operators.Operators.quantity.Goals as goal
 use Rattle.bufr_expand.proofs.operators.Operators.quantity.Goals.{then-element-eq0}
 use Rattle.bufr_expand.proofs.operators.Operators.quantity.Goals.{else-element-eq0+else-increase-gt18+in_ok-reference}
 
--- where no 207 is in force the width gains nothing
 widening_is : (o : Option ℕ) → (10 * increase_of o + 2) / 3 ≡ widening o
 widening_is None = refl
 widening_is (Some y) = refl
 
--- the power of ten is Y of the 207 that is in force, and 0 where none is
 increase_is : (o : Option ℕ) → unwrap_or o 0 ≡ increase_of o
 increase_is None = refl
 increase_is (Some y) = refl
 
--- what a width is with two small numbers more
 width_is : (n k : ℕ) (a : ℤ) → n < 4294967296 → k ≤ 850 → negsuc 127 ≤ℤ a → a ≤ℤ pos 127
     → to_z w64 (of_z w64 (to_z w64 (of_z w64 (to_z w64 (of_z w64 (pos n))
     +ℤ to_z w64 (of_z w64 a))) +ℤ to_z w64 (of_z w64 (pos k)))) ≡ pos n +ℤ a +ℤ pos k
 width_is n k a h i j l = omega (arith, ints)
 
--- a number outside the limits has no spec
 number_none : (kind : Kind) (scale reference width : ℤ) → is_within most_reference reference ≡ false
     → number_spec kind scale reference width ≡ None
 number_none kind scale reference (negsuc width) h = refl
 number_none kind scale reference (pos width) h = search rules
 
--- nor has a quantity whose reference value is outside them
 quantity_none : (row : Element) (q : Operators) (power : ℕ) → power ≡ increase_of q.increase
     → is_within most_reference (row.reference *ℤ pos (10 ^ power)) ≡ false → None ≡ quantity row q
 quantity_none row q power e h =
@@ -52,12 +47,10 @@ quantity_none row q power e h =
     (row.reference *ℤ pos (10 ^ increase_of q.increase))
     (pos row.width +ℤ operating.added q.add_width +ℤ pos (widening q.increase)) (rw e at h)) (λ _. refl))
 
--- Y of the 207 in force is the power of ten
 power_is : (y power : ℕ) (q : Operators) → power ≡ y → y ≡ unwrap_or q.increase 0
     → power ≡ increase_of q.increase
 power_is y power q e f = e ∙ f ∙ increase_is q.increase
 
--- a reference value other than 0 is outside the limits at a power above 18
 pub returns-then-increase-gt18 : goal.returns-then-increase-gt18
 returns-then-increase-gt18 c =
     let row = c.args.element.now in
@@ -66,13 +59,11 @@ returns-then-increase-gt18 c =
     (outside_times row.reference c.from-increase.result
     (λ e. c.if-element-eq0.false (ap (of_z w64) e)) c.if-increase-gt18.true)
 
--- a power of at most 18 fits 64 bits with a sign
 pub overflow_cast-pow : goal.overflow_cast-pow
 overflow_cast-pow c =
     let h = ten_power_below c.from-increase.result c.if-increase-gt18.false in
     search (rules, h, c.pow.ensures)
 
--- the product is the one asked for, or it is outside the limits
 product_is : (o : Option ℤ) (r : ℤ) (k y : ℕ) → FitsSigned w64 r → y ≤ 18 → k ≡ 10 ^ y
     → SomeIff o (FitsSigned w64 (to_z w64 (of_z w64 r) *ℤ to_z w64 k))
     (to_z w64 (of_z w64 r) *ℤ to_z w64 k)
@@ -82,13 +73,11 @@ product_is o r k y fits below power h =
     let small : k < 9223372036854775808 = omega (arith, power, ten) in
     checked_is o (r *ℤ pos (10 ^ y)) (rw (to_z-of_z w64 r fits, to_z_pos w64 k small ∙ ap pos power) at h)
 
--- nothing is nothing however often it is taken
 none_times : (r : ℤ) (k : ℕ) → FitsSigned w64 r → of_z w64 r ≡ 0 → pos 0 ≡ r *ℤ pos k
 none_times r k fits e =
     let none : r ≡ pos 0 = sym (to_z-of_z w64 r fits) ∙ ap (to_z w64) e in
     rw none (search rules)
 
--- where it is outside them, no field has a spec
 pub returns-in_err-reference : goal.returns-in_err-reference
 returns-in_err-reference c =
     let row = c.args.element.now in
@@ -104,7 +93,6 @@ returns-in_err-reference c =
     (power_is _ _ c.args.self.now c.from-increase.ensures c.unwrap_or.ensures)
     (subst P c.in_err-reference.was is)
 
--- the scale, reference value and width that are computed are those of the equations
 pub returns : goal.returns
 returns c =
     let row = c.args.element.now in

@@ -1,9 +1,8 @@
--- For `Template::build`: what an expansion adds to no nodes is a template.
+-- An expansion onto no nodes is a template.
 use Rattle.std.proofs.Common.{rules}
 use Rattle.bufr_expand.proofs.FlatFacts.{built-well_formed}
 use Rattle.bufr_expand.proofs.template.Template.build.Goals as goal
 
--- the nodes of an expansion are those of the tree that they make
 pub invariant_of-result : goal.invariant_of-result
 invariant_of-result c =
     rw c.in_ok-shared.ensures.ok (

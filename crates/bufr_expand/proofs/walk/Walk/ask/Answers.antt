@@ -1,11 +1,10 @@
--- For `Walk::ask`: the walk waits for the number of a factor.
+-- The walk waits for the number of a factor.
 use Rattle.std.proofs.Common.{◌+◌, refl, ap}
 use Rattle.bufr_expand.specs.OperatorsInForce.{factor_spec}
 use Rattle.bufr_expand.specs.Courses.{asks}
 use Rattle.bufr_expand.specs.Walks.{left, waits, items_met, turns_then, behind_all}
 use Rattle.bufr_expand.proofs.walk.Walk.ask.Goals as goal
 
--- the course asks for the factor, and then has as many turns of the body as its number says
 pub returns : goal.returns
 unfolding left waits items_met
 returns c =

@@ -1,11 +1,10 @@
--- For `Walk::enter`: one more replication is open, at the end of its body.
+-- One more replication is open, at the end of its body.
 use Rattle.std.proofs.Common.{length, refl, arith}
 use Rattle.bufr_expand.specs.declared.standing.State.TheVariants.{Going}
 use Rattle.bufr_expand.proofs.LoopFacts.{in_front-mono, open_more, going_at}
 use Rattle.bufr_expand.proofs.PassFacts.{entered}
 use Rattle.bufr_expand.proofs.walk.Walk.enter.Goals as goal
 
--- with one more replication open, what a walk keeps true of itself holds
 pub invariant_of-self : goal.invariant_of-self
 invariant_of-self c =
     let w = c.args.self.now in
@@ -23,7 +22,6 @@ invariant_of-self c =
       has_room = omega (arith, w.has_room, c.push.ensures.capacity);
     }
 
--- the course that is left are the turns of this replication, and what was left
 pub returns-clause-course : goal.returns-clause-course
 returns-clause-course c =
     entered _ c.args.self.now.loops.items _ refl (rw c.unwrap.ensures at c.push.ensures.items)

@@ -1,17 +1,15 @@
--- For `Walk::field`: what a walk keeps true of itself holds past a field.
+-- A field keeps the invariant of the walk.
 use Rattle.std.proofs.Common.{◌+◌, refl, arith}
 use Rattle.bufr_expand.specs.declared.standing.State.TheVariants.{Going}
 use Rattle.bufr_expand.proofs.LoopFacts.{going_on}
 use Rattle.bufr_expand.proofs.walk.Walk.field.Goals as goal
 
--- it holds past a field that is no count
 pub invariant_of-self-in_default-kind : goal.invariant_of-self-in_default-kind
 invariant_of-self-in_default-kind c =
     let w = c.args.self.now in
     let in_list = w.within.1 in
     going_on w w.state (w.place + 1) c.requires.goes c.requires.goes (omega arith) (omega arith)
 
--- it holds past a count, for whose number the walk waits
 pub invariant_of-self-in-Count : goal.invariant_of-self-in-Count
 invariant_of-self-in-Count c =
     let w = c.args.self.now in

@@ -1,4 +1,4 @@
--- For `Walk::pass_turns`: behind all turns of the innermost replication.
+-- The course after all turns of the innermost replication.
 use Rattle.std.proofs.Common.{rules, ◌≡◌, ◌+◌, ◌-◌, ◌<◌, ◌≤◌, ◌++◌, ◌∷◌, [], length, take, vec_len}
 use Rattle.std.proofs.Common.{Some, refl, sym, ap, ◌∙◌, arith}
 use Rattle.std.specs.List.{slice_get}
@@ -12,7 +12,6 @@ use Rattle.bufr_expand.proofs.RunFacts.{last_apart, turns_passed}
 use Rattle.bufr_expand.proofs.walk.Walk.pass_turns.Goals.{In_ok-turn, In_ok-run}
 use Rattle.bufr_expand.proofs.walk.Walk.pass_turns.Goals as goal
 
--- the body of the last open replication of a walk
 within : (w : Walk) (turn : Open)
     → slice_get w.loops.items (length w.loops.items - 1) ≡ Some turn
     → (turn.from ≤ turn.to) × (turn.to ≤ length w.nodes.now)
@@ -20,14 +19,12 @@ within w turn is =
     let s = open_fewer w.nodes.now _ w.loops.items turn (last_apart w.loops.items turn is)
     w.in_bodies in (s.1.0.1, s.1.1.0)
 
--- so has that of the walk at hand
 body_is : (c : In_ok-turn) → (c.in_ok-turn.field-0.now.from ≤ c.in_ok-turn.field-0.now.to)
     × (c.in_ok-turn.field-0.now.to ≤ length c.args.self.now.nodes.now)
 body_is c =
     within c.args.self.now c.in_ok-turn.field-0.now
     (sym (rw c.deref.ensures.value at c.in_ok-turn.ensures.value))
 
--- where it begins can be counted
 pub offset_bounds-self-turn : goal.offset_bounds-self-turn
 offset_bounds-self-turn c =
     let both = body_is (goal.at.offset_bounds-self-turn c).In_ok-turn in
@@ -35,7 +32,6 @@ offset_bounds-self-turn c =
     let inside : c.in_ok-turn.field-0.now.to ≤ length c.args.self.now.nodes.now = both.1 in
     search rules
 
--- it begins in front of its end
 pub slice_bounds-body-count : goal.slice_bounds-body-count
 slice_bounds-body-count c =
     let both = body_is (goal.at.slice_bounds-body-count c).In_ok-turn in
@@ -43,7 +39,6 @@ slice_bounds-body-count c =
     let inside : c.in_ok-turn.field-0.now.to ≤ length c.args.self.now.nodes.now = both.1 in
     search rules
 
--- so it begins within the nodes
 pub slice_bounds-body-start : goal.slice_bounds-body-start
 slice_bounds-body-start c =
     let both = body_is (goal.at.slice_bounds-body-start c).In_ok-turn in
@@ -51,7 +46,6 @@ slice_bounds-body-start c =
     let inside : c.in_ok-turn.field-0.now.to ≤ length c.args.self.now.nodes.now = both.1 in
     search rules
 
--- and it ends within them
 pub slice_bounds-body-end : goal.slice_bounds-body-end
 slice_bounds-body-end c =
     let both = body_is (goal.at.slice_bounds-body-end c).In_ok-turn in
@@ -59,7 +53,6 @@ slice_bounds-body-end c =
     let inside : c.in_ok-turn.field-0.now.to ≤ length c.args.self.now.nodes.now = both.1 in
     search rules
 
--- this replication is the innermost that is open
 innermost : (c : In_ok-run) → IsInnermost c.args.self.now c.in_ok-turn.field-0.now
 innermost c = record {
   goes = search rules;
@@ -68,7 +61,6 @@ innermost c = record {
       (sym (rw c.deref.ensures.value at c.in_ok-turn.ensures.value));
 }
 
--- behind them, what a walk keeps true of itself holds
 pub invariant_of-self : goal.invariant_of-self
 invariant_of-self c =
     let w = c.args.self.now in
@@ -90,7 +82,6 @@ invariant_of-self c =
       has_room = omega (arith, w.has_room, c.pop.ensures.capacity);
     }
 
--- the course led there
 pub returns-clause-passed : goal.returns-clause-passed
 returns-clause-passed c =
     let w = c.args.self.now in
@@ -103,7 +94,6 @@ returns-clause-passed c =
     turns_passed w _ c.in_ok-turn.field-0.now c.in_ok-run.run' inner room c.in_ok-run.ensures some
     inner.goes refl refl refl popped refl refl
 
--- the walk waits for no number
 pub returns-clause-answered : goal.returns-clause-answered
 unfolding waits
 returns-clause-answered c =

@@ -1,4 +1,4 @@
--- For `Walk::start`: at the front of a template no replication is open.
+-- No replication is open at the start of a template.
 use Rattle.std.proofs.Common.{◌≡◌, ◌+◌, ◌≤◌, List, [], length, refl, rules, sym, ap, ◌∙◌, subst, arith}
 use Rattle.bufr_expand.specs.declared.standing.Open.{Open}
 use Rattle.bufr_expand.specs.Places.{in_front, AreOpen, replications}
@@ -8,7 +8,6 @@ use Rattle.bufr_expand.specs.Walks.{left, waits, items_met}
 use Rattle.bufr_expand.proofs.PassFacts.{at_front}
 use Rattle.bufr_expand.proofs.walk.Walk.start.Goals as goal
 
--- at the front of nodes, what a walk keeps true of itself holds
 pub invariant_of-result : goal.invariant_of-result
 unfolding AreOpen
 invariant_of-result c =
@@ -29,7 +28,6 @@ invariant_of-result c =
       has_room = omega (arith, c.in_ok-loops.ensures.exact, levels);
     }
 
--- the course that is left is that of the tree of the template's nodes
 pub returns-clause-course : goal.returns-clause-course
 unfolding left
 returns-clause-course c =
@@ -40,12 +38,10 @@ returns-clause-course c =
     c.in_ok-loops.ensures.items c.none.ensures
     ∙ ap (λ (t : Tree). course t c.args.used) e
 
--- the walk waits for no number
 pub returns-clause-answered : goal.returns-clause-answered
 unfolding waits
 returns-clause-answered c = refl
 
--- the items met are those that were used before
 pub returns-clause-items : goal.returns-clause-items
 unfolding items_met
 returns-clause-items c = refl

@@ -1,4 +1,4 @@
--- For `Walk::tells_no_more`: where no replication is open, the nodes ahead are all that is left.
+-- If no replication is open, the nodes ahead are all that is left.
 use Rattle.std.proofs.Common.{rules, tests, not, take, drop, ◌-◌, ◌≡◌, length, arith}
 use Rattle.std.proofs.lemmas.List.{nil_from_length}
 use Rattle.std.proofs.lemmas.Iterator.{YieldsList-from_slice}
@@ -7,7 +7,6 @@ use Rattle.bufr_expand.specs.Asked.{tells}
 use Rattle.bufr_expand.proofs.AskedFacts.{none_told}
 use Rattle.bufr_expand.proofs.walk.Walk.tells_no_more.Goals as goal
 
--- the nodes ahead tell it
 pub returns-in-Going : goal.returns-in-Going
 returns-in-Going g c =
     let w = c.args.self.now in

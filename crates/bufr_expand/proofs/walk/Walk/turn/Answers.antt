@@ -1,4 +1,4 @@
--- For `Walk::turn`: at the end of a turn the replication is over, too large, or has one turn less.
+-- At the end of a turn the replication is over, too large, or has one turn fewer.
 use Rattle.std.proofs.Common.{rules, ◌≡◌, [], ◌∷◌, ◌++◌, length, Ok, Err, refl, sym, ap, ◌∙◌}
 use Rattle.std.proofs.Common.{arith}
 use Rattle.std.proofs.lemmas.List.{nil_from_length, length_push}
@@ -11,7 +11,6 @@ use Rattle.bufr_expand.proofs.PassFacts.{goes_as, left_going, none_left, turn-ov
 use Rattle.bufr_expand.proofs.PassFacts.{turn-limit, one_turn_fewer}
 use Rattle.bufr_expand.proofs.walk.Walk.turn.Goals as goal
 
--- behind a replication that is over, what a walk keeps true of itself holds
 pub invariant_of-self-then-turn-eq0 : goal.invariant_of-self-then-turn-eq0
 invariant_of-self-then-turn-eq0 c =
     let w = c.args.self.now in
@@ -29,7 +28,6 @@ invariant_of-self-then-turn-eq0 c =
       has_room = omega (arith, w.has_room, c.pop.ensures.capacity);
     }
 
--- with no turn left, the course behind the replication is the one that was left
 pub returns-then-turn-eq0-clause-on : goal.returns-then-turn-eq0-clause-on
 unfolding waits steps_left
 returns-then-turn-eq0-clause-on c =
@@ -44,7 +42,6 @@ returns-then-turn-eq0-clause-on c =
       omega (arith, number),
     )
 
--- it holds with the replication closed, where the next turn is refused
 pub invariant_of-self-then-self-ge-MOST_ITEMS : goal.invariant_of-self-then-self-ge-MOST_ITEMS
 invariant_of-self-then-self-ge-MOST_ITEMS c =
     let w = c.args.self.now in
@@ -63,7 +60,6 @@ invariant_of-self-then-self-ge-MOST_ITEMS c =
       has_room = omega (arith, w.has_room, c.pop.ensures.capacity);
     }
 
--- a turn that would be an item too many makes the course too large
 pub returns-then-self-ge-MOST_ITEMS-clause-answer :
     goal.returns-then-self-ge-MOST_ITEMS-clause-answer
 returns-then-self-ge-MOST_ITEMS-clause-answer c =
@@ -73,7 +69,6 @@ returns-then-self-ge-MOST_ITEMS-clause-answer c =
     c.requires.passed (omega arith) c.if-self-ge-MOST_ITEMS.true)
     (refl, c.refuse.ensures.course, c.refuse.ensures.goes, c.refuse.ensures.items)
 
--- it holds at the front of the body, with one turn less to come
 pub invariant_of-self-2 : goal.invariant_of-self-2
 invariant_of-self-2 c =
     let w = c.args.self.now in
@@ -92,7 +87,6 @@ invariant_of-self-2 c =
       has_room = omega (arith, w.has_room, c.pop.ensures.capacity, c.push.ensures.capacity);
     }
 
--- the course from the front of the body is the one that was left, one step nearer to its end
 pub returns-clause-on : goal.returns-clause-on
 unfolding waits steps_left
 returns-clause-on c =
@@ -110,7 +104,6 @@ returns-clause-on c =
       omega (arith, number, number_old),
     )
 
--- with no replication open the course has ended
 pub returns-in_default-clause-answer : goal.returns-in_default-clause-answer
 unfolding waits items_met
 returns-in_default-clause-answer c =

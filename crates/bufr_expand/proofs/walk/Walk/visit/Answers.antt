@@ -1,4 +1,4 @@
--- For `Walk::visit`: what is left of the course at a node, by its kind.
+-- The course after a node, by its kind.
 use Rattle.std.proofs.Common.{◌≡◌, ◌+◌, Err, refl, sym, ap, ◌∙◌, arith}
 use Rattle.bufr_expand.specs.Walks.{left, left_in, going, waits, is_waiting, steps_left, turns_then}
 use Rattle.bufr_expand.specs.Walks.{behind_all}
@@ -13,7 +13,6 @@ use Rattle.bufr_expand.proofs.PassFacts.{goes_as, visit-limit, at_node, behind_p
 use Rattle.bufr_expand.proofs.PassFacts.{spec_ok}
 use Rattle.bufr_expand.proofs.walk.Walk.visit.Goals as goal
 
--- a node that would be an item too many makes the course too large
 pub returns-then-self-ge-MOST_ITEMS-clause-answer :
     goal.returns-then-self-ge-MOST_ITEMS-clause-answer
 returns-then-self-ge-MOST_ITEMS-clause-answer c =
@@ -22,7 +21,6 @@ returns-then-self-ge-MOST_ITEMS-clause-answer c =
     (visit-limit w c.requires.goes c.requires.more w.within.1 c.if-self-ge-MOST_ITEMS.true)
     (refl, c.refuse.ensures.course, c.refuse.ensures.goes, c.refuse.ensures.items)
 
--- an element is asked for with its spec under the operators, if it has one
 pub returns-in-Element-clause-answer : goal.returns-in-Element-clause-answer
 unfolding course_then tree_within
 returns-in-Element-clause-answer c =
@@ -36,7 +34,6 @@ returns-in-Element-clause-answer c =
     c.if-self-ge-MOST_ITEMS.false refl refl)
     (rw spec at c.field.ensures)
 
--- an element that no operator touches is asked for with the spec of its row, if it has one
 pub returns-in-Untouched-clause-answer : goal.returns-in-Untouched-clause-answer
 unfolding course_then tree_within
 returns-in-Untouched-clause-answer c =
@@ -48,7 +45,6 @@ returns-in-Untouched-clause-answer c =
     o.is c.if-self-ge-MOST_ITEMS.false refl refl)
     (rw c.untouched.ensures at met.ensures)
 
--- the course past an operator, which is then in force, is the one that was left
 pub returns-in-Operator-clause-on : goal.returns-in-Operator-clause-on
 unfolding course_then tree_within left waits steps_left
 returns-in-Operator-clause-on c =
@@ -64,7 +60,6 @@ returns-in-Operator-clause-on c =
       omega arith,
     )
 
--- the course of the turns of a replication, and what comes behind, is the one that was left
 pub returns-in-Repeated-clause-on : goal.returns-in-Repeated-clause-on
 unfolding course_then steps_left
 returns-in-Repeated-clause-on c =
@@ -82,7 +77,6 @@ returns-in-Repeated-clause-on c =
       omega arith,
     )
 
--- a delayed replication asks for its factor, and then has as many turns as this says
 pub returns-in-Delayed-clause-answer : goal.returns-in-Delayed-clause-answer
 unfolding course_then
 returns-in-Delayed-clause-answer c =

@@ -1,4 +1,3 @@
--- For `assert_tells`: what its loop keeps.
 use Rattle.std.proofs.Common.{◌≡◌, false}
 use Rattle.bufr_expand.specs.Walks.{waits}
 use Rattle.bufr_expand_tests.proofs.tests.walks.assert_tells.Given as goal

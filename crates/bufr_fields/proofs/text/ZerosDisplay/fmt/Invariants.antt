@@ -1,9 +1,8 @@
--- The loop of `Zeros`' `fmt`: the zeros written so far.
 use Rattle.std.proofs.Common.{replicate}
 use Rattle.std.specs.Fmt.{HasWritten, IsPlainFormatter}
 use Rattle.bufr_fields.proofs.text.ZerosDisplay.fmt.Given as goal
 
--- as many zeros are written as rounds were done
+-- each round writes a zero
 abbrev pub invariant-loop-i : goal.invariant-loop-i
 invariant-loop-i g l =
     IsPlainFormatter l.initial.f

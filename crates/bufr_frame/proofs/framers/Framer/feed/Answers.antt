@@ -1,10 +1,8 @@
--- The clauses of `Framer::feed`: the scan of the octets held and the piece, and what is kept.
 use Rattle.std.proofs.Common.{◌≡◌, ◌-◌, ◌++◌, length, drop, ap, arith, length-append, length-drop}
 use Rattle.bufr_frame.specs.StreamLaws.{rest_from-length}
 use Rattle.bufr_frame.proofs.FramerLaws.{feed_found, feed_next}
 use Rattle.bufr_frame.proofs.framers.Framer.feed.Goals as goal
 
--- the framer keeps at most as many octets before those held, and these are within the bounds
 pub invariant_of-self-2 : goal.invariant_of-self-2
 invariant_of-self-2 c =
     let held = drop c.self.inside.from c.self.inside.octets.items in
@@ -20,7 +18,6 @@ invariant_of-self-2 c =
       short = omega arith;
     }
 
--- the frames handed out are those sure of the longer stream that were not handed out before
 pub returns-clause-found : goal.returns-clause-found
 returns-clause-found c =
     let inside = c.self.inside in
@@ -32,7 +29,6 @@ returns-clause-found c =
     (drop inside.from inside.octets.items) c.args.piece.now c.args.self.now
     c.in_ok-scan.scan.frames.items c.self.view_is place c.in_ok-scan.ensures.frames
 
--- the framer then stands for the longer stream with all its sure frames handed out
 pub returns-clause-next : goal.returns-clause-next
 returns-clause-next c =
     let inside = c.self.inside in

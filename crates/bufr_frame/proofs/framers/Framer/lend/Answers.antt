@@ -1,4 +1,4 @@
--- The clauses of `Framer::lend`: a frame that is lent is the next sure one, as if it were copied out.
+-- A lent frame is the one that `take_next` would copy out.
 use Rattle.std.proofs.Common.{◌≡◌, ℕ, ◌+◌, ◌-◌, [], drop, take, sym, ap, subst}
 use Rattle.std.proofs.Common.{◌∙◌, Some, arith}
 use Rattle.std.proofs.lemmas.List.{length-take-le, take_rest, drop_all}
@@ -11,7 +11,6 @@ use Rattle.bufr_frame.specs.NextFrames.{IsNextFrame, StandsAfter}
 use Rattle.bufr_frame.proofs.ReachLaws.{answers_lent, taken_is, next_frame, stands_next}
 use Rattle.bufr_frame.proofs.framers.Framer.lend.Goals as goal
 
--- the call of `take_next` that would copy the frame out
 hands_over : (c : goal.After-result-1)
     → HandsOver c.self.inside.fed (drop c.self.inside.from c.self.inside.octets.items)
     c.self.inside.octets.items c.args.piece.now (record {
@@ -39,7 +38,6 @@ hands_over c =
     known.within known.half none c.near_mark-skip.ensures.within c.near_mark-skip.ensures.others
     start frame
 
--- a frame lent is the next sure one of the stream with the octets taken in
 pub returns-clause-frame : goal.returns-clause-frame
 returns-clause-frame c =
     let t = hands_over c in
@@ -54,7 +52,6 @@ returns-clause-frame c =
     (sym (taken_is piece n t.taken))
     (subst (λ w. IsNextFrame w taken c.lent-frame.result) c.self.view_is next)
 
--- the framer then stands for that stream with one frame more handed out
 pub returns-clause-next : goal.returns-clause-next
 returns-clause-next c =
     let t = hands_over c in

@@ -1,10 +1,8 @@
--- The clauses of `Framer::look_end`: the scan of the octets held, as of an ended stream.
 use Rattle.std.proofs.Common.{◌-◌, length, drop, take, refl, ap, ◌∙◌, arith}
 use Rattle.std.proofs.lemmas.List.{take_rest}
 use Rattle.bufr_frame.proofs.FramerLaws.{end_found, same_held}
 use Rattle.bufr_frame.proofs.framers.Framer.look_end.Goals as goal
 
--- the octets held lie within those taken in, which can be counted
 pub frames_in-requires : goal.frames_in-requires
 frames_in-requires c =
     let inside = c.self.inside in
@@ -13,7 +11,6 @@ frames_in-requires c =
     let taken = c.self.invariant.taken in
     omega (arith, ap length same)
 
--- the frames of the octets held are those of the cut that were not handed out
 pub returns-clause-found : goal.returns-clause-found
 returns-clause-found c =
     let inside = c.self.inside in

@@ -1,4 +1,4 @@
--- The clauses of `Framer::take_next`, from what `hand_over` says of the octets held and taken in.
+-- Each clause follows from what `hand_over` returns.
 use Rattle.std.proofs.Common.{◌≡◌, ◌+◌, ◌++◌, drop, take, sym, subst, arith, length-append}
 use Rattle.std.specs.Prelude.{IfSome}
 use Rattle.std.proofs.lemmas.List.{length-take-le, take_all}
@@ -10,7 +10,6 @@ use Rattle.bufr_frame.proofs.ReachLaws.{taken_is, next_frame, stands_next, no_fr
 use Rattle.bufr_frame.proofs.ReachLaws.{held_taken}
 use Rattle.bufr_frame.proofs.framers.Framer.take_next.Goals as goal
 
--- the framer keeps at most as many octets before those held, and these are within the bounds
 pub invariant_of-self-2 : goal.invariant_of-self-2
 invariant_of-self-2 c =
     let t = c.in_ok-taking.ensures.taken in
@@ -26,7 +25,6 @@ invariant_of-self-2 c =
       short = t.short;
     }
 
--- a frame handed out is the next sure one of the stream with the octets taken in
 pub returns-clause-frame : goal.returns-clause-frame
 returns-clause-frame c =
     let t = c.in_ok-taking.ensures.taken in
@@ -41,7 +39,6 @@ returns-clause-frame c =
     (sym (taken_is piece taking.taken t.taken))
     (subst (λ w. IfSome taking.found (IsNextFrame w taken)) c.self.view_is next)
 
--- the framer then stands for that stream with one frame more handed out
 pub returns-clause-next : goal.returns-clause-next
 returns-clause-next c =
     let t = c.in_ok-taking.ensures.taken in
@@ -59,7 +56,6 @@ returns-clause-next c =
     (sym (taken_is piece taking.taken t.taken))
     (subst (λ w. IfSome taking.found (λ frame. StandsAfter w new taken 1)) c.self.view_is next)
 
--- where no frame is handed out, no further frame is sure of the stream with all of the piece
 pub returns-clause-none : goal.returns-clause-none
 returns-clause-none c = λ none.
     let t = c.in_ok-taking.ensures.taken in
@@ -77,7 +73,6 @@ returns-clause-none c = λ none.
     subst (IsNoFrame v) all (no_frame v (take taking.taken piece) held nothing) in
     subst (λ w. IsNoFrame w piece) c.self.view_is no
 
--- and the framer then stands for that stream with as many frames handed out as before
 pub returns-clause-waits : goal.returns-clause-waits
 returns-clause-waits c = λ none.
     let t = c.in_ok-taking.ensures.taken in

@@ -1,13 +1,10 @@
--- For `Words::behind_first`: a line has a first word.
 use Rattle.std.proofs.Common.{◌∙◌, List, ℕ, drop, sym, ap}
 use Rattle.bufr_listing_reader.proofs.WordFacts.{some_word}
 use Rattle.bufr_listing_reader.proofs.line_words.Words.behind_first.Goals as goal
 
--- a line is not without words
 pub returns-in-None : goal.returns-in-None
 returns-in-None c = some_word c.args.line.now (sym c.of-words.ensures ∙ c.in-None.ensures.none)
 
--- the words left behind the first are those behind it
 pub returns-in-Some : goal.returns-in-Some
 returns-in-Some c =
     sym (ap (λ (ws : List (List ℕ)). drop 1 ws) (sym c.of-words.ensures ∙ c.in-Some.ensures.some))

@@ -1,16 +1,13 @@
--- For `Words::descriptors`: each word is a descriptor, or there are none.
 use Rattle.std.proofs.Common.{◌∙◌, sym, ap, length, arith}
 use Rattle.bufr_listing_reader.specs.Words.{words_left, descriptors_of}
 use Rattle.bufr_listing_reader.proofs.WordFacts.{behind, behind_none, behind_more, behind_end}
 use Rattle.bufr_listing_reader.proofs.WordFacts.{one_descriptor, bad_descriptor, no_descriptors}
 use Rattle.bufr_listing_reader.proofs.line_words.Words.descriptors.Goals as goal
 
--- before the first word no descriptors have been read
 pub loop-word-init : goal.loop-word-init
 loop-word-init c =
     rw c.new-descriptors.ensures.items (behind_none (descriptors_of (words_left c.args.self)))
 
--- where a word is no descriptor, there are none
 pub returns-in-None : goal.returns-in-None
 returns-in-None c =
     sym (c.loop-word.invariant
@@ -18,11 +15,9 @@ returns-in-None c =
     ∙ bad_descriptor c.in-Some.word.now (words_left c.next.new.self) (sym c.from_text.ensures
     ∙ c.in-None.is)))
 
--- one word fewer is left
 pub loop-word-smaller : goal.loop-word-smaller
 loop-word-smaller c = let len = ap length c.in-Some.ensures.some in omega (arith, len)
 
--- one descriptor more was read
 pub loop-word-preserved : goal.loop-word-preserved
 loop-word-preserved c =
     c.loop-word.invariant
@@ -32,7 +27,6 @@ loop-word-preserved c =
     ∙ behind_more c.loop-word.descriptors.items c.push.new.self.items c.in-Some-from_text.fxy
     (descriptors_of (words_left c.next.new.self)) c.in_ok-push-in-Some-from_text.ensures.items
 
--- where no word is left, the descriptors are those that were read
 pub returns : goal.returns
 returns c =
     sym (c.loop-word.invariant

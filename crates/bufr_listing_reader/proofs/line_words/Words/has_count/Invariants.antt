@@ -1,8 +1,7 @@
--- For `Words::has_count`: the words that were passed so far.
 use Rattle.std.proofs.Common.{◌≡◌, ◌+◌, length}
 use Rattle.bufr_listing_reader.specs.Words.{words_left}
 use Rattle.bufr_listing_reader.proofs.line_words.Words.has_count.Given as goal
 
--- all words are those that were passed and those that are left
+-- the words passed and the words left are all words
 abbrev pub invariant-loop-i : goal.invariant-loop-i
 invariant-loop-i l = length (words_left l.fn.self) ≡ l._i + length (words_left l.self)

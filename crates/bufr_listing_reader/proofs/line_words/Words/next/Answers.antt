@@ -1,4 +1,3 @@
--- For the clause `some` of `Words::next`: the next word ends at the first space.
 use Rattle.std.proofs.Common.{◌∙◌, ◌+◌, ◌∷◌, List, ℕ, sym, ap, take, Bor}
 use Rattle.std.specs.Prelude.{option_map}
 use Rattle.bufr_listing_reader.specs.Lines.{words_of}
@@ -7,14 +6,12 @@ use Rattle.bufr_listing_reader.proofs.CursorFacts.{rest_whole}
 use Rattle.bufr_listing_reader.proofs.WordFacts.{no_space, at_space}
 use Rattle.bufr_listing_reader.proofs.line_words.Words.next.Goals as goal
 
--- a text without a space is the last word
 pub returns-in-None-clause-some : goal.returns-in-None-clause-some
 unfolding words_left
 returns-in-None-clause-some c =
     ap (λ o. words_in (option_map (λ (t : Bor (List ℕ)). t.now) o)) c.in_ok-text.was
     ∙ no_space c.in_ok-text.text.now (sym c.space_in.ensures ∙ c.in-None.is)
 
--- else the word is what stands before the space, and the others stand behind it
 pub returns-in-Some-clause-some : goal.returns-in-Some-clause-some
 unfolding words_left
 returns-in-Some-clause-some c =

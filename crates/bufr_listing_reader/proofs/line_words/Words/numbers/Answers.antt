@@ -1,4 +1,3 @@
--- For `Words::numbers`: each word is a number below its limit, or there are none.
 use Rattle.std.proofs.Common.{◌∙◌, ◌+◌, ℕ, Vec, Global, sym, ap, drop, get_or, arith}
 use Rattle.std.specs.Prelude.{Option, option_map}
 use Rattle.std.proofs.lemmas.List.{drop_more}
@@ -8,7 +7,6 @@ use Rattle.bufr_listing_reader.proofs.WordFacts.{too_few, numbers_end, numbers_o
 use Rattle.bufr_listing_reader.proofs.line_words.Words.numbers.Goals as goal
 use Rattle.bufr_listing_reader.proofs.line_words.Words.numbers.Goals.{then-is_none, else-is_none}
 
--- where a limit is left and no word, there are none
 pub returns-in_default : goal.returns-in_default
 returns-in_default c =
     let k = c.loop-limit.limit-index in
@@ -18,7 +16,6 @@ returns-in_default c =
     ((λ i. numbers_of (next i) (c.in_default.ensures.none i))
     ∙ too_few (drop (k + 1) c.args.limits.now) (get_or c.args.limits.now k 0)))
 
--- where a word is no number below its limit, there are none
 pub returns-in_default-number_below : goal.returns-in_default-number_below
 returns-in_default-number_below c =
     let k = c.loop-limit.limit-index in
@@ -30,7 +27,6 @@ returns-in_default-number_below c =
     c.in-Some.word.now (words_left c.next.new.self) (sym c.number_below.ensures
     ∙ c.in_default-number_below.is)))
 
--- one number more was read
 pub loop-limit-preserved : goal.loop-limit-preserved
 loop-limit-preserved c =
     let k = c.loop-limit.limit-index in
@@ -45,7 +41,6 @@ loop-limit-preserved c =
     (numbers_of (drop (k + 1) c.args.limits.now) (words_left c.next.new.self))
     c.in_ok-push.ensures.items
 
--- where no limit is left, the numbers are those that were read, or none if a word is left
 pub returns : goal.returns
 returns c =
     elim c.if-is_none.branch [

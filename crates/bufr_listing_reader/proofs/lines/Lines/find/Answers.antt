@@ -1,10 +1,8 @@
--- For the clauses `lines` and `past` of `Lines::find`: the next line that counts, if there is one.
 use Rattle.std.proofs.Common.{◌∙◌, ◌+◌, sym, ap, length, arith}
 use Rattle.bufr_listing_reader.specs.Cursors.{left, left_by, past, past_by}
 use Rattle.bufr_listing_reader.proofs.CursorFacts.{behind_first, no_first, skipped, counted, none_counted}
 use Rattle.bufr_listing_reader.proofs.lines.Lines.find.Goals as goal
 
--- a line that is not skipped is the first of those that count
 pub returns-then-not-is_comment-clause-lines : goal.returns-then-not-is_comment-clause-lines
 unfolding left
 returns-then-not-is_comment-clause-lines c =
@@ -15,7 +13,6 @@ returns-then-not-is_comment-clause-lines c =
     b.lines (sym c.is_comment.ensures ∙ c.if-not-is_comment.true))
     ∙ c.loop-line.invariant.counted
 
--- and the number of the last line stays
 pub returns-then-not-is_comment-clause-past : goal.returns-then-not-is_comment-clause-past
 unfolding past
 returns-then-not-is_comment-clause-past c =
@@ -24,7 +21,6 @@ returns-then-not-is_comment-clause-past c =
     let len = ap length b.lines in
     omega (arith, len, c.loop-line.invariant.last)
 
--- a line that is skipped does not count, but has its number
 pub loop-line-preserved : goal.loop-line-preserved
 loop-line-preserved c =
     let h = rw c.in-Some.is at c.first_line.ensures in
@@ -40,7 +36,6 @@ loop-line-preserved c =
       last = omega (arith, len, c.loop-line.invariant.last);
     }
 
--- where the text has no more lines, none counts
 pub returns-clause-lines : goal.returns-clause-lines
 unfolding left
 returns-clause-lines c =
@@ -50,7 +45,6 @@ returns-clause-lines c =
     (no_first c.loop-line.self.rest.now (sym h)))
     ∙ c.loop-line.invariant.counted
 
--- and the last line is the last that was found
 pub returns-clause-past : goal.returns-clause-past
 unfolding past
 returns-clause-past c =

@@ -1,11 +1,10 @@
--- For `Lines::find`: the lines that were skipped so far.
 use Rattle.std.proofs.Common.{◌≡◌, ◌+◌, length}
 use Rattle.std.specs.Str.Lines.{lines}
 use Rattle.std.specs.Prelude.{None}
 use Rattle.bufr_listing_reader.specs.Lines.{counting_from}
 use Rattle.bufr_listing_reader.proofs.lines.Lines.find.Given as goal
 
--- the lines that count and the number of the last are those of the text that is left
+-- the lines that count, and the number of the last, are those of the text left
 abbrev pub invariant-loop-line : goal.invariant-loop-line
 invariant-loop-line l = record {
   next : l.self.next ≡ None;
@@ -15,6 +14,5 @@ invariant-loop-line l = record {
       ≡ l.fn.self.found + length (lines l.fn.self.rest.now);
 }
 
--- less text is left behind each line
 abbrev pub decreases-loop-line : goal.decreases-loop-line
 decreases-loop-line l = length l.self.rest.now

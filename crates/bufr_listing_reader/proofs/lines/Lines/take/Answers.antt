@@ -1,10 +1,8 @@
--- For the clause `taken` of `Lines::take`: L1 where no line is left.
 use Rattle.std.proofs.Common.{◌∙◌, ◌+◌, sym, ap, Err}
 use Rattle.bufr_listing.specs.declared.fault.ListingFault.TheVariants.{BadLine}
 use Rattle.bufr_listing_reader.specs.Cursors.{left, left_by, past, past_by, next_of}
 use Rattle.bufr_listing_reader.proofs.lines.Lines.take.Goals as goal
 
--- where no line is left, L1 has the number after that of the text's last line
 pub returns-in-None-clause-taken : goal.returns-in-None-clause-taken
 unfolding left past
 returns-in-None-clause-taken c =

@@ -1,16 +1,13 @@
--- For `Messages::next`: the next message, or why there is none.
 use Rattle.std.proofs.Common.{◌∙◌, sym}
 use Rattle.std.proofs.lemmas.Result.{err_from_is_err_and}
 use Rattle.bufr_listing_reader.proofs.UnreadFacts.{no_line, a_line, none_left, none_handed, one_handed}
 use Rattle.bufr_listing_reader.proofs.unread.Messages.next.Goals as goal
 
--- where no line is left, nothing is
 pub returns-then-is_none : goal.returns-then-is_none
 returns-then-is_none c =
     let none = no_line _ _ _ c.peek.ensures c.is_none.ensures c.if-is_none.true in
     let is = sym c.self.view_is ∙ none_left _ _ _ none in (is, is)
 
--- where the next message has a fault, all stays as it was
 pub returns-in_err-message : goal.returns-in_err-message
 returns-in_err-message c =
     let p = err_from_is_err_and c.from_residual.result c.from_residual.ensures.1 in
@@ -18,7 +15,6 @@ returns-in_err-message c =
     (a_line _ _ _ c.peek.ensures c.is_none.ensures c.if-is_none.false)
     c.in_err-message.ensures.read)
 
--- a message that was read is the first of those that were left
 pub returns : goal.returns
 returns c =
     one_handed _ _ _ _ _ _ _ _ c.self.view_is c.in_ok-message.ensures.same

@@ -1,14 +1,13 @@
--- For `View::own`: octets whose data and sections are what is written of the one subset.
+-- The data and the sections are what `spell` writes for the one subset.
 use Rattle.std.proofs.Common.{◌≡◌, ◌∙◌, Ok, length, sym}
 use Rattle.std.proofs.lemmas.Slice.Eq.{bytes_eq-Decides}
-use Rattle.bufr_answers.specs.AnswerLaws.{not_false}
+use Rattle.bufr_base.specs.AnswerLaws.{not_false}
 use Rattle.bufr_sections.specs.declared.message.Message.{Message}
 use Rattle.bufr_sections.specs.Sections.{envelope_of}
 use Rattle.bufr_message.specs.Messages.{envelope_with}
 use Rattle.bufr_message.proofs.OwnBitsFacts.{own_told}
 use Rattle.bufr_message.proofs.message_view.View.own.Goals as goal
 
--- they are its canonical message
 pub returns-clause-is : goal.returns-clause-is
 returns-clause-is c =
     let v = c.self.inside in

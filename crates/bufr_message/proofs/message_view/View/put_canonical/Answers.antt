@@ -1,21 +1,18 @@
--- For `View::put_canonical`: what the bits of a subset spell with the parts of the view.
-use Rattle.std.proofs.Common.{◌≡◌, ◌-◌, ◌<◌, length, arith}
+-- The octets themselves, the lent bits and the copied bits each spell the report alone.
+use Rattle.std.proofs.Common.{◌≡◌, arith}
 use Rattle.std.specs.Prelude.{slice_get}
 use Rattle.bufr_sections.specs.declared.message.Message.{Message}
 use Rattle.bufr_message.proofs.OwnBitsFacts.{own_behind, put_and_filled, put_there}
 use Rattle.bufr_message.specs.Reports.{reports_of}
 use Rattle.bufr_message.proofs.message_view.View.put_canonical.Goals as goal
 
--- octets that are their own canonical message are put as they are
 pub returns-in-Some-clause-put : goal.returns-in-Some-clause-put
 returns-in-Some-clause-put c =
-    let first : c.args.number - 1 ≡ 0 =
-    omega (arith, c.in-Some.ensures.one, c.requires.first, c.requires.last) in
+    let first : c.args.index ≡ 0 = omega (arith, c.in-Some.ensures.one, c.requires) in
     rw first
     (own_behind (slice_get (reports_of c.args.self.now.message) 0) c.in-Some.own.now
     c.args.out.now.items _ c.in-Some.ensures.is c.in_ok-extend_from_slice.ensures.items)
 
--- what is put of octets that are lent is what the report spells alone
 pub returns-in-Some-lent-clause-put : goal.returns-in-Some-lent-clause-put
 returns-in-Some-lent-clause-put c =
     let v = c.self.inside in
@@ -28,14 +25,12 @@ returns-in-Some-lent-clause-put c =
       descriptors = v.descriptors.value;
       subsets = v.subsets;
     } in
-    let last = rw (← c.self.view_is) at c.requires.last in
-    let below : c.args.number - 1 < length v.subsets = omega (arith, last, c.requires.first) in
+    let below = rw (← c.self.view_is) at c.requires in
     let put = rw (c.as_slice-descriptors.ensures, c.deref.ensures) at c.put_alone.ensures.put in
     rw (← c.self.view_is)
-    (put_there m (c.args.number - 1) c.in-Some-lent.contents.now c.args.out.now.items _
+    (put_there m c.args.index c.in-Some-lent.contents.now c.args.out.now.items _
     c.put_alone.result below c.self.invariant.rooms c.in-Some-lent.ensures put)
 
--- so it is of bits that were put
 pub returns-clause-put : goal.returns-clause-put
 returns-clause-put c =
     let v = c.self.inside in
@@ -48,15 +43,14 @@ returns-clause-put c =
       descriptors = v.descriptors.value;
       subsets = v.subsets;
     } in
-    let last = rw (← c.self.view_is) at c.requires.last in
-    let below : c.args.number - 1 < length v.subsets = omega (arith, last, c.requires.first) in
+    let below = rw (← c.self.view_is) at c.requires in
     let put =
     rw (c.as_slice-descriptors.ensures, c.deref.ensures, c.deref-2.ensures.value)
     at c.put_alone-2.ensures.put in
     let held =
-    put_and_filled (slice_get v.subsets (c.args.number - 1)) c.in_ok-sink.sink c.put.new.sink
+    put_and_filled (slice_get v.subsets c.args.index) c.in_ok-sink.sink c.put.new.sink
     c.fill_octet.new.self c.into_bytes-contents.result.items c.in_ok-sink.ensures
     c.in_ok-put.ensures.put c.fill_octet.ensures.filled c.into_bytes-contents.ensures in
     rw (← c.self.view_is)
-    (put_there m (c.args.number - 1) c.into_bytes-contents.result.items c.args.out.now.items _
+    (put_there m c.args.index c.into_bytes-contents.result.items c.args.out.now.items _
     c.put_alone-2.result below c.self.invariant.rooms held put)

@@ -1,4 +1,3 @@
--- For `View::report`: the clause `under`, from the law `reports_have_canonical_messages`.
 use Rattle.std.proofs.Common.{◌-◌, ℕ, List, subst}
 use Rattle.std.specs.Prelude.{IfOk}
 use Rattle.bufr_tables.specs.Entries.{Entries}
@@ -9,7 +8,6 @@ use Rattle.bufr_message.specs.Reports.{IsUnder}
 use Rattle.bufr_message.proofs.ViewFacts.{one_report, under_answer}
 use Rattle.bufr_message.proofs.message_view.View.report.Goals as goal
 
--- a report that is built is one of the message, and has a canonical message
 pub returns-clause-under : goal.returns-clause-under
 returns-clause-under c =
     let v = c.self.inside in

@@ -1,14 +1,13 @@
--- For `after` of `MapShelf`: entries with a key come before those without.
+-- Entries with a key come before those without.
 use Rattle.std.proofs.Common.{◌∙◌, ap, sym}
 use Rattle.std.specs.Option.{option_map, option_copied}
-use Rattle.bufr_shelves.specs.Entries.{entry_after}
+use Rattle.bufr_entries.specs.Entries.{entry_after}
 use Rattle.bufr_shelves.specs.Pairs.{with_key, without_key}
 use Rattle.bufr_shelves.specs.Shelves.{lent}
 use Rattle.bufr_shelves.proofs.ShelvedLemmas.{after-keyed, after-last-key, after-unkeyed}
 use Rattle.bufr_shelves.proofs.ShelvedLemmas.{entries-are}
 use Rattle.bufr_shelves.proofs.map_shelf.MapShelfShelf.after.Goals as goal
 
--- behind an entry without key comes the next one without key
 pub returns-in_default : goal.returns-in_default
 returns-in_default c =
     c.held_without_key.ensures ∙ ap (option_map without_key) c.next_after.ensures
@@ -17,7 +16,6 @@ returns-in_default c =
     ∙ ap (λ es. entry_after es (lent c.args.held))
     (sym (entries-are c.args.self.now _ c.self.view_is c.self.invariant))
 
--- behind an entry with a key comes the one of the next key
 pub returns-in-Some-held_with_key : goal.returns-in-Some-held_with_key
 returns-in-Some-held_with_key c =
     after-keyed c.self.inside.keyed.entries c.self.inside.unkeyed.entries (lent c.args.held)
@@ -26,7 +24,6 @@ returns-in-Some-held_with_key c =
     ∙ ap (λ es. entry_after es (lent c.args.held))
     (sym (entries-are c.args.self.now _ c.self.view_is c.self.invariant))
 
--- behind the one of the last key comes the first without key
 pub returns-in-None : goal.returns-in-None
 returns-in-None c =
     c.held_without_key-in-None.ensures ∙ ap (option_map without_key) c.first_pair.ensures

@@ -1,12 +1,11 @@
--- For `get` of `MapShelf`: what has a key stands in the map of keys.
+-- Entries with a key are in the map of keys.
 use Rattle.std.proofs.Common.{◌∙◌, ap, sym}
 use Rattle.std.specs.Option.{option_map}
-use Rattle.bufr_shelves.specs.Entries.{entry_at}
+use Rattle.bufr_entries.specs.Entries.{entry_at}
 use Rattle.bufr_shelves.specs.Pairs.{with_key}
 use Rattle.bufr_shelves.proofs.ShelvedLemmas.{at-shelved, entries-are}
 use Rattle.bufr_shelves.proofs.map_shelf.MapShelfShelf.get.Goals as goal
 
--- the pair at a key is the entry that the shelf has there
 pub returns : goal.returns
 returns c =
     c.held_with_key.ensures ∙ ap (option_map with_key) c.at_key.ensures

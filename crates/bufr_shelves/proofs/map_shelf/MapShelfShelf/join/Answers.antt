@@ -1,15 +1,14 @@
--- For `join` of `MapShelf`: both maps with all pairs of the other shelf's put in.
+-- Each map takes in all pairs of the other shelf's.
 use Rattle.std.proofs.Common.{◌∙◌, ◌++◌, ap}
 use Rattle.std.specs.Ordering.{nat_cmp}
 use Rattle.std.specs.Cmp.Lexicographic.{slice_cmp}
-use Rattle.bufr_shelves.specs.Keeping.{put_all}
+use Rattle.bufr_entries.specs.Keeping.{put_all}
 use Rattle.bufr_shelves.specs.Pairs.{shelved, by_key, by_value}
-use Rattle.bufr_keys.specs.DerivedOrders.{key_order}
+use Rattle.bufr_entries.specs.DerivedOrders.{key_order}
 use Rattle.bufr_shelves.specs.Ranks.{rank_order}
 use Rattle.bufr_shelves.proofs.ShelvedLemmas.{shelved-all, kept-of, entries-join}
 use Rattle.bufr_shelves.proofs.map_shelf.MapShelfShelf.join.Goals as goal
 
--- the joined maps hold what is kept of the entries of both shelves
 pub invariant_of-self : goal.invariant_of-self
 invariant_of-self c =
     let ks = c.self.inside.keyed.entries in let us = c.self.inside.unkeyed.entries in
@@ -25,7 +24,6 @@ invariant_of-self c =
     ∙ ap (shelved (put_all (by_key key_order) (by_value rank_order) ks ls)) unkeyed
     ∙ shelved-all ks ls us vs c.self.invariant)
 
--- the shelf has what is kept of its entries and the other's
 pub returns-clause-ok : goal.returns-clause-ok
 returns-clause-ok c =
     let ks = c.self.inside.keyed.entries in let us = c.self.inside.unkeyed.entries in

@@ -1,8 +1,6 @@
--- For `at_key` of maps: what the map looks up is the first pair found at the key.
 use Rattle.bufr_shelves.proofs.PairLemmas.{find-lookup}
 use Rattle.bufr_shelves.proofs.map_shelf.raise.at_key.Goals as goal
 
--- the key and the value that the map answers are the pair at the key
 pub returns : goal.returns
 returns g c =
     find-lookup (g.K.Ord.cmp c.args.key.now) (λ p. p.0.now) (λ p. p.1.now) c.args.map.now.entries

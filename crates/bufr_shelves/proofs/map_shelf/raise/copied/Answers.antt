@@ -1,9 +1,8 @@
--- For `copied` of maps: clones of exact keys and values are the same.
+-- Clones of exact keys and values equal their sources.
 use Rattle.std.proofs.lemmas.Map.Entries.{entries_from_clone}
 use Rattle.bufr_shelves.proofs.PairLemmas.{from_match}
 use Rattle.bufr_shelves.proofs.map_shelf.raise.copied.Goals as goal
 
--- a cloned map has the same pairs
 pub returns : goal.returns
 returns g c =
     from_match c.clone.result _ _ _

@@ -1,14 +1,12 @@
--- For `next_after` of maps: the first of a range above a key.
 use Rattle.std.proofs.Common.{◌∙◌, ap}
 use Rattle.std.specs.Ordering.{is_lt}
 use Rattle.std.specs.Map.Iter.{deref_pair}
 use Rattle.std.specs.BTreeMap.Range.{range_contains}
 use Rattle.std.specs.declared.ops.Bound.TheVariants.{Excluded, Unbounded}
-use Rattle.bufr_shelves.specs.Keeping.{first_of}
+use Rattle.bufr_entries.specs.Keeping.{first_of}
 use Rattle.bufr_shelves.proofs.PairLemmas.{first-taken, find-filter, and-true}
 use Rattle.bufr_shelves.proofs.map_shelf.raise.next_after.Goals as goal
 
--- the first pair of the keys above one is the first pair whose key is greater
 pub returns : goal.returns
 returns g c =
     let cmp = g.K.Ord.cmp c.args.key.now in

@@ -1,5 +1,4 @@
--- For `raise` of maps: a value is put where it is greater than the one at its key, or none is
--- there.
+-- By cases: no value at the key, a lesser one, or one as great.
 use Rattle.std.proofs.Common.{◌≡◌, ◌∙◌, sym, ap}
 use Rattle.std.specs.Option.{option_copied}
 use Rattle.std.specs.Ordering.{is_gt}
@@ -11,14 +10,12 @@ use Rattle.bufr_shelves.proofs.PairLemmas.{only-value, no-value}
 use Rattle.bufr_shelves.proofs.map_shelf.raise.raise.Goals as goal
 use Rattle.bufr_shelves.proofs.map_shelf.raise.raise.Goals.{in-Some+else-not-greater, in_default}
 
--- a value that is not greater than the one at its key changes nothing
 pub returns-then-not-greater-clause-changed : goal.returns-then-not-greater-clause-changed
 returns-then-not-greater-clause-changed g c =
     changes_old g.K.Ord.cmp g.V.Ord.cmp c.args.key c.args.value c.in-Some.old.now
     c.args.map.now.entries (sym c.in-Some.ensures.value)
     (ap is_gt (sym c.cmp.ensures) ∙ sym c.is_gt-greater.ensures ∙ c.if-not-greater.true)
 
--- and the pairs stay as they are
 pub returns-then-not-greater-clause-ok : goal.returns-then-not-greater-clause-ok
 returns-then-not-greater-clause-ok g c =
     sym (put-same g.K.Ord.cmp g.V.Ord.cmp g.met.K.Ord.total c.args.key c.args.value
@@ -26,7 +23,6 @@ returns-then-not-greater-clause-ok g c =
     (sym c.in-Some.ensures.value)
     (ap is_gt (sym c.cmp.ensures) ∙ sym c.is_gt-greater.ensures ∙ c.if-not-greater.true))
 
--- a value that is greater, or the first at its key, changes the pairs
 pub returns-clause-changed : goal.returns-clause-changed
 returns-clause-changed g c =
     changes_new g.K.Ord.cmp g.V.Ord.cmp g.met.K.Ord.total c.args.key c.args.value
@@ -42,7 +38,6 @@ returns-clause-changed g c =
           (sym (ap option_copied w.in_default.is) ∙ c.get.ensures.value)
     ])
 
--- and stands at its key
 pub returns-clause-ok : goal.returns-clause-ok
 returns-clause-ok g c =
     c.in_ok-insert.ensures.entries

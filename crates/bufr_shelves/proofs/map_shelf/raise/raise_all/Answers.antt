@@ -1,12 +1,10 @@
--- For `raise_all` of maps: pair by pair.
 use Rattle.std.proofs.Common.{◌∙◌, ap, sym, map}
 use Rattle.std.specs.Map.Iter.{deref_pair}
-use Rattle.bufr_shelves.specs.Keeping.{put_by, put_all}
+use Rattle.bufr_entries.specs.Keeping.{put_by, put_all}
 use Rattle.bufr_shelves.specs.Pairs.{by_key, by_value}
 use Rattle.bufr_shelves.proofs.PairLemmas.{put_all-push, map-push}
 use Rattle.bufr_shelves.proofs.map_shelf.raise.raise_all.Goals as goal
 
--- with one pair more put, the map has all pairs so far put in
 pub loop-key-preserved : goal.loop-key-preserved
 loop-key-preserved g c =
     let slot = by_key g.K.Ord.cmp in let rank = by_value g.V.Ord.cmp in

@@ -1,7 +1,7 @@
--- For `after` of `SortedShelf`: entries with a key come before those without.
+-- Entries with a key come before those without.
 use Rattle.std.proofs.Common.{◌∙◌, ap, sym}
 use Rattle.std.specs.Option.{option_map, option_copied}
-use Rattle.bufr_shelves.specs.Entries.{entry_after}
+use Rattle.bufr_entries.specs.Entries.{entry_after}
 use Rattle.bufr_shelves.specs.Pairs.{with_key, without_key}
 use Rattle.bufr_shelves.specs.Shelves.{lent}
 use Rattle.bufr_shelves.proofs.ShelvedLemmas.{after-keyed, after-last-key, after-unkeyed}
@@ -9,7 +9,6 @@ use Rattle.bufr_shelves.proofs.ShelvedLemmas.{entries-are}
 use Rattle.bufr_shelves.proofs.ShelvedLemmas.{sorted-keyed, sorted-unkeyed}
 use Rattle.bufr_shelves.proofs.sorted_shelf.SortedShelfShelf.after.Goals as goal
 
--- behind an entry without key comes the next one without key
 pub returns-in_default : goal.returns-in_default
 returns-in_default c =
     c.held_without_key.ensures ∙ ap (option_map without_key) c.next_after.ensures
@@ -18,7 +17,6 @@ returns-in_default c =
     ∙ ap (λ es. entry_after es (lent c.args.held))
     (sym (entries-are c.args.self.now _ c.self.view_is c.self.invariant))
 
--- behind an entry with a key comes the one of the next key
 pub returns-in-Some-held_with_key : goal.returns-in-Some-held_with_key
 returns-in-Some-held_with_key c =
     after-keyed c.self.inside.keyed.items c.self.inside.unkeyed.items (lent c.args.held)
@@ -27,7 +25,6 @@ returns-in-Some-held_with_key c =
     ∙ ap (λ es. entry_after es (lent c.args.held))
     (sym (entries-are c.args.self.now _ c.self.view_is c.self.invariant))
 
--- behind the one of the last key comes the first without key
 pub returns-in-None : goal.returns-in-None
 returns-in-None c =
     c.held_without_key-in-None.ensures ∙ ap (option_map without_key) c.first_pair.ensures
@@ -37,12 +34,10 @@ returns-in-None c =
     ∙ ap (λ es. entry_after es (lent c.args.held))
     (sym (entries-are c.args.self.now _ c.self.view_is c.self.invariant))
 
--- the pairs without key are in order
 pub next_after-requires : goal.next_after-requires
 next_after-requires c =
     sorted-unkeyed c.self.inside.keyed.items c.self.inside.unkeyed.items c.self.invariant
 
--- the pairs with a key are in order
 pub next_after-requires-2 : goal.next_after-requires-2
 next_after-requires-2 c =
     sorted-keyed c.self.inside.keyed.items c.self.inside.unkeyed.items c.self.invariant

@@ -1,13 +1,12 @@
--- For `get` of `SortedShelf`: what has a key stands in the vector of keys.
+-- Entries with a key are in the vector of keys.
 use Rattle.std.proofs.Common.{◌∙◌, ap, sym}
 use Rattle.std.specs.Option.{option_map}
-use Rattle.bufr_shelves.specs.Entries.{entry_at}
+use Rattle.bufr_entries.specs.Entries.{entry_at}
 use Rattle.bufr_shelves.specs.Pairs.{with_key}
 use Rattle.bufr_shelves.proofs.ShelvedLemmas.{at-shelved, entries-are}
 use Rattle.bufr_shelves.proofs.ShelvedLemmas.{sorted-keyed}
 use Rattle.bufr_shelves.proofs.sorted_shelf.SortedShelfShelf.get.Goals as goal
 
--- the pair at a key is the entry that the shelf has there
 pub returns : goal.returns
 returns c =
     c.held_with_key.ensures ∙ ap (option_map with_key) c.at_key.ensures
@@ -15,7 +14,6 @@ returns c =
     ∙ ap (λ es. entry_at es c.args.key.now) (sym
     (entries-are c.args.self.now _ c.self.view_is c.self.invariant))
 
--- the pairs with a key are in order
 pub at_key-requires : goal.at_key-requires
 at_key-requires c =
     sorted-keyed c.self.inside.keyed.items c.self.inside.unkeyed.items c.self.invariant

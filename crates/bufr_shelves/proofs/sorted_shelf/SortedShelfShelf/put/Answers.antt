@@ -1,24 +1,21 @@
--- For `put` of `SortedShelf`: an entry with a key and one without, each in its vector.
+-- An entry goes into the vector of its kind.
 use Rattle.bufr_shelves.proofs.PutLemmas.{keyed-stays, unkeyed-stays, keyed-changes}
 use Rattle.bufr_shelves.proofs.PutLemmas.{unkeyed-changes, keyed-put, unkeyed-put}
 use Rattle.bufr_shelves.proofs.ShelvedLemmas.{sorted-keyed, sorted-unkeyed}
 use Rattle.bufr_shelves.proofs.sorted_shelf.SortedShelfShelf.put.Goals as goal
 
--- with a pair put among those with a key the shelf stays in order
 pub invariant_of-self : goal.invariant_of-self
 invariant_of-self c =
     keyed-stays c.raise.result c.self.inside.keyed.items c.self.inside.unkeyed.items
     c.raise.new.pairs.items (c.in-Some.key, record { update = c.args.update; bytes = c.args.bytes })
     c.self.invariant c.raise.ensures.ok c.raise.ensures.err
 
--- with a pair put among those without a key the shelf stays in order
 pub invariant_of-self-in-None : goal.invariant_of-self-in-None
 invariant_of-self-in-None c =
     unkeyed-stays c.raise-in-None.result c.self.inside.keyed.items c.self.inside.unkeyed.items
     c.raise-in-None.new.pairs.items (c.args.bytes, c.args.update)
     c.self.invariant c.raise-in-None.ensures.ok c.raise-in-None.ensures.err
 
--- whether an entry with a key changes the shelf, its vector tells
 pub returns-in-Some-clause-changed : goal.returns-in-Some-clause-changed
 returns-in-Some-clause-changed c =
     keyed-changes c.raise.result c.self.inside.keyed.items c.self.inside.unkeyed.items
@@ -26,7 +23,6 @@ returns-in-Some-clause-changed c =
     (c.in-Some.key, record { update = c.args.update; bytes = c.args.bytes })
     c.in-Some.is c.raise.ensures.changed
 
--- an entry with a key is put where its vector puts its pair
 pub returns-in-Some-clause-ok : goal.returns-in-Some-clause-ok
 returns-in-Some-clause-ok c =
     keyed-put c.raise.result c.self.inside.keyed.items c.self.inside.unkeyed.items
@@ -34,14 +30,12 @@ returns-in-Some-clause-ok c =
     (c.in-Some.key, record { update = c.args.update; bytes = c.args.bytes })
     c.self.invariant c.in-Some.is c.raise.ensures.ok
 
--- whether an entry without key changes the shelf, its vector tells
 pub returns-in-None-clause-changed : goal.returns-in-None-clause-changed
 returns-in-None-clause-changed c =
     unkeyed-changes c.raise-in-None.result c.self.inside.keyed.items c.self.inside.unkeyed.items
     c.args.self.now c.self.view_is c.args.key (c.args.bytes, c.args.update)
     c.in-None.is c.raise-in-None.ensures.changed
 
--- an entry without key is put where its vector puts its pair
 pub returns-in-None-clause-ok : goal.returns-in-None-clause-ok
 returns-in-None-clause-ok c =
     unkeyed-put c.raise-in-None.result c.self.inside.keyed.items c.self.inside.unkeyed.items
@@ -49,12 +43,10 @@ returns-in-None-clause-ok c =
     (c.args.bytes, c.args.update)
     c.self.invariant c.in-None.is c.raise-in-None.ensures.ok
 
--- the pairs with a key are in order
 pub raise-requires : goal.raise-requires
 raise-requires c =
     sorted-keyed c.self.inside.keyed.items c.self.inside.unkeyed.items c.self.invariant
 
--- the pairs without key are in order
 pub raise-requires-in-None : goal.raise-requires-in-None
 raise-requires-in-None c =
     sorted-unkeyed c.self.inside.keyed.items c.self.inside.unkeyed.items c.self.invariant

@@ -1,15 +1,14 @@
--- For `merge`: two lists in order that are merged are the one with all pairs of the other put in.
+-- A merge of lists in order puts all pairs of one into the other.
 use Rattle.std.proofs.Common.{◌≡◌, ◌∙◌, ◌++◌, [], reverse, sym, ap}
 use Rattle.std.proofs.lemmas.List.{append-nil}
 use Rattle.std.proofs.lemmas.Cmp.{on_total}
 use Rattle.std.specs.Option.{option_to_list}
-use Rattle.bufr_shelves.specs.Merging.{merged}
+use Rattle.bufr_entries.specs.Merging.{merged}
 use Rattle.bufr_shelves.specs.Pairs.{by_key, by_value}
 use Rattle.bufr_shelves.proofs.PairLemmas.{if-none}
 use Rattle.bufr_shelves.proofs.SortedLemmas.{merged-put_all, sorted-pairs}
 use Rattle.bufr_shelves.proofs.sorted_shelf.merge.merge.Goals as goal
 
--- once both vectors are empty, the room has the pairs of the one with the other's put in
 pub returns : goal.returns
 returns g c =
     let slot = by_key g.K.Ord.cmp in let rank = by_value g.V.Ord.cmp in

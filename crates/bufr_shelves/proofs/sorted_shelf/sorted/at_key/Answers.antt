@@ -1,16 +1,13 @@
--- For `at_key` of vectors: the pair at the place where a key stands.
 use Rattle.std.proofs.Common.{◌∙◌, ap, sym}
 use Rattle.bufr_shelves.proofs.SortedLemmas.{find-place, at_place}
 use Rattle.bufr_shelves.proofs.sorted_shelf.sorted.at_key.Goals as goal
 
--- the pair at the place of a key is the one found at the key
 pub returns-in-Ok : goal.returns-in-Ok
 returns-in-Ok g c =
     c.pair_at.ensures ∙ ap (λ r. at_place r c.args.pairs.now.items) c.in-Ok.ensures.place
     ∙ sym (find-place g.K.Ord.cmp g.met.K.Ord.total c.args.key.now c.args.pairs.now.items
     c.requires)
 
--- of a key that has only a place to go none is found
 pub returns-in-Err : goal.returns-in-Err
 returns-in-Err g c =
     ap (λ r. at_place r c.args.pairs.now.items) c.in-Err.ensures.place

@@ -1,9 +1,8 @@
--- For `next_after` of vectors: the pair behind the place where a key stands or would go.
+-- The pair after the index of the key.
 use Rattle.std.proofs.Common.{◌∙◌, ap, sym, slice_get, add-one}
 use Rattle.bufr_shelves.proofs.SortedLemmas.{next-place, after_place}
 use Rattle.bufr_shelves.proofs.sorted_shelf.sorted.next_after.Goals as goal
 
--- behind the place of a key stands the first pair whose key is greater
 pub returns-in-Ok : goal.returns-in-Ok
 returns-in-Ok g c =
     c.pair_at.ensures ∙ ap (slice_get c.args.pairs.now.items) (add-one c.in-Ok.index)
@@ -11,7 +10,6 @@ returns-in-Ok g c =
     ∙ sym (next-place g.K.Ord.cmp g.met.K.Ord.total c.args.key.now c.args.pairs.now.items
     c.requires)
 
--- where a key would go stands the first pair whose key is greater
 pub returns-in-Err : goal.returns-in-Err
 returns-in-Err g c =
     c.pair_at-in-Err.ensures ∙ ap (λ r. after_place r c.args.pairs.now.items) c.in-Err.ensures.place

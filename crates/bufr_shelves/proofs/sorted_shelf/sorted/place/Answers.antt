@@ -1,4 +1,4 @@
--- For `place`: each round of the binary search halves what is left.
+-- Each round halves the pairs between the bounds.
 use Rattle.std.proofs.Common.{◌≡◌, ◌∙◌, ◌+◌, ◌-◌, ◌/◌, ◌<◌, ◌≤◌, length, drop, Some, slice_get}
 use Rattle.std.proofs.Common.{refl, sym, ap, subst, arith}
 use Rattle.std.proofs.lemmas.Option.{slice_get_read}
@@ -7,7 +7,6 @@ use Rattle.std.specs.declared.cmp.Ordering.TheVariants.{Less}
 use Rattle.bufr_shelves.proofs.SortedLemmas.{narrow_up, narrow_down, place_equal, place_between}
 use Rattle.bufr_shelves.proofs.sorted_shelf.sorted.place.Goals as goal
 
--- below the middle the search goes on in the lower half
 pub loop-low-preserved-in-Less : goal.loop-low-preserved-in-Less
 loop-low-preserved-in-Less g c =
     let items = c.args.pairs.now.items in
@@ -21,7 +20,6 @@ loop-low-preserved-in-Less g c =
     c.loop-low.high c.index.result.now c.requires c.loop-low.invariant (omega arith) lt here
     (sym (c.in-Less.ensures ∙ ap (g.K.Ord.cmp c.args.key.now) c.key.ensures))
 
--- a middle with the same key is the place of the key
 pub returns-in-Equal-clause-place : goal.returns-in-Equal-clause-place
 returns-in-Equal-clause-place g c =
     let items = c.args.pairs.now.items in
@@ -33,7 +31,6 @@ returns-in-Equal-clause-place g c =
     sym (place_equal g.K.Ord.cmp g.met.K.Ord.total c.args.key.now items middle c.index.result.now
     c.requires here (sym (c.in-Equal.ensures ∙ ap (g.K.Ord.cmp c.args.key.now) c.key.ensures)))
 
--- above the middle it goes on in the upper half
 pub loop-low-preserved : goal.loop-low-preserved
 loop-low-preserved g c =
     let items = c.args.pairs.now.items in
@@ -47,7 +44,6 @@ loop-low-preserved g c =
     c.loop-low.high c.index.result.now c.requires c.loop-low.invariant lt here
     (sym (c.in-Greater.ensures ∙ ap (g.K.Ord.cmp c.args.key.now) c.key.ensures))
 
--- where nothing is left between the bounds, the key would go there
 pub returns-clause-place : goal.returns-clause-place
 returns-clause-place g c =
     let items = c.args.pairs.now.items in

@@ -1,9 +1,8 @@
--- For `place`: what its loop keeps, and why it ends.
 use Rattle.std.proofs.Common.{◌-◌}
 use Rattle.bufr_shelves.proofs.SortedLemmas.{Narrowed}
 use Rattle.bufr_shelves.proofs.sorted_shelf.sorted.place.Given as goal
 
--- the key is above all pairs before the lower bound, and below all from the upper one on
+-- the key is after all pairs below `low`, and before all from `high` on
 abbrev pub invariant-loop-low : goal.invariant-loop-low
 invariant-loop-low g l = Narrowed (g.K.Ord.cmp l.key) l.pairs.items l.low l.high
 

@@ -1,4 +1,4 @@
--- For `place_from_end`: a key above the last one goes behind all.
+-- A key above the last one goes after all.
 use Rattle.std.proofs.Common.{◌≡◌, ◌∙◌, ◌+◌, ◌-◌, ◌<◌, ◌≤◌, length, get_or, take, drop, Some, Err}
 use Rattle.std.proofs.Common.{slice_get, refl, sym, ap, subst, arith}
 use Rattle.std.proofs.Math.Seq.{drop-length}
@@ -8,7 +8,6 @@ use Rattle.std.specs.declared.cmp.Ordering.TheVariants.{Less, Greater}
 use Rattle.bufr_shelves.proofs.SortedLemmas.{narrow_up, place_between}
 use Rattle.bufr_shelves.proofs.sorted_shelf.sorted.place_from_end.Goals as goal
 
--- nothing stands behind the last pair, and the key is above it and all before it
 pub returns-in-Greater-clause-place : goal.returns-in-Greater-clause-place
 returns-in-Greater-clause-place g c =
     let items = c.args.pairs.now.items in

@@ -1,5 +1,4 @@
--- For `raise` of vectors: a value is put where it is greater than the one at its key, or none is
--- there.
+-- By cases: no value at the key, a lesser one, or one as great.
 use Rattle.std.proofs.Common.{◌≡◌, ◌∙◌, sym, ap, set, arith}
 use Rattle.std.specs.List.{insert}
 use Rattle.std.specs.Ordering.{is_gt}
@@ -11,7 +10,6 @@ use Rattle.bufr_shelves.proofs.PairLemmas.{only-value, no-value}
 use Rattle.bufr_shelves.proofs.SortedLemmas.{lookup_there, lookup_nowhere, insert-place, put_at}
 use Rattle.bufr_shelves.proofs.sorted_shelf.sorted.raise.Goals as goal
 
--- a value that is not greater than the one at its key changes nothing
 pub returns-then-not-greater-clause-changed : goal.returns-then-not-greater-clause-changed
 returns-then-not-greater-clause-changed g c =
     let items = c.args.pairs.now.items in let cmp = g.K.Ord.cmp in
@@ -22,7 +20,6 @@ returns-then-not-greater-clause-changed g c =
     (ap is_gt (sym (c.cmp.ensures ∙ ap (g.V.Ord.cmp c.args.value) c.value.ensures))
     ∙ sym c.is_gt-greater.ensures ∙ c.if-not-greater.true)
 
--- and the pairs stay as they are
 pub returns-then-not-greater-clause-ok : goal.returns-then-not-greater-clause-ok
 returns-then-not-greater-clause-ok g c =
     let items = c.args.pairs.now.items in let cmp = g.K.Ord.cmp in
@@ -34,7 +31,6 @@ returns-then-not-greater-clause-ok g c =
     (ap is_gt (sym (c.cmp.ensures ∙ ap (g.V.Ord.cmp c.args.value) c.value.ensures))
     ∙ sym c.is_gt-greater.ensures ∙ c.if-not-greater.true))
 
--- a value that is greater than the one at its key changes the pairs
 pub returns-else-not-greater-clause-changed : goal.returns-else-not-greater-clause-changed
 returns-else-not-greater-clause-changed g c =
     let items = c.args.pairs.now.items in let cmp = g.K.Ord.cmp in
@@ -47,7 +43,6 @@ returns-else-not-greater-clause-changed g c =
     (gt-is _ (ap is_gt (sym (c.cmp.ensures ∙ ap (g.V.Ord.cmp c.args.value) c.value.ensures))
     ∙ sym c.is_gt-greater.ensures ∙ c.if-not-greater.false)))
 
--- and takes its place
 pub returns-else-not-greater-clause-ok : goal.returns-else-not-greater-clause-ok
 returns-else-not-greater-clause-ok g c =
     let items = c.args.pairs.now.items in let cmp = g.K.Ord.cmp in
@@ -63,7 +58,6 @@ returns-else-not-greater-clause-ok g c =
     ∙ insert-place cmp g.met.K.Ord.total g.met.K.Exact.exact c.args.key c.args.value items
     ∙ ap (λ r. put_at r items (c.args.key, c.args.value)) (sym c.in-Ok.ensures.place))
 
--- a value at a key that has none changes the pairs
 pub returns-in_ok-insert-in-Err-clause-changed : goal.returns-in_ok-insert-in-Err-clause-changed
 returns-in_ok-insert-in-Err-clause-changed g c =
     let items = c.args.pairs.now.items in let cmp = g.K.Ord.cmp in
@@ -72,7 +66,6 @@ returns-in_ok-insert-in-Err-clause-changed g c =
     (sym (lookup_nowhere cmp g.met.K.Ord.total c.args.key items c.requires c.in-Err.index
     c.in-Err.ensures.place)))
 
--- and is put where the key would go
 pub returns-in_ok-insert-in-Err-clause-ok : goal.returns-in_ok-insert-in-Err-clause-ok
 returns-in_ok-insert-in-Err-clause-ok g c =
     let items = c.args.pairs.now.items in let cmp = g.K.Ord.cmp in

@@ -1,4 +1,4 @@
--- For `TableB::add`: an equal element, a differing one, or none of this descriptor is there.
+-- The table has an equal element, a different one or none at the descriptor.
 use Rattle.std.proofs.Common.{◌∙◌, sym, ap, Ok, Result, List, ℕ}
 use Rattle.bufr_tables.specs.declared.element.Element.{Element}
 use Rattle.bufr_tables.specs.declared.table_faults.TableFault.{TableFault}
@@ -8,7 +8,6 @@ use Rattle.bufr_tables.specs.EntryLaws.{Rising-insert}
 use Rattle.bufr_tables.proofs.TableFacts.{NoCounts-insert}
 use Rattle.bufr_tables.proofs.table_b.TableB.add.Goals as goal
 
--- an element that is there already leaves the table as it is
 pub returns-then-eq : goal.returns-then-eq
 returns-then-eq c =
     rw (← c.self.view_is)
@@ -16,7 +15,6 @@ returns-then-eq c =
     (at-lookup c.args.fxy c.self.inside.rows.entries ∙ sym c.in-Some.ensures.value)
     (sym c.if-eq.ensures))
 
--- another element of the descriptor is a conflict
 pub returns-in-Some : goal.returns-in-Some
 returns-in-Some c =
     rw (← c.self.view_is)
@@ -24,7 +22,6 @@ returns-in-Some c =
     (at-lookup c.args.fxy c.self.inside.rows.entries ∙ sym c.in-Some.ensures.value)
     (sym c.if-eq.ensures))
 
--- with one more element the table is in rising order, and no element is a count
 pub invariant_of-self-2 : goal.invariant_of-self-2
 invariant_of-self-2 c =
     rw c.in_ok-insert.ensures.entries (
@@ -33,7 +30,6 @@ invariant_of-self-2 c =
           c.self.invariant.1,
     )
 
--- a new descriptor adds its element
 pub returns : goal.returns
 returns c =
     rw (← c.self.view_is)

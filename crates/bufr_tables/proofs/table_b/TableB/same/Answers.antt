@@ -1,10 +1,9 @@
--- For `TableB::same`: equality of maps decides that of their entries.
+-- Maps are equal exactly if their entries are.
 use Rattle.std.specs.Cmp.{unsigned_Decides}
 use Rattle.std.proofs.lemmas.Map.Lookups.{btree_map_eq-Decides}
 use Rattle.bufr_tables.proofs.TableFacts.{element_eq-Decides}
 use Rattle.bufr_tables.proofs.table_b.TableB.same.Goals as goal
 
--- maps that compare as equal have the same elements, and the same elements compare as equal
 pub returns : goal.returns
 returns c =
     rw (← c.self.view_is, ← c.other.view_is)

@@ -1,10 +1,8 @@
--- For `TableD::same`: equality of maps decides that of their entries.
 use Rattle.std.specs.Cmp.{unsigned_Decides}
 use Rattle.std.proofs.lemmas.Map.Lookups.{btree_map_eq-Decides}
 use Rattle.std.proofs.lemmas.Slice.Eq.{bytes_eq-Decides}
 use Rattle.bufr_tables.proofs.table_d.TableD.same.Goals as goal
 
--- maps that compare as equal have the same sequences, and the same sequences compare as equal
 pub returns : goal.returns
 returns c =
     rw (← c.self.view_is, ← c.other.view_is)

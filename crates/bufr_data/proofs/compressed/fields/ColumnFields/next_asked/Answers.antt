@@ -1,18 +1,14 @@
--- For `ColumnFields::next_asked`: each turn passes one field more, and the first behind them is
--- handed out.
 use Rattle.std.proofs.Common.{sym, subst}
 use Rattle.std.proofs.lemmas.Result.{IfOk-weaker}
 use Rattle.bufr_data.specs.Handed.{PassesUnasked, FirstIsAsked}
 use Rattle.bufr_data.proofs.AskedFacts.{one_passed, asked_handed}
 use Rattle.bufr_data.proofs.compressed.fields.ColumnFields.next_asked.Goals as goal
 
--- none of those that were passed is asked for
 pub loop-preserved : goal.loop-preserved
 loop-preserved g c =
     one_passed g.A.Asks.is_asked c.args.self.now c.loop.self c.pass_first.new.self
     c.loop.invariant c.loop-test.ensures.passed
 
--- it is asked for, or none is left
 pub returns : goal.returns
 returns g c =
     let same = sym c.loop-test.ensures.unmoved in

@@ -1,9 +1,8 @@
--- For `PlainFields::next_asked`: a field that is not asked for is let go, one more of those passed.
+-- A field that is not chosen is one more of those skipped.
 use Rattle.std.proofs.Common.{refl, sym, ◌∙◌}
 use Rattle.bufr_data.proofs.AskedFacts.{none_ahead, one_passed}
 use Rattle.bufr_data.proofs.plain.fields.PlainFields.next_asked.Goals as goal
 
--- where the walk tells of all fields that are left, none of them is asked for
 pub returns-then-tells_no_more : goal.returns-then-tells_no_more
 returns-then-tells_no_more g c = (
   none_ahead g.A.Asks.is_asked c.self.inside.done c.self.inside.walk c.self.inside.reader
@@ -11,14 +10,12 @@ returns-then-tells_no_more g c = (
   refl,
 )
 
--- none of those that were passed is asked for
 pub loop-field-preserved-else-asks : goal.loop-field-preserved-else-asks
 loop-field-preserved-else-asks g c =
     let first = rw c.in-Some.is at c.in_ok-field.ensures in
     one_passed g.A.Asks.is_asked c.args.self.now c.loop-field.self c.next.new.self
     c.loop-field.invariant (c.in-Some.field, sym c.asks.ensures ∙ c.if-asks.false, first)
 
--- so too where it was moved on
 pub loop-field-preserved : goal.loop-field-preserved
 loop-field-preserved g c =
     let first = rw c.in-Some.is at c.in_ok-field.ensures in

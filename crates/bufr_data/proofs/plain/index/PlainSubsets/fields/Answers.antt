@@ -1,5 +1,5 @@
--- For `PlainSubsets::fields`: the start of a number is that of the subset at its place.
-use Rattle.std.proofs.Common.{◌≡◌, ◌-◌, ◌∙◌, ap, sym, subst}
+-- The start of a number is that of its subset.
+use Rattle.std.proofs.Common.{◌≡◌, ◌∙◌, ap, sym, subst}
 use Rattle.std.specs.Prelude.{IsOk}
 use Rattle.bufr_bits.specs.Ends.{BitPlace, left}
 use Rattle.bufr_expand.specs.Courses.{course}
@@ -12,7 +12,6 @@ use Rattle.bufr_data.proofs.PlainFacts.Shown.{begins_there, fields_shown}
 use Rattle.bufr_fields.specs.StepLaws.{ready_there}
 use Rattle.bufr_data.proofs.plain.index.PlainSubsets.fields.Goals as goal
 
--- where its fields are laid out, they are there
 pub invariant_of-laid : goal.invariant_of-laid
 invariant_of-laid c =
     let laid = rw c.in-Some.is at c.self.invariant.1 in
@@ -20,9 +19,8 @@ invariant_of-laid c =
     (laid_here c.self.inside.octets.now c.self.inside.template c.at-start.result
     c.in-Some.layout.value c.deref.result.now c.deref-in-Some.result.now c.deref.ensures
     c.deref-in-Some.ensures laid c.if-has_room.ensures
-    (begins_there _ _ _ (c.args.number - 1) _ c.self.invariant.0 c.at-start.ensures)).there
+    (begins_there _ _ _ c.args.index _ c.self.invariant.0 c.at-start.ensures)).there
 
--- and they are those of this subset
 pub returns-in-Some : goal.returns-in-Some
 returns-in-Some c =
     let laid = rw c.in-Some.is at c.self.invariant.1 in
@@ -32,18 +30,16 @@ returns-in-Some c =
     (laid_here c.self.inside.octets.now c.self.inside.template c.at-start.result
     c.in-Some.layout.value c.deref.result.now c.deref-in-Some.result.now c.deref.ensures
     c.deref-in-Some.ensures laid c.if-has_room.ensures
-    (begins_there _ _ _ (c.args.number - 1) _ c.self.invariant.0 c.at-start.ensures)).are in
+    (begins_there _ _ _ c.args.index _ c.self.invariant.0 c.at-start.ensures)).are in
     fields_shown c.self.inside.octets.now c.self.inside.template c.self.inside.starts
-    c.args.self.now (c.args.number - 1) c.at-start.result
+    c.args.self.now c.args.index c.at-start.result
     (fields_laid c.as_slice-fields.result.now c.at-reader.result) c.self.view_is
     c.at-start.ensures are
 
--- a subset begins where the walk over it does
 pub at-reader-requires-in_default : goal.at-reader-requires-in_default
 at-reader-requires-in_default c =
-    (begins_there _ _ _ (c.args.number - 1) _ c.self.invariant.0 c.at-start.ensures).0
+    (begins_there _ _ _ c.args.index _ c.self.invariant.0 c.at-start.ensures).0
 
--- the walk can go on, and all fields of the subset are there
 pub invariant_of-met : goal.invariant_of-met
 invariant_of-met c =
     let walk = c.in_ok-walk-in_default.walk in
@@ -57,10 +53,9 @@ invariant_of-met c =
       ready_there _ _ _ c.in_ok-walk-in_default.ensures.answered
           c.in_ok-walk-in_default.ensures.items c.in_ok-walk-in_default.ensures.course,
       subst IsOk (sym here)
-          (begins_there _ _ _ (c.args.number - 1) _ c.self.invariant.0 c.at-start.ensures).1,
+          (begins_there _ _ _ c.args.index _ c.self.invariant.0 c.at-start.ensures).1,
     )
 
--- the fields that the walk meets are those of this subset
 pub returns-in_ok-walk-in_default : goal.returns-in_ok-walk-in_default
 returns-in_ok-walk-in_default c =
     let walk = c.in_ok-walk-in_default.walk in
@@ -72,6 +67,6 @@ returns-in_ok-walk-in_default c =
     (course c.self.inside.template c.at-start.result.used) (left r))
     c.at-reader-in_default.ensures in
     fields_shown c.self.inside.octets.now c.self.inside.template c.self.inside.starts
-    c.args.self.now (c.args.number - 1) c.at-start.result
+    c.args.self.now c.args.index c.at-start.result
     (fields_of (fields_at 1 1 (walks.left walk) (left c.at-reader-in_default.result)))
     c.self.view_is c.at-start.ensures (ap fields_of here)

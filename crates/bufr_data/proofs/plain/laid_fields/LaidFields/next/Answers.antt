@@ -1,26 +1,21 @@
--- For `LaidFields::next`: the first field that is laid out is read and handed out.
 use Rattle.std.proofs.Common.{[], refl, sym, ◌∙◌}
 use Rattle.bufr_data.proofs.PlainFacts.Layouts.{none_left, first_handed}
 use Rattle.bufr_data.proofs.plain.laid_fields.LaidFields.next.Goals as goal
 
--- where none is laid out none is left
 pub returns-in_default : goal.returns-in_default
 returns-in_default c =
     let none = none_left c.self.inside.fields.now c.self.inside.reader c.in_default.ensures.cases in
     let empty = sym c.self.view_is ∙ none.1 in (empty, empty)
 
--- behind the field all others are there
 pub invariant_of-self : goal.invariant_of-self
 invariant_of-self c =
     (first_handed c.self.inside.fields.now c.in-Some.others.now c.in-Some.field.now
     c.self.inside.reader c.read_raw.new.reader c.in-Ok.raw c.in-Some.ensures.cases.0
     c.self.invariant c.in-Ok.ensures.exact).there
 
--- where memory runs out none is left
 pub invariant_of-self-in-Err : goal.invariant_of-self-in-Err
 invariant_of-self-in-Err c = (none_left [] c.read_raw.new.reader refl).0
 
--- the field is the first, and the others are left
 pub returns-in-Ok : goal.returns-in-Ok
 returns-in-Ok c =
     rw c.by_parts.ensures

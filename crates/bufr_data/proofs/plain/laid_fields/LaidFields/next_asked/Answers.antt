@@ -1,9 +1,7 @@
--- For `LaidFields::next_asked`: the first behind those that were passed is handed out.
 use Rattle.std.proofs.lemmas.Result.{IfOk-weaker}
 use Rattle.bufr_data.proofs.AskedFacts.{asked_handed}
 use Rattle.bufr_data.proofs.plain.laid_fields.LaidFields.next_asked.Goals as goal
 
--- it is asked for, or none is left
 pub returns : goal.returns
 returns g c =
     IfOk-weaker c.next.result _ _

@@ -1,5 +1,4 @@
--- For `LaidFields::next_asked_number`: the first behind those that were passed is handed out where it
--- is a number.
+-- The first chosen field is handed out if it is a number.
 use Rattle.std.proofs.Common.{Some, sym, subst, ◌∙◌}
 use Rattle.bufr_fields.specs.declared.field.Raw.TheVariants.{Number}
 use Rattle.bufr_fields.specs.declared.field.NumberField.{NumberField}
@@ -9,21 +8,18 @@ use Rattle.bufr_data.proofs.AskedFacts.{asked_handed}
 use Rattle.bufr_data.proofs.PlainFacts.Layouts.{first_handed, first_there}
 use Rattle.bufr_data.proofs.plain.laid_fields.LaidFields.next_asked_number.Goals as goal
 
--- the field is there
 pub read_number-requires : goal.read_number-requires
 read_number-requires g c =
     first_there c.in-Some.others.now c.in-Some.field.now c.self.inside.reader
     (subst (λ fields. StandLaid fields c.self.inside.reader) c.in-Some.ensures.cases.0
     c.self.invariant)
 
--- behind the field all others are there
 pub invariant_of-self-2 : goal.invariant_of-self-2
 invariant_of-self-2 g c =
     (first_handed c.self.inside.fields.now c.in-Some.others.now c.in-Some.field.now
     c.self.inside.reader c.read_number.new.reader (Number c.in_ok-number.number)
     c.in-Some.ensures.cases.0 c.self.invariant c.in_ok-number.ensures.found).there
 
--- the field is asked for, and those behind it are left
 pub returns-clause-found : goal.returns-clause-found
 returns-clause-found g c =
     let field = c.in-Some.field.now in

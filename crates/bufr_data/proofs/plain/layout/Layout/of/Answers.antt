@@ -1,10 +1,9 @@
--- The clause of `Layout::of`: field by field along the walk, until it ends or asks for a count.
+-- Field by field along the walk, until it ends or meets a count.
 use Rattle.std.proofs.Common.{arith}
 use Rattle.bufr_fields.specs.StepLaws.{ready_there, field_goes_on}
 use Rattle.bufr_data.proofs.PlainFacts.Layouts.{none_laid, one_laid, all_laid}
 use Rattle.bufr_data.proofs.plain.layout.Layout.of.Goals as goal
 
--- at first the walk is at the front of the course, and there is no field
 pub loop-field-init : goal.loop-field-init
 loop-field-init c =
     rw c.new-fields.ensures.items (record {
@@ -14,14 +13,12 @@ loop-field-init c =
       so_far = none_laid _ _ c.in_ok-walk.ensures.course;
     })
 
--- behind a field the walk has met an item more
 pub loop-field-smaller : goal.loop-field-smaller
 loop-field-smaller c =
     let goes = rw c.in-Ok-Some.field-0-is at c.in-Ok-Some.ensures in
     let on = field_goes_on _ _ _ _ c.loop-field.invariant.ready goes in
     omega (arith, on.further, on.within, c.loop-field.invariant.limit)
 
--- one field more, and the walk is behind it
 pub loop-field-preserved : goal.loop-field-preserved
 loop-field-preserved c =
     let goes = rw c.in-Ok-Some.field-0-is at c.in-Ok-Some.ensures in
@@ -32,7 +29,6 @@ loop-field-preserved c =
       so_far = one_laid _ _ _ _ _ c.in-Ok-Some.field c.in_ok-push-in-Ok-Some.ensures.items goes c.loop-field.invariant.so_far;
     }
 
--- where the walk ends these are the fields of each subset
 pub returns-in-Ok-None : goal.returns-in-Ok-None
 returns-in-Ok-None c =
     let goes = rw c.in-Ok-None.field-0-is at c.in-Ok-None.ensures in

@@ -1,4 +1,3 @@
--- The loop of `Layout::of`: the fields so far.
 use Rattle.std.proofs.Common.{◌+◌, ◌-◌, ◌≤◌}
 use Rattle.bufr_expand.specs.Courses.{course}
 use Rattle.bufr_expand.specs.Walks as walks
@@ -7,7 +6,7 @@ use Rattle.bufr_fields.specs.Steady.{IsReady}
 use Rattle.bufr_data.proofs.PlainFacts.Layouts.{LaidSoFar}
 use Rattle.bufr_data.proofs.plain.layout.Layout.of.Given as goal
 
--- the fields so far are the first for which the course asks, and the walk can go on behind them
+-- the fields laid out are the first that the course asks for, and the walk can go on
 abbrev pub invariant-loop-field : goal.invariant-loop-field
 invariant-loop-field l = record {
   ready : IsReady l.walk;
@@ -15,6 +14,6 @@ invariant-loop-field l = record {
   so_far : LaidSoFar (course l.template 0) l.fields.items (walks.left l.walk);
 }
 
--- each turn meets an item more, and a message has only so many
+-- each turn meets an item more, and items are limited
 abbrev pub decreases-loop-field : goal.decreases-loop-field
 decreases-loop-field l = most_items + 1 - walks.items_met l.walk

@@ -1,8 +1,6 @@
--- The clause of `Starts::len`: of starts at even distances.
 use Rattle.std.proofs.Common.{sym}
 use Rattle.bufr_data.proofs.PlainFacts.Even.{many_kept}
 use Rattle.bufr_data.proofs.plain.starts.Starts.len.Goals as goal
 
--- there are as many as are counted
 pub returns-in-Even : goal.returns-in-Even
 returns-in-Even c = sym (many_kept _ _ _ _ _ c.self.view_is c.in-Even.is)

@@ -1,1 +1,0 @@
--- This crate shares no lemmas: laws of answers stand in its specs.

@@ -1,0 +1,16 @@
+-- A piece of one slot's stream, as a step of the depot.
+use Rattle.std.proofs.Common.{◌∙◌}
+use Rattle.bufr_archive.proofs.HeldFacts.{none_there, feed_does}
+use Rattle.bufr_archive.proofs.depot.Depot.feed.Goals as goal
+
+pub returns-then-slot-len : goal.returns-then-slot-len
+returns-then-slot-len g c =
+    (none_there c.args.self.now _ c.args.slot _ c.args.piece.now c.self.view_is
+    (c.len.ensures ∙ c.self.inside.slots.ok.0) c.if-slot-len.true).0
+
+pub returns : goal.returns
+returns g c =
+    feed_does c.reports_told_are_under.ensures c.args.self.now _ c.args.slot _
+    c.index_mut.result.now c.feed.new.self c.self.view_is
+    (c.len.ensures ∙ c.self.inside.slots.ok.0) c.if-slot-len.false c.index_mut.ensures.value
+    c.args.piece.now c.feed.result c.feed.ensures.feeds

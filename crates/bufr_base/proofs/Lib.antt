@@ -1,0 +1,1 @@
+-- No lemmas; the laws of results are in specs.

@@ -1,0 +1,21 @@
+-- Cached templates.
+use Rattle.std.specs.Prelude.{◌≡◌, ◌≤◌, ℕ, List, [], ◌∷◌, Ok, length}
+use Rattle.std.specs.List.{AllByRecursion}
+use Rattle.bufr_tables.specs.Entries.{Entries}
+use Rattle.bufr_expand.specs.Templates.{template}
+use Rattle.bufr_data.specs.declared.kept_templates.Kept.{Kept}
+use Rattle.bufr_data.specs.declared.kept_templates.TheConstants.{MOST_KEPT}
+
+-- the template of a cached list, under the tables
+abbrev pub IsOf : Entries → Kept → Type 0
+IsOf tables k = template tables k.descriptors.value ≡ Ok k.template
+
+-- so is each, and there are four at most
+pub record AreKept (tables : Entries) (ks : List Kept) : Type 0 where
+  pub each : AllByRecursion (IsOf tables) ks
+  pub few : length ks ≤ MOST_KEPT
+
+-- the first is this list
+abbrev pub IsInFront : List ℕ → List Kept → Type 0
+IsInFront list [] = ⊥
+IsInFront list (k ∷ ks) = k.descriptors.value ≡ list

@@ -1,0 +1,3 @@
+-- The lemmas behind gathered entries.
+pub mod AheadLemmas
+pub mod PageLemmas

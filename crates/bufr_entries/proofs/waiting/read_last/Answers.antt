@@ -1,0 +1,21 @@
+-- `ahead` is the octets of the last entries.
+use Rattle.std.proofs.Common.{◌≤◌, ◌∙◌, ◌-◌, ap, length, rules}
+use Rattle.std.proofs.lemmas.List.{take_all}
+use Rattle.bufr_entries.specs.Pages.{octets_waiting}
+use Rattle.bufr_entries.proofs.AheadLemmas.{none-last, part-last}
+use Rattle.bufr_entries.proofs.waiting.read_last.Goals as goal
+
+pub returns : goal.returns
+returns c =
+    let os = c.args.octets.now in let es = c.args.entries.now in
+    let last = c.split_at.result.1.now in
+    let end : length last ≤ c.loop-entry.entry-index = search rules in
+    part-last os es (length es - c.at_once.result) c.loop-entry.ahead.items
+    (c.loop-entry.invariant
+    ∙ ap (octets_waiting os) (take_all c.loop-entry.entry-index last end)
+    ∙ ap (octets_waiting os) c.split_at.ensures.back)
+
+pub returns-then-is_err : goal.returns-then-is_err
+returns-then-is_err c =
+    none-last c.args.octets.now c.args.entries.now c.clear-then-is_err.new.self.items
+    c.clear-then-is_err.ensures.items

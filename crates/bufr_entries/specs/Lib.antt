@@ -1,0 +1,17 @@
+pub mod KeyOrders
+pub mod DerivedOrders
+pub mod Keeping
+pub mod KeepingLaws
+pub mod Entries
+pub mod Orders
+pub mod Merging
+pub mod ChangeLaws
+pub mod Laws
+pub mod Fronts
+pub mod FrontLaws
+pub mod PackedKeys
+pub mod Marks
+pub mod Pages
+pub mod Octets
+pub mod PackedKeyLaws
+pub mod Samples

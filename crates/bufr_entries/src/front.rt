@@ -1,0 +1,110 @@
+//! Fronts: the parts of a key that marks compare first.
+ghost use Rattle.std.specs.Prelude.{◌≡◌, get_or};
+ghost use Rattle.bufr_entries.specs.Fronts.{front_cmp, place_cmp, front_of_key, head_of_key, first_octets};
+
+use crate::key::{Key, Station};
+use std::cmp::Ordering;
+
+/// The centre and categories of a key.
+#[derive(Clone, Copy, Drop, PartialEq, Eq, PartialOrd, Ord)]
+pub(crate) struct FrontHead {
+    pub(crate) centre: u16,
+    pub(crate) category: u8,
+    pub(crate) international: u8,
+    pub(crate) local_category: u8,
+}
+
+/// The station of a key, as a front has it.
+#[derive(Clone, Copy, Drop)]
+pub(crate) enum FrontPlace {
+    /// A WMO station; the front has no number.
+    Wmo,
+    /// The first eight octets of a mobile name, filled with zeros.
+    Mobile { name: [u8; 8] },
+    /// A WIGOS station; the front has no part of it.
+    Open,
+}
+
+/// The front of a key: a mark holds it beside the boxed key.
+#[derive(Clone, Copy, Drop)]
+pub(crate) struct Front {
+    pub(crate) head: FrontHead,
+    pub(crate) place: FrontPlace,
+}
+
+impl FrontHead {
+    pub(crate) fn of_key(key: &Key) -> FrontHead
+        ensures { result ≡ head_of_key key.now }
+    {
+        FrontHead {
+            centre: key.centre,
+            category: key.category,
+            international: key.international,
+            local_category: key.local_category,
+        }
+    }
+}
+
+impl Front {
+    pub(crate) fn of_key(key: &Key) -> Front
+        ensures { result ≡ front_of_key key.now }
+    {
+        let place = match &key.station {
+            Station::Wmo { .. } => FrontPlace::Wmo,
+            Station::Wigos { .. } => FrontPlace::Open,
+            Station::Mobile { name } => FrontPlace::Mobile {
+                name: first_eight(name.as_slice()),
+            },
+        };
+        Front {
+            head: FrontHead::of_key(key),
+            place,
+        }
+    }
+
+    /// Compares two keys by their fronts; `Equal` leaves the order open.
+    pub(crate) fn order(&self, other: &Front) -> Ordering
+        ensures { result ≡ front_cmp self.now other.now }
+    {
+        match self.head.cmp(&other.head) {
+            Ordering::Equal => self.place.order(&other.place),
+            order => order,
+        }
+    }
+}
+
+impl FrontPlace {
+    fn order(&self, other: &FrontPlace) -> Ordering
+        ensures { result ≡ place_cmp self.now other.now }
+    {
+        match (self, other) {
+            (FrontPlace::Wmo, FrontPlace::Mobile { .. }) => Ordering::Less,
+            (FrontPlace::Mobile { .. }, FrontPlace::Wmo) => Ordering::Greater,
+            (FrontPlace::Mobile { name }, FrontPlace::Mobile { name: other_name }) => {
+                name.cmp(other_name)
+            }
+            _ => Ordering::Equal,
+        }
+    }
+}
+
+fn octet_at(octets: &[u8], index: usize) -> u8
+    ensures { result ≡ get_or octets.now index 0 }
+{
+    octets.get(index).copied().unwrap_or(0)
+}
+
+fn first_eight(octets: &[u8]) -> [u8; 8]
+    ensures { result ≡ first_octets 8 octets.now }
+{
+    [
+        octet_at(octets, 0),
+        octet_at(octets, 1),
+        octet_at(octets, 2),
+        octet_at(octets, 3),
+        octet_at(octets, 4),
+        octet_at(octets, 5),
+        octet_at(octets, 6),
+        octet_at(octets, 7),
+    ]
+}

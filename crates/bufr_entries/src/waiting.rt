@@ -1,0 +1,311 @@
+//! Waiting entries in any order, with their octets in one vector.
+ghost use Rattle.std.specs.Prelude.{◌≡◌, ◌+◌, ◌*◌, ◌<◌, ◌≤◌, ◌++◌, ◌∷◌, [], true, false, take, drop, length, map, reverse, OnOk, OnErr, IfSome, MatchOption, vec_len};
+ghost use Rattle.std.specs.Vec.{vec_capacity};
+ghost use Rattle.std.specs.Bool.{OnTrue, OnFalse};
+ghost use Rattle.std.specs.Option.{option_map, option_to_list};
+ghost use Rattle.std.specs.List.Sorted.{IsPermutation};
+ghost use Rattle.bufr_entries.specs.Entries.{slot_cmp};
+ghost use Rattle.bufr_entries.specs.Keeping.{first_of};
+ghost use Rattle.bufr_entries.specs.Pages.{marked, mark_of, seen, waits_in, octets_waiting, AreLast, AreRising};
+
+use crate::entry_octets::EntryOctets;
+use crate::giving_back::take_last;
+use crate::look::Look;
+use crate::mark::PackedSlot;
+use bufr_base::OutOfMemory;
+use std::alloc::Global;
+use std::cmp::Ordering;
+use std::marker::Model;
+
+/// The least size of a batch, unless its octets are many.
+const SMALLEST_BATCH: usize = 64;
+
+/// The most entries that wait, beside one for each sorted entry.
+const LARGEST_BATCH: usize = 65_536;
+
+/// The octets that make a batch of any size.
+const LONG_BATCH: u64 = 33_554_432;
+
+/// The octets that may wait beside that, for each sorted entry.
+const OCTETS_AN_ENTRY: u64 = 64;
+
+/// The most entries that one call reads ahead.
+const MOST_AT_ONCE: usize = 64;
+
+/// The most octets that one call reads ahead.
+const MOST_OCTETS_AT_ONCE: usize = 32_768;
+
+/// The average length of runs from which merging replaces sorting.
+const LONG_RUN: usize = 16;
+
+/// A waiting entry: its mark, and the start and length of its octets.
+#[derive(Drop)]
+pub(crate) struct WaitingEntry {
+    pub(crate) mark: PackedSlot,
+    pub(crate) from: usize,
+    pub(crate) len: usize,
+}
+
+const _: () = prove!(size_of::<WaitingEntry>() == 40);
+
+fn part(octets: &[u8], from: usize, len: usize) -> &[u8]
+    ensures { result.now ≡ take len (drop from octets.now) }
+{
+    let Some(rest) = octets.get(from..) else {
+        return &[];
+    };
+    rest.get(..len).unwrap_or(rest)
+}
+
+impl WaitingEntry {
+    fn look<'a>(&'a self, octets: &'a [u8]) -> Look<'a>
+        ensures { seen result ≡ waits_in octets.now self.now }
+    {
+        Look {
+            mark: &self.mark,
+            octets: part(octets, self.from, self.len),
+        }
+    }
+
+    /// Compares the slots of two entries. It reads their octets only if neither has a key.
+    #[inline(always)]
+    fn slot_cmp(&self, other: &WaitingEntry, octets: &[u8]) -> Ordering
+        ensures { result ≡ slot_cmp (waits_in octets.now self.now) (waits_in octets.now other.now) }
+    {
+        match self.mark.keyed_order(&other.mark) {
+            Some(order) => order,
+            None => self.look(octets).octets.cmp(other.look(octets).octets),
+        }
+    }
+}
+
+fn drop_other(entries: &mut Vec<WaitingEntry>)
+    ensures { reverse entries.new.items
+        ≡ take 1 (reverse entries.old.items) ++ drop 2 (reverse entries.old.items) }
+{
+    let Some(last) = entries.pop() else {
+        return;
+    };
+    let _other = entries.pop();
+    entries.push_reserved(last);
+}
+
+/// Appends an entry, if `stands`.
+fn push_where(entries: &mut Vec<WaitingEntry>, stands: bool, entry: WaitingEntry)
+    requires { vec_len entries.old < vec_capacity entries.old }
+    ensures there { stands ≡ true → entries.new.items ≡ entries.old.items ++ entry ∷ [] }
+    ensures none { stands ≡ false → entries.new.items ≡ entries.old.items }
+{
+    if stands {
+        entries.push_reserved(entry);
+    }
+}
+
+fn at_once(entries: &[WaitingEntry]) -> usize
+    ensures { result ≤ length entries.now }
+{
+    let mut count: usize = 0;
+    let mut octets: usize = 0;
+    while count < entries.len() && count < MOST_AT_ONCE {
+        octets = octets.saturating_add(entries[entries.len() - 1 - count].len);
+        if octets > MOST_OCTETS_AT_ONCE {
+            return count;
+        }
+        count += 1;
+    }
+    count
+}
+
+/// Copies the octets of the last entries into `ahead`. The octets lie far apart, and one pass over
+/// them waits less for memory.
+fn read_last(octets: &[u8], entries: &[WaitingEntry], ahead: &mut Vec<u8>)
+    ensures { AreLast octets.now entries.now ahead.new.items }
+{
+    ahead.clear();
+    let (_, last) = entries.split_at(entries.len() - at_once(entries));
+    for entry in last {
+        if ahead
+            .extend_from_slice(part(octets, entry.from, entry.len))
+            .is_err()
+        {
+            ahead.clear();
+            return;
+        }
+    }
+}
+
+fn come_in_runs(entries: &[WaitingEntry], octets: &[u8]) -> bool {
+    let most = entries.len() / LONG_RUN;
+    let mut ends: usize = 0;
+    for index in 1..entries.len() {
+        if entries[index].slot_cmp(&entries[index - 1], octets).is_lt() {
+            if ends >= most {
+                return false;
+            }
+            ends += 1;
+        }
+    }
+    true
+}
+
+/// Sorts entries that form long runs by merging these, greatest slot first, and returns whether it
+/// did; not if memory ran out.
+fn merge_runs(entries: &mut Vec<WaitingEntry>, octets: &[u8]) -> bool
+    ensures permutation { IsPermutation entries.old.items entries.new.items }
+    ensures len { length entries.new.items ≡ length entries.old.items }
+    ensures rising { OnTrue result
+        (AreRising (reverse (map (waits_in octets.now) entries.new.items))) }
+    ensures same { OnFalse result (entries.new.items ≡ entries.old.items) }
+{
+    if !come_in_runs(entries, octets) {
+        return false;
+    }
+    let Ok(()) = entries.sort_by(|waits, other| other.slot_cmp(waits, octets)) else {
+        return false;
+    };
+    true
+}
+
+fn sort_falling(entries: &mut Vec<WaitingEntry>, octets: &[u8])
+    ensures permutation { IsPermutation entries.old.items entries.new.items }
+    ensures len { length entries.new.items ≡ length entries.old.items }
+    ensures rising { AreRising (reverse (map (waits_in octets.now) entries.new.items)) }
+{
+    if !merge_runs(entries, octets) {
+        entries.sort_unstable_by(|waits, other| other.slot_cmp(waits, octets));
+    }
+}
+
+/// A batch of entries in any order.
+#[derive(Drop)]
+pub(crate) struct Waiting {
+    entries: Vec<WaitingEntry>,
+    // The octets of all entries, and of dropped ones until none waits.
+    octets: Vec<u8>,
+    // A copy of the octets of the last entries, in reverse.
+    ahead: Vec<u8>,
+}
+
+impl Model for Waiting {
+    ghost use Rattle.std.specs.Prelude.{List, map};
+    ghost use Rattle.bufr_entries.specs.declared.entry.Entry.{Entry as AnEntry};
+    ghost use Rattle.bufr_entries.specs.Pages.{waits_in, AreLast, HaveParts};
+
+    ghost Value = { List AnEntry };
+
+    ghost view = { λ a. map (waits_in a.octets.items) a.entries.items };
+
+    ghost invariant = { λ a. HaveParts a.octets.items a.entries.items
+        × AreLast a.octets.items a.entries.items a.ahead.items };
+}
+
+impl Waiting {
+    pub(crate) fn new(alloc: Global) -> Waiting
+        ensures { result ≡ [] }
+    {
+        Waiting {
+            entries: Vec::new(alloc),
+            octets: Vec::new(alloc),
+            ahead: Vec::new(alloc),
+        }
+    }
+
+    /// Whether the batch is large enough to sort it into `settled` entries.
+    pub(crate) fn are_many(&self, settled: usize) -> bool
+        ensures { (result ≡ false) → length self.now < 64 + 2 * settled }
+    {
+        let waiting = self.entries.len();
+        let room = (settled as u64).saturating_mul(OCTETS_AN_ENTRY);
+        let are_long = self.octets.len() as u64 >= room.saturating_add(LONG_BATCH);
+        let are_most = waiting >= settled.saturating_add(LARGEST_BATCH);
+        are_long || are_most || waiting >= SMALLEST_BATCH && waiting / 2 >= settled
+    }
+
+    pub(crate) fn push<O: EntryOctets>(
+        &mut self,
+        alloc: Global,
+        mark: PackedSlot,
+        entry: &O,
+    ) -> Result<(), OutOfMemory>
+        ensures ok { OnOk result (self.new ≡ self.old
+            ++ option_to_list (option_map (marked mark) (O.octets entry.now))) }
+        ensures err { OnErr result (self.new ≡ self.old) }
+    {
+        let from = self.octets.len();
+        self.ahead.clear();
+        self.entries.reserve(1)?;
+        let stands = entry.put_behind(alloc, &mut self.octets)?;
+        let len = self.octets.len() - from;
+        push_where(&mut self.entries, stands, WaitingEntry { mark, from, len });
+        Ok(())
+    }
+
+    pub(crate) fn last(&self) -> Option<Look>
+        ensures last { option_map seen result ≡ first_of (reverse self.now) }
+        ensures some { MatchOption result (length self.now ≡ 0) (λ _. 0 < length self.now) }
+    {
+        let (last, _) = self.entries.split_last()?;
+        let octets = match self.ahead.len().checked_sub(last.len) {
+            Some(from) => &self.ahead[from..],
+            None => part(&self.octets, last.from, last.len),
+        };
+        Some(Look {
+            mark: &last.mark,
+            octets,
+        })
+    }
+
+    pub(crate) fn last_two(&self) -> Option<(Look, Look)>
+        ensures two { IfSome result
+            (λ two. reverse self.now ≡ seen two.0 ∷ seen two.1 ∷ drop 2 (reverse self.now)) }
+        ensures some { MatchOption result (length self.now < 2) (λ _. 1 < length self.now) }
+    {
+        let before = self.entries.len().checked_sub(2)?;
+        let (last, other) = (self.entries.last()?, self.entries.get(before)?);
+        Some((last.look(&self.octets), other.look(&self.octets)))
+    }
+
+    /// Takes the last entry, returns its mark, and gives free memory back.
+    pub(crate) fn take_last(&mut self) -> Option<PackedSlot>
+        ensures mark { result ≡ option_map mark_of (first_of (reverse self.old)) }
+        ensures rest { reverse self.new ≡ drop 1 (reverse self.old) }
+        ensures cases { MatchOption result ((length self.old ≡ 0) × (length self.new ≡ 0))
+            (λ _. length self.new + 1 ≡ length self.old) }
+    {
+        let WaitingEntry { mark, len, .. } = take_last(&mut self.entries)?;
+        match self.ahead.len().checked_sub(len) {
+            Some(left) if left > 0 => self.ahead.truncate(left),
+            _ => read_last(&self.octets, &self.entries, &mut self.ahead),
+        }
+        Some(mark)
+    }
+
+    pub(crate) fn drop_other(&mut self)
+        ensures { reverse self.new ≡ take 1 (reverse self.old) ++ drop 2 (reverse self.old) }
+    {
+        self.ahead.clear();
+        drop_other(&mut self.entries);
+    }
+
+    pub(crate) fn sort(&mut self)
+        ensures permutation { IsPermutation self.old self.new }
+        ensures rising { AreRising (reverse self.new) }
+        ensures len { length self.new ≡ length self.old }
+    {
+        self.ahead.clear();
+        sort_falling(&mut self.entries, &self.octets);
+    }
+
+    /// Frees the memory of an empty batch.
+    pub(crate) fn give_back(&mut self)
+        ensures { self.new ≡ self.old }
+    {
+        if self.entries.is_empty() {
+            self.entries.shrink_to_fit();
+            self.octets.clear();
+            self.octets.shrink_to_fit();
+            self.ahead.clear();
+            self.ahead.shrink_to_fit();
+        }
+    }
+}

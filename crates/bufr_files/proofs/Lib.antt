@@ -1,2 +1,0 @@
--- What the contract of `inputs_of` is proved from.
-mod OpenFacts

@@ -1,0 +1,58 @@
+-- Reports gathered one after the other: for `ArchiveBuilder::add_message` and what it calls.
+use Rattle.std.proofs.Common.{◌≡◌, ℕ, Option, None, Some, List, Result, Ok, Err, [], ◌∷◌, ◌++◌, refl}
+use Rattle.std.proofs.Common.{ap, subst, ◌∙◌}
+use Rattle.std.specs.Prelude.{option_to_list, OnOk}
+use Rattle.bufr_tables.specs.Entries.{Entries}
+use Rattle.bufr_sections.specs.declared.message.Decoded.{Decoded}
+use Rattle.bufr_message.specs.Messages.{message_of}
+use Rattle.bufr_message.specs.Reports.{reports_of}
+use Rattle.bufr_entries.specs.declared.entry.Entry.{Entry}
+use Rattle.bufr_entries.specs.Entries.{kept}
+use Rattle.bufr_gather.specs.Archives.{ArchiveView, taken_in, entries_of}
+use Rattle.bufr_gather.specs.ReportEntries.{report_entries, spelt_entries}
+
+-- ---- one report: for `ArchiveBuilder::add_one`
+
+one_entry : (y : Option Entry) → option_to_list y ≡ entries_of (y ∷ [])
+one_entry None = refl
+one_entry (Some e) = refl
+
+puts_one : (tables : Entries) (entries new : List Entry) (old : ArchiveView)
+    (x y : Option Entry) → record { tables = tables; entries = kept entries } ≡ old → x ≡ y
+    → kept new ≡ kept (kept entries ++ option_to_list x)
+    → record { tables = tables; entries = kept new } ≡ taken_in old (y ∷ [])
+puts_one tables entries new old x y seen same put =
+    subst (λ (a : ArchiveView). record { tables = tables; entries = kept new }
+    ≡ taken_in a (y ∷ [])) seen
+    (ap (λ (es : List Entry). record { tables = tables; entries = es })
+    (put ∙ ap (λ (o : Option Entry). kept (kept entries ++ option_to_list o)) same
+    ∙ ap (λ (es : List Entry). kept (kept entries ++ es)) (one_entry y)))
+
+pub puts_where_ok : {T E : Type 0} (answer : Result T E) (tables : Entries)
+    (entries new : List Entry) (old : ArchiveView) (x y : Option Entry)
+    → record { tables = tables; entries = kept entries } ≡ old → x ≡ y
+    → OnOk answer (kept new ≡ kept (kept entries ++ option_to_list x))
+    → OnOk answer (record { tables = tables; entries = kept new } ≡ taken_in old (y ∷ []))
+puts_where_ok (Ok done) tables entries new old x y seen same put =
+    puts_one tables entries new old x y seen same put
+puts_where_ok (Err e) tables entries new old x y seen same put = put
+
+-- ---- messages: for `ArchiveBuilder::add_message`
+
+pub builder_adds : (templates after : Entries) (entries : List Entry) (old new : ArchiveView)
+    (octets : List ℕ) (d : Decoded) → record { tables = templates; entries = entries } ≡ old
+    → after ≡ templates → message_of templates octets ≡ Ok d
+    → spelt_entries (reports_of d.message) ≡ report_entries templates (reports_of d.message)
+    → new ≡ taken_in (record { tables = after; entries = entries })
+    (spelt_entries (reports_of d.message))
+    → (d : Decoded) × (message_of old.tables octets ≡ Ok d)
+    × (new ≡ taken_in old (report_entries old.tables (reports_of d.message)))
+builder_adds templates after entries old new octets d seen same is own added = (
+  d,
+  subst (λ (a : ArchiveView). message_of a.tables octets ≡ Ok d) seen is,
+  added
+      ∙ ap (λ (t : Entries). taken_in (record { tables = t; entries = entries })
+      (spelt_entries (reports_of d.message))) same
+      ∙ ap (taken_in (record { tables = templates; entries = entries })) own
+      ∙ ap (λ (a : ArchiveView). taken_in a (report_entries a.tables (reports_of d.message))) seen,
+)

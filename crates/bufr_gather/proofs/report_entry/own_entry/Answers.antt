@@ -1,0 +1,20 @@
+use Rattle.bufr_gather.proofs.ReportFacts.{none_of_other, entry_of_own, entry_marked}
+use Rattle.bufr_gather.proofs.report_entry.own_entry.Goals as goal
+
+pub returns-then-not-branch : goal.returns-then-not-branch
+returns-then-not-branch c =
+    λ tables is spells.
+    none_of_other c.written_messages_are_spelt.ensures.only c.canonical_messages_are_own.ensures
+    c.reports_have_canonical_messages.ensures tables c.args.octets.now c.args.view.now
+    _ is spells c.requires c.in_ok-is_own.ensures c.if-not-branch.true
+
+pub returns : goal.returns
+returns c =
+    λ tables is spells.
+    entry_of_own c.written_messages_are_spelt.ensures.only c.canonical_messages_are_own.ensures
+    c.reports_have_canonical_messages.ensures tables c.args.octets.now c.args.view.now
+    _ _ _ is spells
+    c.requires c.in_ok-is_own.ensures c.if-not-branch.false c.in_ok-fields.ensures
+    (entry_marked c.args.view.now.message (record { fields = c.in_ok-fields.fields }) c.head.result.now
+    c.of_head-head.result c.in_ok-key.key c.args.octets.now c.in_ok-new.field-0 c.head.ensures
+    c.of_head-head.ensures c.in_ok-key.ensures c.in_ok-new.ensures)

@@ -1,0 +1,22 @@
+//! Why a message was not added.
+use bufr_message::Refused;
+use thiserror::Error;
+
+/// Memory ran out after the first `done` reports were joined, and no others.
+#[derive(Clone, Copy, Debug, Drop, Error, PartialEq, Eq)]
+#[error("out of memory, {done} reports joined")]
+pub struct RanOut {
+    /// The number of reports joined, from the first on.
+    pub done: u128,
+}
+
+/// Why a message was not added, or not all of it.
+#[derive(Debug, Drop, Error, PartialEq)]
+pub enum AddFault {
+    /// The octets spell no message, for this cause.
+    #[error("{0}")]
+    Refused(Refused),
+    /// Memory ran out after the first `done` reports were joined, and no others.
+    #[error("out of memory, {done} reports joined")]
+    OutOfMemory { done: u128 },
+}

@@ -1,0 +1,123 @@
+//! A builder of archives.
+ghost use Rattle.std.specs.Prelude.{◌≡◌, ◌<◌, ◌∷◌, [], get_or, length, map, IfOk, OnOk, OnErr};
+ghost use Rattle.bufr_entries.specs.Entries.{kept};
+ghost use Rattle.bufr_gather.specs.Archives.{IsKept, taken_in};
+ghost use Rattle.bufr_gather.specs.Gathering.{PutsIntoBuilder, AddsToBuilder};
+ghost use Rattle.bufr_base.specs.Answers.{Gives};
+ghost use Rattle.bufr_message.specs.Messages.{message_of};
+ghost use Rattle.bufr_message.specs.Reports.{reports_of};
+ghost use Rattle.bufr_gather.specs.ReportEntries.{report_entries, spelt_entries};
+
+use crate::add_fault::{AddFault, RanOut};
+use crate::report_entry::MessageReports;
+use bufr_base::{Failure, OutOfMemory};
+use bufr_entries::{KeptOctets, ShelfBuilder};
+use bufr_message::{MessageReader, Refused};
+use bufr_tables::Tables;
+use std::alloc::Global;
+use std::marker::Model;
+
+/// A builder that gathers messages for an archive, without look-ups, and sorts their reports in
+/// batches.
+#[derive(Drop)]
+pub struct ArchiveBuilder<'t> {
+    alloc: Global,
+    templates: MessageReader<'t>,
+    entries: ShelfBuilder,
+}
+
+impl<'t> Model for ArchiveBuilder<'t> {
+    ghost use Rattle.bufr_entries.specs.Entries.{kept};
+    ghost use Rattle.bufr_gather.specs.Archives.{ArchiveView};
+
+    ghost Value = { ArchiveView };
+
+    ghost view = { λ g. record { tables = g.templates; entries = kept g.entries } };
+}
+
+impl<'t> ArchiveBuilder<'t> {
+    /// Makes an empty builder.
+    pub fn new(alloc: Global, tables: &'t Tables) -> Self
+        ensures { result ≡ record { tables = tables.now; entries = [] } }
+    {
+        ArchiveBuilder {
+            alloc,
+            templates: MessageReader::new(alloc, tables),
+            entries: ShelfBuilder::new(alloc),
+        }
+    }
+
+    /// Adds the reports of a message, one by one; on want of memory the first `done`.
+    pub fn add_message(&mut self, octets: &[u8]) -> Result<(), AddFault>
+        ensures { AddsToBuilder self.old self.new octets.now result }
+    {
+        // The builder keeps its templates for the next message.
+        let reports = match MessageReports::of_octets(self.alloc, &mut self.templates, octets) {
+            Ok(reports) => reports,
+            Err(Failure::Fault(why)) => return Err(AddFault::Refused(why)),
+            Err(Failure::OutOfMemory) => {
+                self.are_kept();
+                return Err(AddFault::OutOfMemory { done: 0 });
+            }
+        };
+        match self.add_all(&reports) {
+            Ok(()) => Ok(()),
+            Err(RanOut { done }) => Err(AddFault::OutOfMemory { done }),
+        }
+    }
+
+    /// The builder holds what is kept.
+    fn are_kept(&self)
+        ensures { IsKept self.now }
+    {
+        let _entries = &self.entries;
+    }
+
+    fn add_all(&mut self, reports: &MessageReports<'_>) -> Result<(), RanOut>
+        ensures { PutsIntoBuilder self.old self.new
+            (spelt_entries (reports_of reports.now.view.message)) result }
+    {
+        self.are_kept();
+        for index in 0..reports.count() {
+            let Ok(()) = self.add_one(reports, index) else {
+                let done = index as u128;
+                return Err(RanOut { done });
+            };
+        }
+        Ok(())
+    }
+
+    /// Adds one report, and writes its octets in place.
+    fn add_one(&mut self, reports: &MessageReports<'_>, index: usize) -> Result<(), OutOfMemory>
+        requires { index < length reports.now.view.message.subsets }
+        ensures ok { OnOk result (self.new ≡ taken_in self.old
+            (get_or (spelt_entries (reports_of reports.now.view.message)) index None ∷ [])) }
+        ensures err { OnErr result (self.new ≡ self.old) }
+    {
+        self.are_kept();
+        let key = reports.key_at(self.alloc, index)?;
+        self.entries
+            .put_octets_of(key, reports.update(), &reports.octets_at(index))
+    }
+
+    /// Gives the templates, and the entries of all reports.
+    pub fn into_parts(self) -> (MessageReader<'t>, ShelfBuilder)
+        ensures tables { result.0 ≡ self.entry.tables }
+        ensures entries { kept result.1 ≡ self.entry.entries }
+    {
+        let ArchiveBuilder {
+            templates,
+            entries,
+            ..
+        } = self;
+        (templates, entries)
+    }
+
+    /// Returns the canonical messages of the archive, in order of slots; joined they are its text.
+    pub fn into_octets(self) -> Result<KeptOctets, OutOfMemory>
+        ensures { IfOk result (λ left. left ≡ map (λ e. e.bytes) self.entry.entries) }
+    {
+        let ArchiveBuilder { entries, .. } = self;
+        entries.into_octets()
+    }
+}

@@ -1,1 +1,0 @@
--- This crate shares no lemmas: its orders are derived.

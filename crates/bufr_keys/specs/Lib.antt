@@ -1,3 +1,0 @@
-pub mod KeyOrders
-pub mod DerivedOrders
-pub mod Samples

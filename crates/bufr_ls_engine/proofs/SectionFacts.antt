@@ -1,0 +1,38 @@
+-- What section 1 says, by the places of its octets: the contracts of `announces4` and `announces3`.
+use Rattle.std.proofs.Common.{◌≡◌, ℕ, ◌≤◌, cond, get_or, List, ◌∷◌, length, drop, Ok, Err}
+use Rattle.std.proofs.Common.{refl, arith}
+use Rattle.std.specs.Prelude.{◌==◌, nat_le}
+use Rattle.bufr_sections.specs.declared.fault.Refused.TheVariants.{MasterTable}
+use Rattle.bufr_sections.specs.Sections.{head4_of, head3_of}
+use Rattle.bufr_sections.specs.SectionsRead.{head4_with, head3_with}
+
+-- with enough octets, the master table decides
+head4_is : (xs : List ℕ) → 19 ≤ length xs
+    → head4_of xs ≡ cond (get_or xs 0 0 == 0) (Ok
+    (head4_with xs (drop 19 xs), nat_le 128 (get_or xs 6 0))) (Err (MasterTable (get_or xs 0 0)))
+unfolding head4_of
+head4_is
+    (master ∷ c1 ∷ c2 ∷ s1 ∷ s2 ∷ update ∷ flags ∷ category ∷ international ∷ local_category
+    ∷ master_version ∷ local_version ∷ y1 ∷ y2 ∷ month ∷ day ∷ hour ∷ minute ∷ second
+    ∷ local) long = refl
+head4_is _ long = absurd (omega arith)
+
+-- so it does in edition 3
+head3_is : (xs : List ℕ) → 14 ≤ length xs
+    → head3_of xs ≡ cond (get_or xs 0 0 == 0) (Ok
+    (head3_with xs (drop 14 xs), nat_le 128 (get_or xs 4 0))) (Err (MasterTable (get_or xs 0 0)))
+unfolding head3_of
+head3_is
+    (master ∷ sub_centre ∷ centre ∷ update ∷ flags ∷ category ∷ local_category ∷ master_version
+    ∷ local_version ∷ year ∷ month ∷ day ∷ hour ∷ minute ∷ local) long = refl
+head3_is _ long = absurd (omega arith)
+
+-- with master table 0 the octets are a section 1
+pub head4_said : (xs : List ℕ) → 19 ≤ length xs → get_or xs 0 0 ≡ 0
+    → head4_of xs ≡ Ok (head4_with xs (drop 19 xs), nat_le 128 (get_or xs 6 0))
+head4_said xs long master = rw master at (head4_is xs long)
+
+-- so they are in edition 3
+pub head3_said : (xs : List ℕ) → 14 ≤ length xs → get_or xs 0 0 ≡ 0
+    → head3_of xs ≡ Ok (head3_with xs (drop 14 xs), nat_le 128 (get_or xs 4 0))
+head3_said xs long master = rw master at (head3_is xs long)

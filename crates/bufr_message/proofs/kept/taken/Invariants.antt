@@ -1,7 +1,0 @@
--- For `taken`: what its loop keeps.
-use Rattle.bufr_message.specs.Kept.{AreOf}
-use Rattle.bufr_message.proofs.kept.taken.Given as goal
-
--- each template is that of its list
-abbrev pub invariant-loop-index : goal.invariant-loop-index
-invariant-loop-index l = AreOf l.tables l.kept.items

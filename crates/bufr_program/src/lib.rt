@@ -1,0 +1,6 @@
+//! What a program does around its engine: its words, what it says of faults, its exit statuses.
+#![tactic(auto)]
+
+mod saying;
+
+pub use saying::{cannot_open, explain, say, status_of, words_of, words_or_help};

@@ -1,0 +1,258 @@
+//! The public calls of the faces, each by its path and with its parameters, on one message.
+
+use super::{BARE, tables};
+use bufr_tables::{Element, Fxy, Kind, Tables};
+use std::alloc::Global;
+use std::process::Abort;
+
+/// The listing of `BARE`.
+const BARE_LISTED: &[u8] = b"message\n\
+section1 98 0 0 0 2 0 37 0\n\
+time 2024 1 15 12 0 0\n\
+flags observed\n\
+descriptors 012101\n\
+subset\n\
+012101 273.15\n\
+end\n";
+
+/// The descriptor of an air temperature.
+fn temperature(rt: &impl Abort) -> Fxy {
+    Fxy::new(0, 12, 101).expect(rt, "a descriptor")
+}
+
+/// The template of one air temperature.
+fn template(rt: &impl Abort, alloc: Global, tables: &Tables) -> bufr_expand::Template {
+    bufr_expand::Template::build(alloc, tables, &[temperature(rt)]).expect(rt, "a template")
+}
+
+#[test]
+fn bits(rt: HostRuntime) {
+    let alloc = rt.alloc();
+    let mut sink: bufr_bits::BitSink = bufr_bits::BitSink::new(alloc);
+    sink.put(4, 5).expect(&rt, "room");
+    sink.put_bytes(b"AB").expect(&rt, "room");
+    assert!(rt; sink.len_bits() == 20);
+    sink.cut(12);
+    sink.fill_octet();
+    let octets = sink.into_bytes();
+    assert!(rt; octets.as_slice() == [0x54, 0x10].as_slice());
+    let mut reader: bufr_bits::BitReader = bufr_bits::BitReader::new(octets.as_slice());
+    assert!(rt; reader.take(4) == Some(5));
+    assert!(rt; reader.place() == 4 && reader.left() == 12);
+    assert!(rt; octets.len() == 2);
+    let mut reader = bufr_bits::BitReader::at(octets.as_slice(), 4);
+    let taken = reader.take_bytes(alloc, 1).expect(&rt, "room");
+    assert!(rt; taken.expect(&rt, "an octet").as_slice() == b"A".as_slice());
+}
+
+#[test]
+fn devices(rt: HostRuntime) {
+    let mut source: bufr_bits::FromRead<&[u8]> = bufr_bits::FromRead::new(b"AB".as_slice());
+    let mut buffer = [0u8; 4];
+    let read: Result<usize, bufr_bits::Failed> = bufr_bits::Source::read(&mut source, &mut buffer);
+    assert!(rt; read == Ok(2));
+    let octets = Vec::new(rt.alloc());
+    let mut sink: bufr_bits::IntoWrite<Vec<u8>> = bufr_bits::IntoWrite::new(octets);
+    let written: Result<usize, bufr_bits::Failed> = bufr_bits::Sink::write(&mut sink, b"AB");
+    let _count = written.expect(&rt, "a sink that works");
+    bufr_bits::Sink::flush(&mut sink).expect(&rt, "a sink that works");
+    assert!(rt; sink.into_inner().as_slice() == b"AB".as_slice());
+}
+
+/// Which step a walk takes.
+fn is_field(step: Result<bufr_expand::Step, bufr_expand::WalkFault>) -> bool {
+    match step {
+        Ok(bufr_expand::Step::Field(_, _)) => true,
+        Ok(bufr_expand::Step::Count(_, _)) => false,
+        Ok(bufr_expand::Step::End) => false,
+        Err(bufr_expand::WalkFault::TooLarge) => false,
+        Err(bufr_expand::WalkFault::EffectiveRange(_)) => false,
+    }
+}
+
+#[test]
+fn walks(rt: HostRuntime) {
+    let tables = tables(&rt, rt.alloc());
+    let template = template(&rt, rt.alloc(), &tables);
+    assert!(rt; template.nodes() == 1);
+    let mut walk: bufr_expand::Walk<'_> = bufr_expand::Walk::start(rt.alloc(), &template, 0).expect(
+        &rt, "room",
+    );
+    assert!(rt; is_field(walk.next()));
+    assert!(rt; walk.items() == 1);
+}
+
+#[test]
+fn operators(rt: HostRuntime) {
+    let mut operators: bufr_expand::Operators = bufr_expand::Operators::none();
+    let wider = Fxy::new(2, 1, 130).expect(&rt, "a descriptor");
+    assert!(rt; wider.f() == 2 && wider.x() == 1);
+    operators.apply(wider);
+    let element = Element {
+        kind: Kind::Quantity,
+        scale: 2,
+        reference: 0,
+        width: 16,
+    };
+    let spec: Result<bufr_expand::Spec, bufr_expand::EffectiveRange> = operators.effective(
+        &element,
+        temperature(&rt),
+    );
+    assert!(rt;
+        spec == Ok(bufr_expand::Spec {
+            kind: Kind::Quantity,
+            scale: 2,
+            reference: 0,
+            width: 18,
+        },)
+    );
+}
+
+/// The one plain subset of octets.
+fn plain_subset(
+    rt: &impl Abort,
+    alloc: Global,
+    template: &bufr_expand::Template,
+    octets: &[u8],
+) -> bufr_data::Subset {
+    let mut reader = bufr_bits::BitReader::new(octets);
+    let (subset, items) = bufr_data::read_plain(alloc, template, &mut reader, 0).expect(
+        rt, "a subset",
+    );
+    assert!(rt; items == 1);
+    subset
+}
+
+#[test]
+fn plain_data(rt: HostRuntime) {
+    let alloc = rt.alloc();
+    let tables = tables(&rt, alloc);
+    let template = template(&rt, alloc, &tables);
+    let subset = plain_subset(&rt, alloc, &template, b"\x6A\xB3");
+    let mut sink = bufr_bits::BitSink::new(alloc);
+    bufr_data::write_plain(alloc, &template, &[subset], &mut sink).expect(&rt, "room");
+    assert!(rt; sink.len_bits() == 16);
+}
+
+#[test]
+fn fields(rt: HostRuntime) {
+    let alloc = rt.alloc();
+    let tables = tables(&rt, alloc);
+    let template = template(&rt, alloc, &tables);
+    let bufr_data::Subset { fields } = plain_subset(&rt, alloc, &template, b"\x6A\xB3");
+    let field: &bufr_data::Field = fields.get(0).expect(&rt, "a field");
+    assert!(rt; !field.is_missing());
+    assert!(rt; field.value() == bufr_data::Decimal::new(27315, 2));
+    assert!(rt; field.fxy == temperature(&rt) && field.spec.width == 16);
+    assert!(rt; matches!(&field.raw, bufr_data::Raw::Number(27315)));
+}
+
+#[test]
+fn compressed_data(rt: HostRuntime) {
+    let alloc = rt.alloc();
+    let tables = tables(&rt, alloc);
+    let template = template(&rt, alloc, &tables);
+    let octets = b"\x6A\xB3\x00";
+    let mut reader = bufr_bits::BitReader::new(octets);
+    let subsets = bufr_data::read_compressed(alloc, &template, &mut reader, 1).expect(
+        &rt, "subsets",
+    );
+    let mut sink = bufr_bits::BitSink::new(alloc);
+    bufr_data::write_compressed(alloc, &template, subsets.as_slice(), &mut sink).expect(
+        &rt, "room",
+    );
+    assert!(rt; sink.len_bits() == 22);
+    let mut reader = bufr_bits::BitReader::new(octets);
+    let columns: bufr_data::Columns<'_> = bufr_data::Columns::index(
+        alloc,
+        &template,
+        &mut reader,
+        1,
+    ).expect(&rt, "columns");
+    assert!(rt; columns.count() == 1);
+    let subset = columns.subset(alloc, 1).expect(&rt, "room");
+    assert!(rt; Some(&subset) == subsets.get(0));
+}
+
+#[test]
+fn messages(rt: HostRuntime) {
+    let alloc = rt.alloc();
+    let tables = tables(&rt, alloc);
+    let bufr_message::Decoded {
+        message,
+        slack_octets,
+    } = bufr_message::decode(alloc, &tables, BARE).expect(&rt, "a message");
+    assert!(rt; slack_octets == 0);
+    let octets = bufr_message::encode(alloc, &tables, &message).expect(&rt, "octets");
+    assert!(rt; octets.as_slice() == BARE);
+    let reports: Vec<bufr_message::Report> = bufr_message::reports(alloc, message).expect(
+        &rt, "room",
+    );
+    let report = reports.first().expect(&rt, "a report");
+    let octets = bufr_message::canonical(alloc, &tables, report).expect(&rt, "octets");
+    assert!(rt; octets.as_slice() == BARE);
+}
+
+#[test]
+fn views(rt: HostRuntime) {
+    let alloc = rt.alloc();
+    let tables = tables(&rt, alloc);
+    let view: bufr_message::View<'_> = bufr_message::view(alloc, &tables, BARE).expect(
+        &rt, "a view",
+    );
+    assert!(rt; view.count() == 1);
+    let bufr_message::Report {
+        head,
+        observed,
+        descriptors,
+        subset,
+    } = view.report(alloc, 1).expect(&rt, "room");
+    let head: bufr_message::ReportHead = head;
+    assert!(rt; observed && head.centre == 98 && head.update == 0);
+    assert!(rt; descriptors.len() == 1 && subset.fields.len() == 1);
+}
+
+/// Writes the listing of a message.
+fn listed(rt: &impl Abort, alloc: Global, message: &bufr_message::Message) -> Vec<u8> {
+    let mut sink = bufr_bits::IntoWrite::new(Vec::new(alloc));
+    let written: Result<(), bufr_message::listing::ListingWriteFault> =
+        bufr_message::listing::write(alloc, message, &mut sink);
+    written.expect(rt, "a listing");
+    sink.into_inner()
+}
+
+#[test]
+fn listings(rt: HostRuntime) {
+    let alloc = rt.alloc();
+    let tables = tables(&rt, alloc);
+    let messages = bufr_message::listing::read(alloc, &tables, BARE_LISTED).expect(&rt, "messages");
+    let message = messages.first().expect(&rt, "a message");
+    assert!(rt; listed(&rt, alloc, message).as_slice() == BARE_LISTED);
+    let refused = bufr_message::listing::read(alloc, &tables, b"end\n");
+    let wanted = bufr_message::listing::ListingFault::BadLine(1);
+    assert!(rt; refused == Err(bufr_message::Failure::Fault(wanted)));
+}
+
+#[test]
+fn frames(rt: HostRuntime) {
+    let mut framer: bufr_frame::Framer = bufr_frame::Framer::new(rt.alloc());
+    assert!(rt; framer.fed() == 0 && framer.pending() == 0);
+    let look: bufr_frame::Look = framer.look(BARE).expect(&rt, "room");
+    assert!(rt; look.found().len() == 1);
+    let found: Vec<bufr_frame::Found> = framer.settle(look);
+    let frame = found.first().expect(&rt, "a frame");
+    assert!(rt; frame.place == 0 && frame.bytes.as_slice() == BARE);
+    let end = framer.look_end().expect(&rt, "room");
+    assert!(rt; end.found().is_empty());
+}
+
+#[test]
+fn frames_in_turn(rt: HostRuntime) {
+    let mut framer = bufr_frame::Framer::new(rt.alloc());
+    assert!(rt; framer.fed() == 0);
+    let bufr_frame::Taken { found, rest } = framer.take_next(BARE).expect(&rt, "room");
+    assert!(rt; found.is_some() && rest.is_empty());
+    assert!(rt; framer.finish().expect(&rt, "room").is_empty());
+    assert!(rt; framer.fed() == 0);
+    assert!(rt; framer.feed(BARE).expect(&rt, "room").len() == 1);
+}
