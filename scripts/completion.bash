@@ -45,10 +45,16 @@ _bufr_commands() {
     COMPREPLY=()
     case "${COMP_WORDS[0]##*/}" in
         bufr-annotate) choices="-b -d --tables --quiet $choices" ;;
-        bufr-by-version) choices="--into --run $choices" ;;
-        bufr-collect-slurm) choices="-b -d --tables -o --folder --fan --steps --tries --wait --sbatch $choices" ;;
+        bufr-by-version) choices="--into --run --quiet $choices" ;;
+        bufr-collect-slurm) choices="-b -d --tables -o --folder --fan --steps --tries --wait --quiet --sbatch $choices" ;;
+        bufr-from-csv) choices="-b -d --tables -o --round --subsets --new --template --counts --quiet $choices" ;;
+        bufr-from-json) choices="--quiet $choices" ;;
+        bufr-geojson) choices="-b -d --tables --lines --values --each --missing --quiet $choices" ;;
         bufr-lint) choices="-b -d --tables --set-time --quiet $choices" ;;
+        bufr-map) choices="-b -d --tables -o --element --quiet $choices" ;;
+        bufr-report) choices="-b -d --tables -o --expect --no-map --quiet $choices" ;;
         bufr-skeleton) choices="-b -d --tables --counts --subsets --compressed --centre --category --time --notes $choices" ;;
+        bufr-summary) choices="-b -d --tables --data --headings --json --quiet $choices" ;;
         bufr-to-json) choices="-b -d --tables --lines --nested --compact --quiet $choices" ;;
     esac
     if [ "${word#-}" != "$word" ]; then
@@ -59,5 +65,5 @@ _bufr_commands() {
 }
 complete -o filenames -F _bufr bufr
 complete -o filenames -F _bufr_ls bufr-ls
-complete -o filenames -F _bufr_commands bufr-annotate bufr-by-version bufr-collect-slurm bufr-from-json bufr-lint bufr-skeleton \
-    bufr-to-json
+complete -o filenames -F _bufr_commands bufr-annotate bufr-by-version bufr-collect-slurm bufr-from-csv bufr-from-json bufr-geojson \
+    bufr-lint bufr-map bufr-report bufr-skeleton bufr-summary bufr-to-json

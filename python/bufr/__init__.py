@@ -25,7 +25,7 @@ _NAMES = {"BufrError": "errors", "Refused": "errors", "Missing": "errors", "read
 __all__ = sorted(_NAMES)
 
 
-def __getattr__(name: str):
+def __getattr__(name: str) -> object:
     if name not in _NAMES:
         raise AttributeError(f"module 'bufr' has no attribute '{name}'")
     module = __import__(f"bufr.{_NAMES[name]}", fromlist=[name])
@@ -33,5 +33,5 @@ def __getattr__(name: str):
     return found
 
 
-def __dir__():
+def __dir__() -> "list[str]":
     return sorted([*globals(), *_NAMES])

@@ -6,7 +6,8 @@ the first word names:
 import os
 import sys
 
-COMMANDS = ("annotate", "by-version", "collect-slurm", "from-json", "lint", "skeleton", "to-json")
+COMMANDS = ("annotate", "by-version", "collect-slurm", "from-csv", "from-json", "geojson", "lint", "map", "report",
+            "skeleton", "summary", "to-json")
 
 if not __package__:
     # run as a file: the package is the folder that has it, and nothing is written there

@@ -376,8 +376,8 @@ class Parted:
                 os.remove(f"{self.path(version)}.new")
 
 
-def part_into(folder, names):
-    inputs = Inputs(names, "-")
+def part_into(folder, names, progress=None):
+    inputs = Inputs(names, "-", progress)
     parted = Parted(inputs, folder)
     try:
         bufr_streams.pump(inputs, parted)
@@ -388,11 +388,11 @@ def part_into(folder, names):
     return parted
 
 
-def run_each(words, names):
+def run_each(words, names, progress=None):
     """Runs a command for each version on a file of its messages, and returns the greatest of its statuses."""
     import tempfile
     with tempfile.TemporaryDirectory(prefix="by-version.") as folder:
-        parted = part_into(folder, names)
+        parted = part_into(folder, names, progress)
         status = int(parted.left_out > 0)
         try:
             for version in sorted(parted.counts):

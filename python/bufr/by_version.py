@@ -209,9 +209,9 @@ class Answers:
         return int(self.refused > 0)
 
 
-def answer(name, names, kind, words, standard_input=None):
+def answer(name, names, kind, words, standard_input=None, progress=None):
     """Runs `show` or `check` on inputs."""
-    inputs = Inputs(names, standard_input)
+    inputs = Inputs(names, standard_input, progress)
     answers = Answers(name, inputs, kind, words)
     try:
         bufr_streams.pump(inputs, answers)
@@ -270,6 +270,7 @@ def run_by_version():
     import argparse
     import shlex
     from . import archives as bufr_archives
+    from .progress import InputsProgress
     parser = argparse.ArgumentParser(prog=bufr_tables.called("by-version"), description=__doc__,
                                      formatter_class=argparse.RawDescriptionHelpFormatter)
     bufr_tables.add_options(parser)
@@ -277,12 +278,14 @@ def run_by_version():
     to.add_argument("--into", metavar="FOLDER", help="writes FOLDER/version_NN.bufr for each version")
     to.add_argument("--run", metavar="COMMAND", help="runs the command for each version, with -b TABLE_B -d TABLE_D FILE after "
                     "its words")
+    parser.add_argument("--quiet", action="store_true", help="does not say how far it is")
     parser.add_argument("files", nargs="*", metavar="FILE", help="the streams; standard input if none is named")
     arguments = parser.parse_args()
     names = arguments.files or ["-"]
+    progress = InputsProgress(parser.prog, names, arguments.quiet)
     if arguments.into is not None:
         os.makedirs(arguments.into, exist_ok=True)
-        parted = bufr_archives.part_into(arguments.into, names)
+        parted = bufr_archives.part_into(arguments.into, names, progress)
         for version, count in sorted(parted.counts.items()):
             print(f"version {version} messages {count} in {parted.path(version)}")
         return int(parted.left_out > 0)
@@ -292,7 +295,9 @@ def run_by_version():
     kind = words[1] if words[0].rsplit("/", 1)[-1] == "bufr" and len(words) > 1 else ""
     if words[0] == "bufr":
         words[0] = program("bufr")
-    return answer(parser.prog, names, kind, words, "-") if kind in ("show", "check") else bufr_archives.run_each(words, names)
+    if kind in ("show", "check"):
+        return answer(parser.prog, names, kind, words, "-", progress)
+    return bufr_archives.run_each(words, names, progress)
 
 
 def main():

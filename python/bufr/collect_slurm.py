@@ -25,6 +25,7 @@ import sys
 
 from . import streams as bufr_streams
 from . import tables as bufr_tables
+from .progress import Progress
 
 # The most steps of an array job, if --steps names no other: fewer than a Slurm allows that is not told otherwise.
 MOST_STEPS = 1000
@@ -182,15 +183,30 @@ def refused(log):
         return sum(int(number) for line in file if not line.startswith("#") for number in re.findall(r"\brefused (\d+)", line))
 
 
-def submit(words):
-    """Hands a job to Slurm, and answers its number."""
+def done_in(work):
+    """How many steps are done."""
     try:
-        done = subprocess.run(["sbatch", "--parsable", *words], stdout=subprocess.PIPE, text=True)
+        return len(os.listdir(os.path.join(work, "lines")))
+    except OSError:
+        return 0
+
+
+def submit(words, work, progress):
+    """Hands a job to Slurm, and answers its number. While that waits, it says how many steps are done."""
+    try:
+        process = subprocess.Popen(["sbatch", "--parsable", *words], stdout=subprocess.PIPE, text=True)
     except OSError as error:
         raise bufr_tables.Fault(f"cannot run sbatch: {error.strerror}") from error
-    number = done.stdout.strip().split(";")[0]
+    with process:
+        while True:
+            try:
+                said, _ = process.communicate(timeout=None if progress.next is None else 0.3)
+                break
+            except subprocess.TimeoutExpired:
+                progress.at(done_in(work))
+    number = said.strip().split(";")[0]
     # with --wait the status is that of the job
-    if not number or (done.returncode and "--wait" not in words):
+    if not number or (process.returncode and "--wait" not in words):
         raise bufr_tables.Fault("Slurm took no job: see the line above")
     return number
 
@@ -207,6 +223,7 @@ def main():
                         help=f"how many steps add at most, each some of the streams ({MOST_STEPS})")
     parser.add_argument("--tries", type=int, default=3, metavar="N", help="how often a step is tried (3)")
     parser.add_argument("--wait", action="store_true", help="ends when the archive is there, or a step failed")
+    parser.add_argument("--quiet", action="store_true", help="does not say how many steps are done")
     parser.add_argument("--sbatch", default="", metavar="OPTIONS", help="options for sbatch, as '-p short'")
     parser.add_argument("streams", nargs="+", metavar="STREAM", help="the streams, where all machines see them")
     arguments = parser.parse_args()
@@ -245,7 +262,9 @@ def main():
             words.append(f"--dependency=afterok:{before}")
         if arguments.wait and level == len(steps) - 1:
             words.append("--wait")
-        before = submit(words + [f"--wrap=sh {shlex.quote(work + '/step')} {level} $SLURM_ARRAY_TASK_ID"])
+        progress = Progress(parser.prog, sum(steps), arguments.quiet, "steps")
+        before = submit(words + [f"--wrap=sh {shlex.quote(work + '/step')} {level} $SLURM_ARRAY_TASK_ID"], work, progress)
+        progress.end()
         print(f"job {before}: {count} {'merges' if level else 'adds'}", flush=True)
     if arguments.wait and not (os.path.exists(f"{out}.log") and not os.path.exists(work)):
         raise bufr_tables.Fault(f"a step failed: see {work}/log")

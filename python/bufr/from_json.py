@@ -6,6 +6,7 @@ import json
 import sys
 
 from . import tables as bufr_tables
+from .progress import InputsProgress
 from .to_json import NUMBER, SECTION_1, TIME
 
 
@@ -123,15 +124,22 @@ def main():
     parser = argparse.ArgumentParser(prog=bufr_tables.called("from-json"), description=__doc__,
                                      formatter_class=argparse.RawDescriptionHelpFormatter)
     bufr_tables.add_options(parser)
+    parser.add_argument("--quiet", action="store_true", help="does not say how far it is")
     parser.add_argument("file", nargs="?", default="-", metavar="FILE", help="the JSON (standard input: -)")
     arguments = parser.parse_args()
     listings = Listings(sys.stdout)
-    for number, line in bufr_tables.lines_of(arguments.file):
-        if line.strip():
-            try:
-                listings.take(parsed(line.encode("latin-1")))
-            except (ValueError, RecursionError) as error:
-                raise bufr_tables.Fault(f"line {number}: {error}") from error
+    progress, place = InputsProgress(parser.prog, [arguments.file], arguments.quiet), 0
+    try:
+        for number, line in bufr_tables.lines_of(arguments.file):
+            if line.strip():
+                try:
+                    listings.take(parsed(line.encode("latin-1")))
+                except (ValueError, RecursionError) as error:
+                    raise bufr_tables.Fault(f"line {number}: {error}") from error
+            place += len(line) + 1
+            progress.reached(0, place)
+    finally:
+        progress.end()
     listings.end()
     return 0
 

@@ -21,6 +21,13 @@ CONTROLS = re.compile(rb"BUFR|[\x00-\x08\x0b\x0c\x0e-\x1f]")
 COLUMNS = "place,length,master_version"
 
 
+class NoMessage(Fault):
+    """That a file has no message, and is no listing."""
+
+    def __init__(self, path, why=NOTHING):
+        super().__init__(f"{path} has no message, and is no listing{'' if why == NOTHING else f': {why}'}")
+
+
 def is_listing(head):
     """Whether a file that begins so has listings: it has no octets that only other files have before a line of a listing."""
     return bool(LISTED.match(head)) or not CONTROLS.search(head)
@@ -229,8 +236,7 @@ class Listed:
                 raise Ended(2)
         losses = self.skipped.end()
         if not self.messages:
-            why = losses[0].why if losses else NOTHING
-            raise Fault(f"{self.path} has no message, and is no listing{'' if why == NOTHING else f': {why}'}")
+            raise NoMessage(self.path, losses[0].why if losses else NOTHING)
         for loss in losses:
             sys.stderr.write(f"{self.name}: {self.path}: skipped {loss.length} octets at {loss.place}: {loss.why}\n")
 

@@ -11,6 +11,7 @@ from typing import (TYPE_CHECKING, Any, Dict, FrozenSet, Iterable, Iterator, Lis
                     Union)
 
 from .errors import BufrError, Missing, Refused
+from .levels import Leading
 from .progress import Progress
 from .shown import PathLike, Running, TablesLike, file_of, files_of, left_out, paths_of, plain_name, words_of, words_to_show
 from .skipped import Loss, Skipped, is_regular
@@ -193,13 +194,15 @@ def columns_of(columns: Columns, tables: Optional[List[str]]) -> List[Column]:
 class Rows:
     """The rows of files, as their listings have them. `files` has each file by the name that the program is given."""
 
-    def __init__(self, files: Dict[str, str], columns: List[Column], each: Optional[str], with_time: bool) -> None:
+    def __init__(self, files: Dict[str, str], columns: List[Column], each: Optional[str], with_time: bool,
+                 tables: TablesByVersion) -> None:
         self.files, self.columns, self.each, self.with_time = files, columns, each, with_time
         self.file = next(iter(files.values()))
         # the words of which no field has come
         self.unmet = {column.word for column in columns if column.word[:1].isdigit()} | ({each} if each is not None else set())
         self.has_subsets = False
         self.asked = {descriptor for word in self.unmet for descriptor in word.split()} | set(TIME if with_time else ())
+        self.tables, self.leading = tables, None if each is None else Leading(each.split(), self.asked)
         # the words of several descriptors that each descriptor is one of
         self.others: Dict[str, List[str]] = {}
         for word in {word for word in self.unmet if " " in word}:
@@ -219,6 +222,8 @@ class Rows:
                 words.append(f"{name} ")
         if asked & set(FLAGS):
             words.append("flags")
+        if self.leading is not None:
+            words += ["section1 ", "descriptors "]
         return f"^({'|'.join(words)})"
 
     def of(self, lines: Iterable[bytes], places: Iterator[Tuple[int, int]]) -> Iterator[Tuple[Any, ...]]:
@@ -258,6 +263,8 @@ class Rows:
             else:
                 words = line.split(" ")
                 self.heads[words[0]] = words
+                if words[0] == "descriptors" and self.leading is not None:
+                    self.leading.take(self.tables.of(self.heads["section1"][7]), words[1:])
 
     def rows_of(self, before: Dict[str, List[str]], spans: List[Dict[str, List[str]]], place: int) -> Iterator[Tuple[Any, ...]]:
         self.has_subsets = True
@@ -269,7 +276,7 @@ class Rows:
             yield self.row(span, before, place)
 
     def row(self, span: Dict[str, List[str]], before: Dict[str, List[str]], place: int) -> Tuple[Any, ...]:
-        cells = [self.moment(span, before)] if self.with_time else []
+        cells: List[Any] = [self.moment(span, before)] if self.with_time else []
         for column in self.columns:
             word = column.word
             if word[:1].isdigit():
@@ -329,7 +336,8 @@ def rows(files: Union[PathLike, Iterable[PathLike]], columns: Columns, each: Opt
         warning tells a column of which no message has a field.
     each : str, optional
         A descriptor without ``#``, or a name: there is a row for each field with this descriptor, and none where there is none. A
-        column has the first field from there up to the next row, or else the last one before the first row.
+        column has the first field from there up to the next row, or else the last one before the first row. A warning tells the
+        columns that come before this field in its replication, and so have the values of the next level.
     tables : int or pair of paths, optional
         The version of the tables, or the files of Tables B and D. By default each message is read under the tables of its version.
     time : bool, default False
@@ -382,11 +390,13 @@ def _rows(files: List[str], columns: List[Column], each: Optional[str], paths: O
     known = {plain_name(file): file for file in files}
     names = [plain_name(file) for file in files]
     is_placed = any(column.word in ("place", "message") for column in columns)
+    by_version, leading = TablesByVersion(paths), None
     done, unmet, has_subsets = 0, {each, *(column.word for column in columns if column.word[:1].isdigit())}, False
     try:
         # one program shows all files; tables that are named take one file each
         for group in [[name] for name in names] if paths else [names] if names else []:
-            rows_of = Rows({name: known[name] for name in group}, columns, each, time)
+            rows_of = Rows({name: known[name] for name in group}, columns, each, time, by_version)
+            leading = rows_of.leading = leading or rows_of.leading
             running = Running(words_to_show(group, paths), through=["grep", "-aE", rows_of.pattern()])
             heads, at = None, None
             try:
@@ -419,6 +429,10 @@ def _rows(files: List[str], columns: List[Column], each: Optional[str], paths: O
         progress.end()
     if has_subsets and each in unmet and each is not None:
         warnings.warn(f"there is no row: no message has a field {each.replace(' ', ' or ')} for each", stacklevel=depth)
+    elif leading is not None and each is not None:
+        warning = leading.said(f"each={each.replace(' ', ' or ')}", "a row has")
+        if warning:
+            warnings.warn(warning, stacklevel=depth)
     for column in columns if has_subsets else []:
         if column.word in unmet:
             near = f"; these have its name in theirs: {column.near}" if column.near else ""
@@ -562,6 +576,8 @@ def _messages(file: str, paths: Optional[List[str]], strict: bool, refusals: Lis
     message: Dict[str, Any] = {}
     known: Dict[Tables, Dict[str, Dict[str, Any]]] = {}
     fields: Dict[str, Dict[str, Any]] = {}
+    subset: List[Dict[str, Any]] = []
+    named: Tables
     try:
         heads = Heads([file], paths)
         places = heads.places

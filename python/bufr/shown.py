@@ -27,8 +27,8 @@ def paths_of(tables: TablesLike) -> Optional[List[str]]:
         if isinstance(tables, int):
             return table_paths(read_version(str(tables)))
         if not isinstance(tables, (str, bytes, os.PathLike)):
-            b_path, d_path = map(os.fspath, tables)
-            return [b_path, d_path]
+            b_path, d_path = tables
+            return [os.fspath(b_path), os.fspath(d_path)]
     except Fault as fault:
         raise BufrError(str(fault)) from None
     except (TypeError, ValueError):

@@ -8,7 +8,7 @@ import stat
 
 try:
     # the module signal without its enumerations, which take long to load
-    import _signal as signal
+    import _signal as signal  # type: ignore[import]
 except ImportError:
     import signal
 
@@ -355,8 +355,8 @@ class Pipe(Heads):
 class Inputs:
     """The frames of the inputs of a call, in order. An input is opened when the one before was read to its end."""
 
-    def __init__(self, names, standard_input=None):
-        self.names, self.standard_input = names, standard_input
+    def __init__(self, names, standard_input=None, progress=None):
+        self.names, self.standard_input, self.progress = names, standard_input, progress
         self.next, self.reading, self.parts, self.size = 0, None, [], 0
         # how long the rows of the last part were
         self.length = 0
@@ -391,6 +391,8 @@ class Inputs:
         while part.count > 1 and part.stop - part.start > PIECE:
             part, other = part.halves()
             self.parts.insert(0, other)
+        if self.progress:
+            self.progress.reached(part.number, part.stop)
         return part
 
     def waits(self):
@@ -420,6 +422,14 @@ class Inputs:
 
 def pump(inputs, taker):
     """Hands the frames of inputs to a taker, until both are done."""
+    try:
+        hand_on(inputs, taker)
+    finally:
+        if inputs.progress:
+            inputs.progress.end()
+
+
+def hand_on(inputs, taker):
     while True:
         is_wanted = taker.has_room()
         part = inputs.take() if is_wanted else None

@@ -1,4 +1,6 @@
 """What the tests of the package share. tests/python names the programs; `python3 -m pytest python/tests` takes those of dist/."""
+import contextlib
+import io
 import os
 import subprocess
 import sys
@@ -25,6 +27,20 @@ def run(*words, given=None, folder=None, **variables):
 def command(name, *words, **how):
     """A command of the package, from the checkout."""
     return run(sys.executable, f"{TOP}/scripts/bufr-{name}", *words, **how)
+
+
+def inside(name, *words):
+    """Status, output and standard error of a command that runs in this process, which is faster. It has no standard input."""
+    module = __import__("bufr." + name.replace("-", "_"), fromlist=["command"])
+    out, error = io.TextIOWrapper(io.BytesIO(), "utf-8"), io.StringIO()
+    before, sys.argv = sys.argv, [f"bufr-{name}", *map(str, words)]
+    try:
+        with contextlib.redirect_stdout(out), contextlib.redirect_stderr(error), pytest.raises(SystemExit) as ended:
+            module.command()
+    finally:
+        sys.argv = before
+    out.flush()
+    return ended.value.code, out.buffer.getvalue().decode(), error.getvalue()
 
 
 def read(path):

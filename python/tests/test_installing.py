@@ -9,7 +9,8 @@ import pytest
 
 from conftest import TOP, command, message, read, run, text, write
 
-COMMANDS = ("annotate", "by-version", "collect-slurm", "from-json", "lint", "skeleton", "to-json")
+COMMANDS = ("annotate", "by-version", "collect-slurm", "from-csv", "from-json", "geojson", "lint", "map", "report",
+            "skeleton", "summary", "to-json")
 
 
 @pytest.fixture(scope="module")

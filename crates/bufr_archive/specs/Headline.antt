@@ -5,7 +5,7 @@
 -- merges, copies and transfers lead there.
 --
 -- `Slots` defines what a slot took in (`Slot`, `new_slots`, `slot_at`); `StreamsTold` of
--- bufr_archive the reports of streams (`spells`, `frames_of`, `all_told`, `HoldSameMessages`);
+-- bufr_gather the reports of streams (`spells`, `frames_of`, `all_told`, `HoldSameMessages`);
 -- `Runs` what steps leave and answer (`after`, `after_all`, `Run`); `Holdings` the slots of a depot
 -- (`StandsFor`).
 use Rattle.std.specs.Prelude.{◌≡◌, ℕ, Option, Some, Result, Ok, Err, List, [], ◌∷◌, slice_get, true}

@@ -1,4 +1,4 @@
--- What the slots of a depot took in. `StreamsTold` of bufr_archive defines the reports of streams.
+-- What the slots of a depot took in. `StreamsTold` of bufr_gather defines the reports of streams.
 use Rattle.std.specs.Prelude.{ℕ, zero, suc, not, Option, List, [], ◌∷◌, ◌++◌, count_by}
 use Rattle.std.specs.Prelude.{replicate, slice_get}
 use Rattle.bufr_tables.specs.Entries.{Entries}

@@ -1,4 +1,3 @@
-//! Messages added to an archive.
 ghost use Rattle.std.specs.Prelude.{◌≡◌, ◌<◌, ◌∷◌, [], if◌then◌else◌, get_or, length, List, Option, IfOk, OnOk, OnErr};
 ghost use Rattle.bufr_entries.specs.declared.entry.Entry.{Entry as AnEntry};
 ghost use Rattle.bufr_gather.specs.Archives.{IsKept, taken_in, entries_of};
@@ -21,7 +20,7 @@ use std::alloc::Global;
 pub struct Added {
     /// The reports of the message.
     pub reports: u128,
-    /// The reports that changed the archive, added one by one.
+    /// The reports that changed the archive.
     pub changed: u128,
 }
 
@@ -72,7 +71,6 @@ impl<'t, S: Shelf> Archive<'t, S> {
         }
     }
 
-    /// Reads the reports of a message.
     fn reports_in<'m>(&mut self, octets: &'m [u8]) -> Result<MessageReports<'m>, Failure<Refused>>
         ensures same { self.new ≡ self.old }
         ensures is { Gives (λ s. s.view) result (message_of self.old.tables octets.now) }
@@ -100,7 +98,7 @@ impl<'t, S: Shelf> Archive<'t, S> {
         Ok(Added { reports, changed })
     }
 
-    /// Adds one report, and returns whether it changed the archive.
+    /// Adds a report, and returns whether the archive changed.
     fn add_one<L: ReportList>(
         &mut self,
         alloc: Global,

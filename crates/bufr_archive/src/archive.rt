@@ -1,4 +1,3 @@
-//! Archives of reports.
 ghost use Rattle.std.specs.Prelude.{◌≡◌, ◌<◌, [], false, true, List, length, take, IfOk, IfErr, OnOk, OnErr};
 ghost use Rattle.std.specs.Option.{option_map};
 ghost use Rattle.bufr_bits.specs.Devices.{Writes};
@@ -18,7 +17,7 @@ use std::marker::Model;
 use thiserror::Error;
 
 /// An archive of reports under some tables. Of each key it keeps the report of greatest update
-/// sequence number, then of greatest octets; it keeps each report without a key once.
+/// sequence number, then of greatest octets; each report without a key once.
 #[derive(Drop)]
 pub struct Archive<'t, S: Shelf> {
     pub(crate) alloc: Global,
@@ -42,7 +41,7 @@ impl<'t, S: Shelf> Model for Archive<'t, S> {
 #[derive(Clone, Copy, Debug, Drop, Error, PartialEq, Eq)]
 #[error("write failed after {written} octets")]
 pub struct WriteFault {
-    /// The octets that were written.
+    /// The octets written.
     pub written: u128,
 }
 
@@ -58,7 +57,7 @@ impl<'t, S: Shelf> Archive<'t, S> {
         }
     }
 
-    /// Takes in all reports of another archive under the same tables, or none if memory runs out.
+    /// Takes in all reports of another archive under the same tables.
     pub fn merge(&mut self, other: &Archive<'t, S>) -> Result<(), JoinFault>
         requires { self.old.tables ≡ other.now.tables }
         ensures ok { OnOk result (self.new ≡ merged self.old other.now) }
@@ -126,7 +125,6 @@ impl<'t, S: Shelf> Archive<'t, S> {
     }
 }
 
-/// Shows that an archive holds what is kept.
 pub(crate) fn archive_is_kept<S: Shelf>(archive: &Archive<S>)
     ensures { IsKept archive.now }
 {

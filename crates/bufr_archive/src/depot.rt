@@ -1,4 +1,3 @@
-//! Depots.
 ghost use Rattle.std.specs.Prelude.{◌≡◌, ◌<◌, List, length, slice_get, IfOk, OnErr, vec_len};
 ghost use Rattle.std.specs.Option.{option_map};
 ghost use Rattle.bufr_archive.specs.Slots.{Slot, new_slots};
@@ -72,7 +71,7 @@ impl<'t, S: Shelf> Depot<'t, S> {
     }
 
     /// Does steps one by one, and returns each answer or fault. If memory runs out for this list,
-    /// no step is done.
+    /// it does no step.
     pub fn run(&mut self, steps: &[Step]) -> Result<Vec<Result<Answer, StepFault>>, OutOfMemory>
         ensures tables { self.new.tables ≡ self.old.tables }
         ensures answers { IfOk result (λ answers. (slots : List Slot) → StandsFor self.old slots

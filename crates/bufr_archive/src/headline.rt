@@ -13,7 +13,7 @@ use std::alloc::Global;
 /// A plan of a run: steps for a new depot.
 #[derive(Clone, Copy)]
 pub struct Plan<'t, 's> {
-    /// The tables that decode the messages.
+    /// The tables.
     pub tables: &'t Tables,
     /// The number of slots of the depot.
     pub slots: usize,
@@ -21,10 +21,10 @@ pub struct Plan<'t, 's> {
     pub steps: &'s [Step],
 }
 
-/// A run that was done: its depot and its answers.
+/// A finished run.
 #[derive(Drop)]
 pub struct Ran<'t, S: Shelf> {
-    /// The depot after the run.
+    /// Its depot.
     pub depot: Depot<'t, S>,
     /// The answer or fault of each step, in order.
     pub answers: Vec<Result<Answer, StepFault>>,
@@ -42,8 +42,8 @@ impl<'t, 's> Plan<'t, 's> {
     }
 }
 
-/// Runs both plans with `Depot::run`. If the tables are the same, archives of both that took in
-/// ended streams with the same set of messages hold the same reports and write the same octets.
+/// Runs both plans with `Depot::run`. Under the same tables, archives of both whose ended streams
+/// have the same messages hold the same reports and write the same octets.
 pub fn run_both<'t, 'u, S: Shelf, R: Shelf>(
     alloc: Global,
     one: &Plan<'t, '_>,

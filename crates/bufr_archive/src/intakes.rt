@@ -1,4 +1,3 @@
-//! Slots of a depot.
 ghost use Rattle.std.specs.Prelude.{◌≡◌, []};
 ghost use Rattle.bufr_gather.specs.Archives.{IsKept};
 ghost use Rattle.bufr_frame.specs.Looks.{new_framing};

@@ -1,4 +1,4 @@
-//! Laws of archives and depots: a contract states each, and no body does anything.
+//! Laws of archives and depots.
 ghost use Rattle.std.specs.Prelude.{◌≡◌};
 ghost use Rattle.bufr_tables.specs.Entries.{Entries};
 ghost use Rattle.bufr_message.specs.Laws.{MessagesWrittenAreRead};
@@ -12,8 +12,7 @@ pub use bufr_gather::laws::{
 };
 use bufr_message::laws::written_messages_are_spelt;
 
-/// Merges under the same tables agree by any route: they are commutative, associative and
-/// idempotent.
+/// Merges under the same tables are commutative, associative and idempotent.
 pub fn merges_agree()
     ensures commutes { MergeCommutes }
     ensures associates { MergeAssociates }
@@ -21,13 +20,12 @@ pub fn merges_agree()
     ensures kept { MergedIsKept }
 {}
 
-/// The headline: whatever streams archives take in under the same tables, in any pieces, in any
-/// order, with repeats, and through any merges, copies and transfers, two archives hold the same
-/// reports and write the same octets if their ended streams hold the same set of messages. Merge is
-/// commutative, associative and idempotent, and an encoded message decodes to its values.
+/// The headline: two archives under the same tables hold the same reports and write the same octets
+/// if their ended streams hold the same set of messages, in any pieces, in any order, with repeats,
+/// and through any merges, copies and transfers. Merge is commutative, associative and idempotent,
+/// and an encoded message decodes to its values.
 ///
-/// It speaks of what `Depot::run` leaves of two new depots; [`run_both`](crate::run_both) of two
-/// calls.
+/// It speaks of two new depots after `Depot::run`; [`run_both`](crate::run_both) of two calls.
 pub fn headline()
     ensures converges { Headline }
     ensures commutes { MergeCommutes }
@@ -39,9 +37,8 @@ pub fn headline()
     written_messages_are_spelt();
 }
 
-/// Runs alone, without the depot: archives agree if their ended streams hold the same messages. An
-/// archive keeps what is kept of all that its streams tell. A slot has exactly the reports that its
-/// ended streams and the sure frames of its open one tell.
+/// Archives agree if their ended streams hold the same messages. A slot has exactly the reports of
+/// its ended streams and of the sure frames of its open one.
 pub fn archives_converge()
     ensures converges { (tables : Entries) → Converges tables }
     ensures keeps { (tables : Entries) → KeepsWhatWasTold tables }

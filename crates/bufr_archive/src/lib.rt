@@ -1,9 +1,8 @@
 //! Archives: one copy of each report, by any route.
 //!
 //! An [`Archive`] holds reports under some tables, on a [`Shelf`]. Its text is the canonical
-//! messages in order of slots: the same octets for any order of reports and any route of merges.
-//!
-//! A call that runs out of memory changes nothing, unless its line says otherwise.
+//! messages in order of slots. A call that runs out of memory changes nothing, unless its line says
+//! otherwise.
 #![tactic(auto)]
 
 pub mod adding;
@@ -20,6 +19,7 @@ mod worked_values;
 
 pub use adding::{Added, ReportList};
 pub use archive::{Archive, WriteFault};
+pub use bufr_base::{Failure, Items, OutOfMemory};
 pub use bufr_entries::{
     Entry, KeptOctets, Key, LentOctets, Moment, ShelfBuilder, Station, laws as shelf_laws,
 };

@@ -17,7 +17,6 @@ use bufr_shelves::Shelf;
 use bufr_tables::Tables;
 use std::alloc::Global;
 
-/// Puts an entry on a shelf.
 fn keep<S: Shelf>(alloc: Global, shelf: &mut S, entry: &ReadEntry) -> Result<(), OutOfMemory>
     ensures { OnOk result
         (S.entries shelf.new ≡ kept (S.entries shelf.old ++ read entry.now ∷ [])) }
@@ -28,21 +27,20 @@ fn keep<S: Shelf>(alloc: Global, shelf: &mut S, entry: &ReadEntry) -> Result<(),
 }
 
 impl<'t, S: Shelf> Archive<'t, S> {
-    /// Reads an archive's text from the left. Fails at the first wrong entry: a wrong entry spells
-    /// no canonical message of one report, or does not come after the entry before.
+    /// Reads an archive's text from the left. Fails at the first entry that spells no canonical
+    /// message of one report, or does not come after the entry before.
     pub fn read(
         alloc: Global,
         tables: &'t Tables,
         octets: &[u8],
     ) -> Result<Self, Failure<NotAnArchive>>
-        // An accepted text is that of some reports under the tables, and the archive keeps what is
-        // kept of them.
+        // An accepted text is that of some reports under the tables.
         ensures accepted { IfOk result (IsArchiveOf tables.now octets.now) }
         // Every text of reports under the tables is accepted, unless memory runs out.
         ensures only { (rs : List AReport) → AreUnder tables.now rs
             → octets.now ≡ text_of tables.now rs
             → Gives (λ a. a) result (Ok (archive_of tables.now rs)) }
-        // The place in a fault is the length of the longest beginning that is a text.
+        // The place in a fault is the length of the longest text at the start.
         ensures refused { IfErr result (RefusedAt tables.now octets.now) }
     {
         reports_are_entries();

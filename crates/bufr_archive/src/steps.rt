@@ -1,4 +1,3 @@
-//! Steps and their answers.
 use bufr_base::Items;
 use thiserror::Error;
 

@@ -1,5 +1,9 @@
-//! Worked examples of the definitions.
-ghost use Rattle.std.specs.Prelude.{◌≡◌, ◌+◌, Err, false, length, true};
+ghost use Rattle.std.specs.Prelude.{◌≡◌, ◌+◌, ◌∷◌, [], Err, Some, false, length, true};
+ghost use Rattle.bufr_tables.specs.Entries.{Entries};
+ghost use Rattle.bufr_gather.specs.Archives.{ArchiveView};
+ghost use Rattle.bufr_archive.specs.Holdings.{DepotView};
+ghost use Rattle.bufr_archive.specs.Headline.{archive_at, TookIn};
+ghost use Rattle.bufr_archive.specs.Samples.{run};
 ghost use Rattle.bufr_archive.specs.Runs.{are_too_many};
 ghost use Rattle.bufr_archive.specs.declared.steps.StepFault.TheVariants.{StreamTooLong};
 
@@ -14,6 +18,14 @@ pub fn longest_streams()
     ensures piece_too_long { are_too_many 18446744073709551610 6 ≡ true }
     ensures one_more { are_too_many 18446744073709551615 1 ≡ true }
     ensures no_piece { are_too_many 0 0 ≡ false }
+{}
+
+/// The premises of the headline hold of a run in which a step was refused and repeated, and a slot
+/// took in another while its own stream was open. It then has the ended streams of both.
+pub fn premises_of_the_headline()
+    ensures { (tables : Entries) (left : DepotView) (archive : ArchiveView)
+        → archive_at left 1 ≡ Some archive
+        → TookIn (run tables left) 1 archive ((65 ∷ []) ∷ (67 ∷ []) ∷ []) }
 {}
 
 /// Feeds a stream one octet beyond its octet 2^64 - 1: it is too long, and nothing is joined.

@@ -1,7 +1,6 @@
-//! Refused growths of shelves, archives and depots. Each test makes a few calls; after a refusal it
-//! compares the state, repeats the call and compares the result. Only `tests/refuse-each-growth`
-//! refuses growths: it runs each test once for each growth, which then fails. Octets, texts and
-//! counts are typed from the formats.
+//! Refused growths of shelves, archives and depots. After a refusal a test compares the state,
+//! repeats the call and compares the result. Only `tests/refuse-each-growth` refuses growths: it
+//! runs each test once for each growth. Octets, texts and counts are typed from the formats.
 
 mod depots;
 mod gathered;
@@ -11,7 +10,6 @@ mod samples;
 use std::fmt::Debug;
 use std::process::Abort;
 
-/// A function, since comparisons in a test make its proof long.
 fn same<T: PartialEq + Debug + Drop>(rt: &impl Abort, found: T, wanted: T) {
     assert_eq!(rt; found, wanted);
 }

@@ -12,6 +12,7 @@ use std::process::Abort;
 
 mod archives;
 mod faults;
+mod kept;
 mod large;
 
 const TABLE_B: &str = "\
@@ -25,6 +26,7 @@ FXY,ElementName_en,BUFR_Unit,BUFR_Scale,BUFR_ReferenceValue,BUFR_DataWidth_Bits
 004005,minute,min,0,0,6
 004006,second,s,0,0,6
 012101,temperature,K,2,0,16
+031001,delayed descriptor replication factor,Numeric,0,0,8
 ";
 
 const TABLE_D: &str = "\
@@ -100,7 +102,6 @@ enum Told {
 
 use Told::{Ended, Fed, Joined, NoSlot};
 
-/// A function, since comparisons in a test make its proof long.
 fn same<T: PartialEq + Debug + Drop>(rt: &impl Abort, found: T, wanted: T) {
     assert_eq!(rt; found, wanted);
 }
@@ -210,7 +211,20 @@ const DEPOT: &[Row] = &[
     (End(1), Ended(0, 0, 0), &[]),
     (Merge(1, 0), Joined, &[]),
     (Copy(0, 1), Joined, &[(0, &UPDATED), (1, &UPDATED)]),
-    (End(9), NoSlot(9), &[]),
+    (End(9), NoSlot(9), &[(0, &UPDATED), (1, &UPDATED)]),
+];
+
+/// The same, with a merge of a slot with itself before the copy.
+const SELF_MERGE: &[Row] = &[
+    (Feed(0, FRONT), Fed(0, 0, 0), &[]),
+    (Feed(0, BACK), Fed(1, 0, 1), &[]),
+    (End(0), Ended(0, 0, 0), &[(1, &[])]),
+    (Transfer(0, 1), Joined, &[(1, &ROW_1)]),
+    (Feed(1, &UPDATED), Fed(1, 0, 1), &[]),
+    (End(1), Ended(0, 0, 0), &[]),
+    (Merge(1, 0), Joined, &[]),
+    (Merge(0, 0), Joined, &[(0, &UPDATED), (1, &UPDATED)]),
+    (Copy(0, 1), Joined, &[(0, &UPDATED), (1, &UPDATED)]),
 ];
 
 /// A slot that takes in itself stays as it is, with a report without a key. Then each kind of join
@@ -256,18 +270,38 @@ const LAST: &[Row] = &[(Feed(999, &ROW_1), Fed(1, 0, 1), &[(0, &[]), (999, &ROW_
 
 const DEPOTS: &[(usize, &[Row])] = &[
     (2, DEPOT),
+    (2, SELF_MERGE),
     (4, ITSELF),
     (1, MISSING),
     (1, FRAMES),
     (1000, LAST),
 ];
 
-/// The steps have these answers over both shelves.
+/// Runs the steps of rows at once: each has its answer, and the slots have the texts of the last.
+fn at_once<S: Shelf>(rt: &impl Abort, alloc: Global, tables: &Tables, slots: usize, rows: &[Row]) {
+    let mut depot: Depot<S> = Depot::new(alloc, tables, slots).expect(rt, "room");
+    let mut steps = Vec::new(alloc);
+    for (done, _, _) in rows {
+        steps.push(step_of(rt, alloc, done)).expect(rt, "room");
+    }
+    let answers = depot.run(&steps).expect(rt, "room");
+    same(rt, answers.len(), rows.len());
+    for ((_, told, _), answer) in rows.iter().zip(&answers) {
+        same(rt, *answer, answer_of(told));
+    }
+    if let Some((_, _, written)) = rows.last() {
+        assert_all_write(rt, alloc, &depot, *written);
+    }
+}
+
+/// The steps have these answers over both shelves, one by one and in one run.
 #[test]
 fn steps(rt: HostRuntime) {
     let tables = tables(&rt, rt.alloc());
     for (slots, rows) in DEPOTS {
         one_by_one::<MapShelf>(&rt, rt.alloc(), &tables, *slots, *rows);
         one_by_one::<SortedShelf>(&rt, rt.alloc(), &tables, *slots, *rows);
+        at_once::<MapShelf>(&rt, rt.alloc(), &tables, *slots, *rows);
+        at_once::<SortedShelf>(&rt, rt.alloc(), &tables, *slots, *rows);
     }
 }

@@ -122,8 +122,7 @@ impl<'a> BitReader<'a> {
         number
     }
 
-    /// Copies `n` octets from any bit on, or returns `None` if fewer are left; `OutOfMemory` if
-    /// there is no room for the copy.
+    /// Copies `n` octets from any bit on, or returns `None` if fewer are left.
     pub fn take_bytes(&mut self, alloc: Global, n: u64) -> Result<Option<Vec<u8>>, OutOfMemory>
         ensures found { IfOk result (λ o. IfSome o
             (λ v. octets_at n (left self.old) ≡ Some (v.items, left self.new))) }

@@ -39,7 +39,7 @@ impl BitSink {
         }
     }
 
-    /// Makes an empty sink with room for `octets` octets, or returns `OutOfMemory`.
+    /// Makes an empty sink with room for `octets` octets.
     pub fn with_capacity(alloc: Global, octets: usize) -> Result<Self, OutOfMemory>
         ensures { IfOk result (λ sink. sink ≡ []) }
     {

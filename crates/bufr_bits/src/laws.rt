@@ -4,14 +4,14 @@ ghost use Rattle.std.specs.Prelude.{◌≡◌, ℕ, ◌^◌, ◌<◌, ◌++◌, 
 ghost use Rattle.std.specs.List.{flat_map};
 ghost use Rattle.bufr_bits.specs.Bits.{bin, bits, number, number_at, numbers_at, octets_at};
 
-/// A field of `width` bits is the only one of its length that spells its number.
+/// Only one field of `width` bits spells a number.
 pub fn field_of_a_number()
     ensures width { (width number : ℕ) → length (bin width number) ≡ width }
     ensures spells { (width n : ℕ) → n < 2 ^ width → number (bin width n) ≡ n }
     ensures only { (field : List Bool) → bin (length field) (number field) ≡ field }
 {}
 
-/// A number that was put is taken again, whatever follows.
+/// A reader takes the number that a sink put, whatever follows.
 pub fn number_put_is_taken()
     ensures { (width number : ℕ) (rest : List Bool) → number < 2 ^ width
         → number_at width (bin width number ++ rest) ≡ Some (number, rest) }

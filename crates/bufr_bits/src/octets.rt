@@ -24,7 +24,7 @@ pub(crate) fn octets_from(
     shifted(alloc, &octets[first..], shift, n)
 }
 
-/// Copies `n` octets that begin `shift` bits into the first, each joined from two neighbours.
+/// Copies `n` octets that begin `shift` bits into the first.
 fn shifted(alloc: Global, octets: &[u8], shift: u32, n: usize) -> Result<Vec<u8>, OutOfMemory>
     requires enough { n < length octets.now }
     requires off_edge { 0 < shift }

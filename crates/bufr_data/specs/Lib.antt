@@ -26,3 +26,8 @@ pub use Rattle.bufr_fields.specs.declared.field.Raw
 pub use Rattle.bufr_fields.specs.declared.field.Subset
 pub use Rattle.bufr_fields.specs.declared.fault.DataFault
 pub use Rattle.bufr_fields.specs.declared.fault.MisfitFault
+pub use Rattle.bufr_base.specs.declared.failure.Failure
+pub use Rattle.bufr_expand.specs.Templates
+pub use Rattle.bufr_expand.specs.TreeCodes
+pub use Rattle.bufr_tables.specs.Descriptors
+pub use Rattle.bufr_tables.specs.Entries

@@ -55,13 +55,18 @@ impl<'v> Fields<'v> {
 
     /// Hands out the next chosen field, or `None` if none is left. It skips the others unread if it
     /// can.
-    pub fn next_asked<A: Asks>(&mut self, alloc: Global) -> Result<Option<Field>, OutOfMemory>
-        ensures { IfOk result (λ found. HandsOutAsked A.is_asked self.old found self.new) }
+    pub fn next_asked<A: Asks>(
+        &mut self,
+        alloc: Global,
+        asked: &A,
+    ) -> Result<Option<Field>, OutOfMemory>
+        ensures { IfOk result (λ found.
+            HandsOutAsked (A.is_asked asked.now) self.old found self.new) }
     {
         match &mut self.standing {
-            FieldSource::Plain(fields) => fields.next_asked::<A>(alloc),
-            FieldSource::Laid(fields) => fields.next_asked::<A>(alloc),
-            FieldSource::Compressed(fields) => fields.next_asked::<A>(alloc),
+            FieldSource::Plain(fields) => fields.next_asked(alloc, asked),
+            FieldSource::Laid(fields) => fields.next_asked(alloc, asked),
+            FieldSource::Compressed(fields) => fields.next_asked(alloc, asked),
         }
     }
 

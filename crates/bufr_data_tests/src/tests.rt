@@ -4,6 +4,7 @@ mod asked;
 mod decimals;
 mod index;
 mod many;
+mod refused;
 mod samples;
 
 use std::fmt::Debug;

@@ -1,5 +1,5 @@
--- The messages of frames added to an archive since some state of it: the steps of `take_frame` and
--- `add_streams`, for the contract of `run_add`.
+-- Frame by frame, an archive adds messages since some state: for `take_frame` and `add_streams`,
+-- and so for `run_add`.
 use Rattle.std.proofs.Common.{◌≡◌, ◌+◌, ◌^◌, ◌<◌, ◌≤◌, List, [], ◌∷◌, ◌++◌}
 use Rattle.std.proofs.Common.{sym, subst, arith, length-append, append_assoc}
 use Rattle.std.proofs.lemmas.List.{append-nil}
@@ -9,7 +9,6 @@ use Rattle.bufr_gather.specs.Archives.{ArchiveView}
 use Rattle.bufr_engines.specs.declared.streams.Counts.{Counts}
 use Rattle.bufr_engines.specs.Adds.{HasAdded, HasAddedSince}
 
--- at first none was added
 pub since_none : (archive : ArchiveView) (counts : Counts) → counts.frames < 2 ^ 127
     → counts.refused ≤ counts.frames → HasAddedSince archive counts archive counts []
 since_none archive counts few refused = record {
@@ -19,7 +18,6 @@ since_none archive counts few refused = record {
   added = λ tables before h. subst (HasAdded tables archive counts) (sym (append-nil before)) h;
 }
 
--- then one frame more was
 pub since_more : (first archive archive' : ArchiveView) (start counts counts' : Counts)
     (frames : List Found) (frame : Found) → HasAddedSince first start archive counts frames
     → counts'.frames ≡ counts.frames + 1 → counts'.refused ≤ counts.refused + 1

@@ -1,5 +1,5 @@
--- What `add_streams` and `merge_readers` keep from reader to reader, and what the engines answer:
--- for the contracts of `run_add` and `run_merge`.
+-- The loops of `add_streams` and `merge_readers`, reader by reader, and each way in which the
+-- engines end: for `run_add` and `run_merge`.
 use Rattle.std.proofs.Common.{◌≡◌, ℕ, suc, ◌+◌, ◌*◌, ◌≤◌, List, [], ◌∷◌, ◌++◌, length}
 use Rattle.std.proofs.Common.{Ok, Err, refl, sym, ap, ◌∙◌, subst, arith, length-append}
 use Rattle.std.proofs.lemmas.List.{append-nil}
@@ -46,11 +46,11 @@ use Rattle.bufr_io.specs.ReaderLaws.{through_more, ends_here, at_most_fresh, at_
 
 -- ---- streams
 
--- adding stops only where memory runs out
+-- adding stops only if memory runs out
 abbrev pub RanOut : List Found → ToolFault → Type 0
 RanOut frames fault = fault ≡ faults.OutOfMemory
 
--- the streams of so many readers were added
+-- has added the streams of the first `i` readers
 pub record AddedThrough (tables : Entries) (reads : ℕ) (old new : List Reading)
     (archive : ArchiveView) (counts : Counts) (i : ℕ) : Type 0 where
   pub streams : List (List ℕ)
@@ -59,7 +59,6 @@ pub record AddedThrough (tables : Entries) (reads : ℕ) (old new : List Reading
   pub few : length (frames_of streams) ≤ 281474976710656 * i
   pub bounded : AreReadAtMost reads new
 
--- before the first
 pub added_first : (tables : Entries) (reads : ℕ) (readers : List Reading) (archive : ArchiveView)
     (counts : Counts) → AreFresh readers → HasAdded tables archive counts []
     → AddedThrough tables reads readers readers archive counts 0
@@ -71,14 +70,12 @@ added_first tables reads readers archive counts fresh empty = record {
   bounded = at_most_fresh reads readers fresh;
 }
 
--- the frames of streams and of one more
 frames_more : (streams : List (List ℕ)) (stream : List ℕ)
     → frames_of (streams ++ stream ∷ []) ≡ frames_of streams ++ cut stream
 frames_more streams stream =
     flat_map-append cut streams (stream ∷ [])
     ∙ ap (λ (fs : List Found). frames_of streams ++ fs) (append-nil (cut stream))
 
--- one more
 pub added_next : (tables : Entries) (reads : ℕ) (old new new' : List Reading)
     (archive archive' : ArchiveView) (counts counts' : Counts) (i : ℕ) (r r' : Reading)
     (long : ℕ) → reads ≤ most_reads
@@ -105,20 +102,17 @@ added_next tables reads old new new' archive archive' counts counts' i r r' long
       bounded = subst (AreReadAtMost reads) (sym is) (at_most_set reads new i r' a.bounded bounded);
     }
 
--- the bound stays
 pub bounded_next : (reads : ℕ) (new new' : List Reading) (i : ℕ) (r' : Reading)
     → AreReadAtMost reads new → new' ≡ set new i r' → r'.reads ≤ reads → AreReadAtMost reads new'
 bounded_next reads new new' i r' all is bounded =
     subst (AreReadAtMost reads) (sym is) (at_most_set reads new i r' all bounded)
 
--- after the last
 pub added_all : (tables : Entries) (reads : ℕ) (old new : List Reading) (archive : ArchiveView)
     (counts : Counts) (i : ℕ) (done : Unit {0}) → AddedThrough tables reads old new archive counts i
     → length new ≤ i → AddsStreams tables reads old new archive counts (Ok done)
 added_all tables reads old new archive counts i done a all =
     (a.streams, through_all old new a.streams i a.through all, a.added)
 
--- one could not be read
 unread_ends : (tables : Entries) (reads : ℕ) (old new new' : List Reading) (archive : ArchiveView)
     (counts : Counts) (streams : List (List ℕ)) (i : ℕ) (r r' : Reading) (pieces : Pieces)
     (read : List ℕ) (e : ToolFault) → Reached old new streams i r → new' ≡ set new i r'
@@ -137,7 +131,6 @@ unread_ends tables reads old new new' archive counts streams i r r' pieces read
 unread_ends tables reads old new new' archive counts streams i r r' pieces read e at is ends =
     absurd ends
 
--- it ended at one, or memory ran out
 pub added_ends : (tables : Entries) (reads : ℕ) (old new new' : List Reading)
     (Taken : List Found → Type 0) (archive : ArchiveView) (counts : Counts)
     (streams : List (List ℕ)) (i : ℕ) (r r' : Reading) (e : ToolFault) → Reached old new streams i r
@@ -153,7 +146,6 @@ added_ends tables reads old new new' Taken archive counts streams i r r' e at is
     (at_end stream out all given s) =
     subst (λ f. AddsStreams tables reads old new' archive counts (Err f)) (sym s.stopped) tt
 
--- the reports of the frames of streams are those that the streams tell
 pub told_frames : (tables : Entries) (streams : List (List ℕ))
     → reports_of_frames tables (frames_of streams) ≡ all_told tables streams
 told_frames tables [] = refl
@@ -161,7 +153,6 @@ told_frames tables (stream ∷ streams) =
     flat_map-append (λ (f : Found). reports_in tables f.bytes) (cut stream) (frames_of streams)
     ∙ ap (λ (rs : List Report). told tables stream ++ rs) (told_frames tables streams)
 
--- the text of the archive is that of all reports that the streams tell
 pub collected_text_is : (tables : Entries) (archive : ArchiveView) (counts : Counts)
     (streams : List (List ℕ)) (octets : List ℕ) → HasAdded tables archive counts (frames_of streams)
     → octets ≡ text archive.entries → octets ≡ collected_text tables streams
@@ -169,12 +160,11 @@ collected_text_is tables archive counts streams octets h is =
     is ∙ ap (λ (a : ArchiveView). text a.entries) h.archive_is
     ∙ ap (text_of tables) (told_frames tables streams)
 
--- and so is what is counted
+-- the counts of `add`
 abbrev pub counted : ℕ → ℕ → ℕ → Tally
 counted frames refused reports =
     record { frames = frames; refused = refused; skipped = 0; reports = reports }
 
--- the counts of frames, of refused ones and of reports are those of the streams
 pub collected_tally_is : (tables : Entries) (archive : ArchiveView) (counts : Counts)
     (streams : List (List ℕ)) (reports : ℕ) → HasAdded tables archive counts (frames_of streams)
     → reports ≡ length archive.entries
@@ -186,7 +176,6 @@ collected_tally_is tables archive counts streams reports h is =
     (is ∙ ap (λ (a : ArchiveView). length a.entries) h.archive_is
     ∙ ap (λ (rs : List Report). length (kept_of tables rs)) (told_frames tables streams))
 
--- without a fault
 pub collects_ok : (tables : Entries) (reads : ℕ) (old new : List Reading) (writer writer' : Writing)
     (archive : ArchiveView) (counts : Counts) (octets : List ℕ) (reports : ℕ) (done : Unit {0})
     → AddsStreams tables reads old new archive counts (Ok done) → octets ≡ text archive.entries
@@ -202,7 +191,6 @@ collects_ok tables reads old new writer writer' archive counts octets reports do
       collected_tally_is tables archive counts adds.0 reports adds.2 count,
     )
 
--- the writer failed
 pub collects_fails : (tables : Entries) (reads : ℕ) (old new : List Reading)
     (writer writer' : Writing) (archive : ArchiveView) (counts : Counts) (octets : List ℕ)
     (done : Unit {0}) (e : ToolFault) → AddsStreams tables reads old new archive counts (Ok done)
@@ -232,7 +220,6 @@ collects_fails tables reads old new writer writer' archive counts octets done
 collects_fails tables reads old new writer writer' archive counts octets done
     (faults.NotAnArchive input place) adds is w = absurd w
 
--- it ended at a reader, or memory ran out
 pub collects_ends : (tables : Entries) (reads : ℕ) (old new : List Reading) (writer : Writing)
     (archive : ArchiveView) (counts : Counts) (e : ToolFault)
     → AddsStreams tables reads old new archive counts (Err e)
@@ -252,7 +239,6 @@ collects_ends tables reads old new writer archive counts (faults.Encode number w
 collects_ends tables reads old new writer archive counts (faults.NotAnArchive input place) adds =
     absurd adds
 
--- a new archive
 pub empty_added : (archive : ArchiveView) (tables : Entries)
     → archive ≡ record { tables = tables; entries = [] }
     → HasAdded archive.tables archive (record { frames = 0; refused = 0 }) []
@@ -264,7 +250,7 @@ empty_added archive tables is = record {
 
 -- ---- archives
 
--- the archives of so many readers were merged
+-- has merged the archives of the first `i` readers
 pub record MergedThrough (tables : Entries) (reads : ℕ) (old new : List Reading)
     (archive : ArchiveView) (i : ℕ) : Type 0 where
   pub texts : List (List ℕ)
@@ -274,7 +260,6 @@ pub record MergedThrough (tables : Entries) (reads : ℕ) (old new : List Readin
   pub merged_is : archive ≡ archive_of tables (all_of lists)
   pub bounded : AreReadAtMost reads new
 
--- before the first
 pub merged_first : (tables : Entries) (reads : ℕ) (readers : List Reading) (archive : ArchiveView)
     → AreFresh readers → archive ≡ record { tables = tables; entries = [] }
     → MergedThrough tables reads readers readers archive 0
@@ -287,7 +272,6 @@ merged_first tables reads readers archive fresh empty = record {
   bounded = at_most_fresh reads readers fresh;
 }
 
--- one more text
 texts_more : (tables : Entries) (texts : List (List ℕ)) (lists : List (List Report))
     (octets : List ℕ) (rs : List Report) → AreTextsOf tables texts lists → AreUnder tables rs
     → octets ≡ text_of tables rs → AreTextsOf tables (texts ++ octets ∷ []) (lists ++ rs ∷ [])
@@ -297,21 +281,18 @@ texts_more tables (t ∷ texts) (l ∷ lists) octets rs are under is =
 texts_more tables [] (l ∷ lists) octets rs are under is = absurd are
 texts_more tables (t ∷ texts) [] octets rs are under is = absurd are
 
--- the reports of lists and of one more
 all_more : (lists : List (List Report)) (rs : List Report)
     → all_of (lists ++ rs ∷ []) ≡ all_of lists ++ rs
 all_more lists rs =
     flat_map-append (λ (xs : List Report). xs) lists (rs ∷ [])
     ∙ ap (λ (xs : List Report). all_of lists ++ xs) (append-nil rs)
 
--- what is kept of two lists
 pub kept_both : (tables : Entries) (rs more : List Report)
     → kept (kept_of tables rs ++ kept_of tables more) ≡ kept_of tables (rs ++ more)
 kept_both tables rs more =
     kept-late (kept_of tables rs) (entries_of (report_entries tables more))
     ∙ kept_more tables rs more
 
--- one more
 pub merged_next : (tables : Entries) (reads : ℕ) (old new new' : List Reading)
     (archive more archive' : ArchiveView) (i : ℕ) (r r' : Reading)
     → (m : MergedThrough tables reads old new archive i) → Reached old new m.texts i r
@@ -333,7 +314,6 @@ merged_next tables reads old new new' archive more archive' i r r' m at is bound
       bounded = subst (AreReadAtMost reads) (sym is) (at_most_set reads new i r' m.bounded bounded);
     }
 
--- the tables of the two
 pub merged_tables : (tables : Entries) (reads : ℕ) (old new : List Reading)
     (archive more : ArchiveView) (number i : ℕ) (r r' : Reading)
     → MergedThrough tables reads old new archive i → ReadsArchive tables number reads r r' (Ok more)
@@ -342,14 +322,12 @@ merged_tables tables reads old new archive more number i r r' m read =
     ap (λ (a : ArchiveView). a.tables) m.merged_is
     ∙ sym (ap (λ (a : ArchiveView). a.tables) read.3.3)
 
--- after the last
 pub merged_all : (tables : Entries) (reads : ℕ) (old new : List Reading) (archive : ArchiveView)
     (i : ℕ) → MergedThrough tables reads old new archive i → length new ≤ i
     → MergesReaders tables reads old new (Ok archive)
 merged_all tables reads old new archive i m all =
     (m.texts, through_all old new m.texts i m.through all, m.lists, m.are, m.merged_is)
 
--- it ended at one
 pub merged_ends : (tables : Entries) (reads : ℕ) (old new new' : List Reading)
     (archive : ArchiveView) (i : ℕ) (r r' : Reading) (e : ToolFault)
     → (m : MergedThrough tables reads old new archive i) → Reached old new m.texts i r
@@ -378,7 +356,6 @@ merged_ends tables reads old new new' archive i r r' (faults.Listing why) m at i
 merged_ends tables reads old new new' archive i r r' (faults.Encode number why) m at is read =
     absurd read
 
--- as many lists as readers
 as_many_lists : (tables : Entries) (texts : List (List ℕ)) (lists : List (List Report))
     → AreTextsOf tables texts lists → length lists ≡ length texts
 as_many_lists tables [] [] are = refl
@@ -387,7 +364,6 @@ as_many_lists tables (t ∷ texts) (l ∷ lists) are =
 as_many_lists tables [] (l ∷ lists) are = absurd are
 as_many_lists tables (t ∷ texts) [] are = absurd are
 
--- as many texts as readers that were read out
 as_many_readers : (old new : List Reading) (texts : List (List ℕ)) → WereReadOut old new texts
     → length new ≡ length texts
 as_many_readers [] [] [] out = refl
@@ -398,7 +374,6 @@ as_many_readers [] (n ∷ new) texts out = absurd out
 as_many_readers (o ∷ old) [] texts out = absurd out
 as_many_readers (o ∷ old) (n ∷ new) [] out = absurd out
 
--- without a fault
 pub merges_ok : (tables : Entries) (reads : ℕ) (old new : List Reading) (writer writer' : Writing)
     (archive : ArchiveView) (frames reports : ℕ)
     → MergesReaders tables reads old new (Ok archive) → frames ≡ length new
@@ -418,7 +393,6 @@ merges_ok tables reads old new writer writer' archive frames reports m many writ
           (writes.1 ∙ ap (λ (a : ArchiveView). length a.entries) held),
     )
 
--- the writer failed, or memory ran out
 pub merges_fails : (tables : Entries) (reads : ℕ) (old new : List Reading)
     (writer writer' : Writing) (archive : ArchiveView) (e : ToolFault)
     → MergesReaders tables reads old new (Ok archive)
@@ -440,7 +414,6 @@ merges_fails tables reads old new writer writer' archive (faults.Encode number w
 merges_fails tables reads old new writer writer' archive (faults.NotAnArchive input place) m w =
     absurd w
 
--- it ended at a reader, or memory ran out
 pub merges_ends : (tables : Entries) (reads : ℕ) (old new : List Reading) (writer : Writing)
     (e : ToolFault) → MergesReaders tables reads old new (Err e)
     → Merges tables reads old new writer writer (Err e)

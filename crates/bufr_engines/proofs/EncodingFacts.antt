@@ -1,5 +1,4 @@
--- What the loop of `add_listed` over the messages of a text keeps, and what it answers at each of its
--- ends: for the contract of `run_encode`.
+-- The loop of `add_listed`, message by message, and each of its ends: for `run_encode`.
 use Rattle.std.proofs.Common.{◌≡◌, ℕ, ◌+◌, ◌≤◌, Bool, List, [], ◌∷◌, ◌++◌, length, Result, Ok, Err}
 use Rattle.std.proofs.Common.{refl, sym, ap, ap₂, ◌∙◌, subst, arith}
 use Rattle.std.proofs.lemmas.List.{append-nil, flat_map_more, length_push, map-append}
@@ -16,7 +15,6 @@ use Rattle.bufr_io.specs.declared.fault.ToolFault.TheVariants as faults
 use Rattle.bufr_engines.specs.Encoding.{AreEncodings, EncodesListing, ReadsMessage, TellsFault}
 use Rattle.bufr_engines.specs.Encoding.{code_as_asked}
 
--- the encodings of messages, and that of one more
 pub encodings_more : (tables : Entries) (compressed : Bool) (messages : List Message) (m : Message)
     (octets octets' more : List ℕ) → AreEncodings tables compressed messages octets
     → code_as_asked tables compressed m ≡ Ok more → octets' ≡ octets ++ more
@@ -32,7 +30,7 @@ encodings_more tables compressed messages m octets octets' more e is is' = recor
 
 -- ---- message by message
 
--- The messages of a text that were read so far were encoded and counted, and these are left.
+-- has encoded and counted the messages read so far of a text; the others are left
 pub record EncodedSoFar (tables : Entries) (compressed : Bool) (text : List ℕ) (u : Unread)
     (octets : List ℕ) (count : ℕ) : Type 0 where
   pub messages : List Message
@@ -41,7 +39,6 @@ pub record EncodedSoFar (tables : Entries) (compressed : Bool) (text : List ℕ)
   pub encoded : AreEncodings tables compressed messages octets
   pub counted : count ≡ length messages
 
--- before the first
 pub none_encoded : (tables : Entries) (compressed : Bool) (text : List ℕ) (u : Unread)
     (octets : List ℕ) → octets ≡ [] → all_of u ≡ messages_listed tables text
     → length u.messages ≤ length text → EncodedSoFar tables compressed text u octets 0
@@ -53,12 +50,10 @@ none_encoded tables compressed text u octets none listed few = record {
   counted = refl;
 }
 
--- one message less is left behind the first
 one_less : (old new : Unread) (m : Message) → old ≡ behind (m ∷ []) new
     → length old.messages ≡ length new.messages + 1
 one_less old new m e = let whole = ap (λ (u : Unread). length u.messages) e in omega (arith, whole)
 
--- one message more
 pub one_encoded : (tables : Entries) (compressed : Bool) (text : List ℕ) (old new : Unread)
     (m : Message) (octets octets' more : List ℕ) (count : ℕ)
     → EncodedSoFar tables compressed text old octets count → old ≡ behind (m ∷ []) new
@@ -76,7 +71,6 @@ one_encoded tables compressed text old new m octets octets' more count so e is a
       counted = ap (λ n. n + 1) so.counted ∙ sym grown;
     }
 
--- none is left
 pub all_encoded : (tables : Entries) (compressed : Bool) (text : List ℕ) (u : Unread)
     (octets : List ℕ) (count : ℕ) → EncodedSoFar tables compressed text u octets count
     → u ≡ nothing
@@ -90,7 +84,6 @@ all_encoded tables compressed text u octets count so e = (
   so.counted,
 )
 
--- reading stopped
 pub reading_stopped : (tables : Entries) (compressed : Bool) (text : List ℕ) (old new : Unread)
     (octets : List ℕ) (count : ℕ) (e : ToolFault)
     → EncodedSoFar tables compressed text old octets count → ReadsMessage old new (Err e)
@@ -102,7 +95,6 @@ reading_stopped tables compressed text old new octets count (faults.WriteFailed 
     absurd h
 reading_stopped tables compressed text old new octets count e so h = absurd h
 
--- a message could not be encoded
 pub encoding_stopped : (tables : Entries) (compressed : Bool) (text : List ℕ) (old new : Unread)
     (m : Message) (octets : List ℕ) (count : ℕ) (failure : Failure EncodeFault) (e : ToolFault)
     → EncodedSoFar tables compressed text old octets count → old ≡ behind (m ∷ []) new

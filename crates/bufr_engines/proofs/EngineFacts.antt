@@ -1,5 +1,5 @@
--- What an engine over a stream answers at each of its ends: the last step to the contracts of
--- `run_show` and `run_check`.
+-- What an engine over a stream returns at each of its ends: the last step to `run_show` and
+-- `run_check`.
 use Rattle.std.proofs.Common.{◌≡◌, ℕ, false, Option, Some, None, List, [], ◌++◌, length}
 use Rattle.std.proofs.Common.{drop, Result, Ok, Err, sym, ap, ◌∙◌, subst, IfSome}
 use Rattle.bufr_bits.specs.Devices.{Reading, Writing}
@@ -28,7 +28,6 @@ use Rattle.bufr_engines.proofs.PartFacts.{all_written}
 use Rattle.bufr_engines.proofs.PrintingFacts.{fails_further, text_append}
 use Rattle.bufr_engines.proofs.StreamFacts.{end_stopped}
 
--- no piece could be read behind these octets, and no line is held
 prints_unread : (reads : ℕ) (old new : Reading) (pieces : Pieces) (read : List ℕ) (start : Printer)
     (first : Writing) (p : Printer) (now : Writing) (e : ToolFault)
     → HasPrintedSince start first p now (sure read) → p.held.items ≡ []
@@ -50,7 +49,7 @@ prints_unread reads old new pieces read start first p now (faults.EndlessInput w
 )
 prints_unread reads old new pieces read start first p now e h none r = absurd r
 
--- a front of what is printed of sure frames is one of what is printed of the whole stream
+-- the first octets of the sure frames' text begin the whole stream's text too
 front_of_all : (printing : Printing) (tables : Entries) (left now : Option (List ℕ)) (read : List ℕ)
     (first last : Writing) (written : ℕ)
     → IfSome left (λ all. (rest : List ℕ) × (all ≡ read ++ rest) × (now ≡ Some rest))
@@ -69,7 +68,6 @@ front_of_all printing tables (Some all) now read first last written given f =
     (fails_longer first last _
     (last_text printing (tally_of printing tables (read ++ rest))) written longer)
 
--- printing stopped within a piece
 prints_part : (printing : Printing) (tables : Entries) (reads : ℕ) (old new : Reading)
     (first now : Writing) (read : List ℕ) (count : ℕ) (e : ToolFault)
     → GoesOn old new read count → Stops (frames_text printing tables (sure read)) first now e
@@ -91,13 +89,11 @@ prints_part printing tables reads old new first now read count faults.OutOfMemor
 )
 prints_part printing tables reads old new first now read count e g p = absurd p
 
--- a text of all octets is one of those that were read
 of_all : (left : Option (List ℕ)) (read : List ℕ) (P : List ℕ → Type 0)
     → IfSome left (λ all. all ≡ read) → P read → IfSome left P
 of_all None read P same p = tt
 of_all (Some all) read P same p = subst P (sym same) p
 
--- the end was read
 pub prints_whole : (printing : Printing) (tables : Entries) (reads : ℕ) (old new : Reading)
     (first now : Writing) (read : List ℕ) (r : Result Tally ToolFault) → WasReadOut new
     → AreAllOf old read → HasGiven old new read → PrintsEnd printing tables read first now r
@@ -124,14 +120,12 @@ prints_whole printing tables reads old new first now read
     )
 prints_whole printing tables reads old new first now read (Err e) out all given p = absurd p
 
--- nothing was read
 pub prints_nothing : (printing : Printing) (tables : Entries) (reads : ℕ) (reader : Reading)
     (writer : Writing) → IsFresh reader → writer.failed ≡ false
     → Prints printing tables reads reader reader writer writer (Err faults.OutOfMemory)
 prints_nothing printing tables reads reader writer fresh works =
     (fresh.failed, [], HasGiven_none reader, lines_none writer _ works)
 
--- printing stopped among some frames: so it did with all of them
 stops_further : (printing : Printing) (tables : Entries) (first now : Writing)
     (front rest frames : List Found) (e : ToolFault) → frames ≡ front ++ rest
     → Stops (frames_text printing tables front) first now e
@@ -145,12 +139,11 @@ stops_further printing tables first now front rest frames faults.OutOfMemory is 
     (ap (frames_text printing tables) is ∙ text_append printing tables front rest) s
 stops_further printing tables first now front rest frames e is s = absurd s
 
--- where it stops among the sure frames
+-- stops printing among these frames
 abbrev StopsPrinting : Printer → Writing → Writing → List Found → ToolFault → Type 0
 StopsPrinting start first now frames e =
     Stops (frames_text start.printing start.templates frames) first now e
 
--- a stream that was not taken in to its end was not printed to its end
 pub prints_early : (reads : ℕ) (old new : Reading) (start : Printer) (first : Writing) (p : Printer)
     (now : Writing) (e : ToolFault)
     → EndsEarly (HasPrintedSince start first p now) (p.held.items ≡ [])
@@ -168,7 +161,6 @@ prints_early reads old new start first p now e (at_end stream out all given s) =
     (stops_further start.printing start.templates first now s.front s.rest (cut stream) e s.parted
     s.stopped))
 
--- what a printer that was made so prints
 pub prints_made : (printing : Printing) (tables : Entries) (reads : ℕ) (old new : Reading)
     (first now : Writing) (start : Printer) (r : Result Tally ToolFault)
     → start.printing ≡ printing → start.templates ≡ tables

@@ -1,6 +1,5 @@
--- The messages of frames added to an archive one after the other: the steps of `add_frame` and
--- `add_frames`, for the contract of `run_add`; and what is kept of reports and of more, for that of
--- `run_merge` too.
+-- Frame by frame, an archive adds messages, and what it keeps of two lists of reports: for
+-- `run_add` and `run_merge`.
 use Rattle.std.proofs.Common.{◌≡◌, ℕ, ◌+◌, ◌<◌, ◌≤◌, List, [], ◌∷◌, ◌++◌}
 use Rattle.std.proofs.Common.{Ok, Err}
 use Rattle.std.proofs.Common.{sym, ap, ◌∙◌, subst, arith, length-append}
@@ -26,7 +25,6 @@ use Rattle.bufr_engines.specs.Refusals.{refused_as, frame_refused, refused_of}
 use Rattle.bufr_engines.specs.Adds.{reports_of_frames, HasAdded}
 use Rattle.bufr_engines.proofs.PrintingFacts.{refused_few, refused_one}
 
--- what is kept of reports and of more
 pub kept_more : (tables : Entries) (rs more : List Report)
     → kept (kept_of tables rs ++ entries_of (report_entries tables more))
     ≡ kept_of tables (rs ++ more)
@@ -36,7 +34,6 @@ kept_more tables rs more =
     (sym (flat_map-append option_to_list (report_entries tables rs) (report_entries tables more))
     ∙ ap entries_of (sym (map-append (entry_of tables) rs more)))
 
--- the reports of frames and of one more
 told_one : (tables : Entries) (frames : List Found) (frame : Found)
     → reports_of_frames tables (frames ++ frame ∷ [])
     ≡ reports_of_frames tables frames ++ reports_in tables frame.bytes
@@ -48,7 +45,6 @@ told_one tables frames frame =
 abbrev pub archive_with : Entries → List Entry → ArchiveView
 archive_with tables es = record { tables = tables; entries = es }
 
--- the archive with the reports of one more frame
 archive_more : (tables : Entries) (frames : List Found) (frame : Found) (rs : List Report)
     (new : ArchiveView) → reports_in tables frame.bytes ≡ rs
     → new
@@ -61,13 +57,11 @@ archive_more tables frames frame rs new is new_is =
     (ap (λ (more : List Report). reports_of_frames tables frames ++ more) (sym is)
     ∙ sym (told_one tables frames frame))
 
--- one more frame is counted
 refused_more : (tables : Entries) (frames : List Found) (frame : Found)
     → refused_of tables (frames ++ frame ∷ [])
     ≡ refused_of tables frames + frame_refused tables frame
 refused_more tables frames frame = sum_by_push (frame_refused tables) frames frame
 
--- of the frames added no more are counted as refused than there are
 pub refused_at_most : (tables : Entries) (archive : ArchiveView) (counts : Counts)
     (frames : List Found) → HasAdded tables archive counts frames → counts.refused ≤ counts.frames
 refused_at_most tables archive counts frames h =
@@ -76,7 +70,6 @@ refused_at_most tables archive counts frames h =
     let b = h.refused_are in
     omega arith
 
--- a frame that spells a message
 pub added_ok : (tables : Entries) (old new : ArchiveView) (counts counts' : Counts)
     (frames : List Found) (frame : Found) (octets : List ℕ) (d : Decoded)
     → HasAdded tables old counts frames → octets ≡ frame.bytes → message_of old.tables octets ≡ Ok d
@@ -105,7 +98,6 @@ added_ok tables old new counts counts' frames frame octets d h is spells new_is 
       refused_are = omega arith;
     }
 
--- a frame that spells none
 pub added_none : (tables : Entries) (old new : ArchiveView) (counts counts' : Counts)
     (frames : List Found) (frame : Found) (octets : List ℕ) (why : Refused)
     → HasAdded tables old counts frames → octets ≡ frame.bytes

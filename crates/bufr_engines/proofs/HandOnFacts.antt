@@ -1,5 +1,4 @@
--- Octets that are written part by part: the steps of `hand_on`, and those of `run_add` and `write_merged`
--- from entry to entry.
+-- Octets that go to the writer part by part: for `hand_on`, `run_add` and `write_merged`.
 use Rattle.std.proofs.Common.{◌≡◌, ℕ, ◌+◌, ◌*◌, ◌<◌, ◌≤◌, List, [], ◌∷◌, ◌++◌, length, map, false}
 use Rattle.std.proofs.Common.{Result, Ok, Err, refl, sym, ap, ◌∙◌, subst, arith, length-append}
 use Rattle.std.proofs.Common.{append_assoc}
@@ -18,7 +17,6 @@ use Rattle.bufr_engines.specs.Parts.{Gathers, WritesArchive, joined}
 
 -- ---- one step
 
--- the writer failed behind what was written before
 pub after_out : (first mid now : Writing) (before written : ℕ) (out held rest all : List ℕ)
     (e : ToolFault) → WritesAll first mid out → written ≡ before + length out
     → all ≡ (out ++ held) ++ rest → WritesAfter written held mid now (Err e)
@@ -48,7 +46,6 @@ after_out first mid now before written out held rest all (faults.Encode number w
 after_out first mid now before written out held rest all (faults.NotAnArchive input place) wrote
     counted is w = absurd w
 
--- nothing was written
 pub gathers_only : (w : Writing) (before : ℕ) (held octets : List ℕ) (part : Part)
     → w.failed ≡ false → part.written ≡ before → part.octets.items ≡ held ++ octets
     → Gathers w w before held part octets
@@ -59,7 +56,6 @@ gathers_only w before held octets part works counted is = record {
   all = is;
 }
 
--- what was gathered was written
 pub gathers_behind : (first now : Writing) (before : ℕ) (held octets : List ℕ) (part : Part)
     → WritesAll first now held → part.written ≡ before + length held
     → part.octets.items ≡ octets → Gathers first now before held part octets
@@ -70,7 +66,6 @@ gathers_behind first now before held octets part wrote counted is = record {
   all = ap (λ (xs : List ℕ). held ++ xs) is;
 }
 
--- so were the octets behind it
 pub gathers_none : (first mid now : Writing) (before : ℕ) (held octets : List ℕ) (part : Part)
     → WritesAll first mid held → WritesAll mid now octets
     → part.written ≡ before + length held + length octets → part.octets.items ≡ []
@@ -85,19 +80,17 @@ gathers_none first mid now before held octets part one two counted is =
 
 -- ---- one after the other
 
--- the octets of one more
 joined_more : (done : List (List ℕ)) (octets : List ℕ)
     → joined (done ++ octets ∷ []) ≡ joined done ++ octets
 joined_more done octets =
     flat_map-append (λ (xs : List ℕ). xs) done (octets ∷ [])
     ∙ ap (λ (xs : List ℕ). joined done ++ xs) (append-nil octets)
 
--- the octets of entries are their text
 pub joined_text : (es : List Entry) → joined (map (λ (e : Entry). e.bytes) es) ≡ text es
 joined_text [] = refl
 joined_text (e ∷ es) = ap (λ (xs : List ℕ). e.bytes ++ xs) (joined_text es)
 
--- what holds of octets so far: all written or gathered, and few enough to be counted
+-- all octets so far are written or gathered, and few enough for the count
 pub record Handed (first now : Writing) (part : Part) (all left : List (List ℕ)) : Type 0 where
   pub done : List (List ℕ)
   pub is : all ≡ done ++ left
@@ -105,7 +98,6 @@ pub record Handed (first now : Writing) (part : Part) (all left : List (List ℕ
   pub bound : part.written + length part.octets.items ≤ length done * 18446744073709551616
   pub few : length all < 18446744073709551616
 
--- before the first
 pub handed_first : (w : Writing) (part : Part) (all : List (List ℕ)) → w.failed ≡ false
     → part.written ≡ 0 → part.octets.items ≡ [] → length all < 18446744073709551616
     → Handed w w part all all
@@ -118,7 +110,6 @@ handed_first w part all works counted is few =
       few = few;
     }
 
--- one more can be counted
 pub handed_fits : (first now : Writing) (part : Part) (all left rest : List (List ℕ))
     (octets : List ℕ) → Handed first now part all left → left ≡ octets ∷ rest
     → part.written + length part.octets.items + 18446744073709551616
@@ -130,7 +121,6 @@ handed_fits first now part all left rest octets h is =
     let few = h.few in
     omega (arith, long, bound, few)
 
--- one more
 pub handed_next : (first mid now : Writing) (part part' : Part) (all left rest : List (List ℕ))
     (octets : List ℕ) → Handed first mid part all left → left ≡ octets ∷ rest
     → Gathers mid now part.written part.octets.items part' octets
@@ -168,13 +158,11 @@ handed_next first mid now part part' all left rest octets h is g short =
 
 -- ---- the end
 
--- after the last
 all_joined : (all done left : List (List ℕ)) → all ≡ done ++ left → left ≡ []
     → joined all ≡ joined done
 all_joined all done left is none =
     ap joined (is ∙ ap (λ (xs : List (List ℕ)). done ++ xs) none ∙ append-nil done)
 
--- the last part is written, or the writer failed
 pub handed_all : (first mid now : Writing) (part : Part) (all left : List (List ℕ))
     (r : Result (Unit {0}) ToolFault) → Handed first mid part all left → left ≡ []
     → WritesAfter part.written part.octets.items mid now r → WritesAfter 0 (joined all) first now r
@@ -187,7 +175,6 @@ handed_all first mid now part all left (Err e) h none w =
     (all_joined all h.done left h.is none ∙ sym h.gathered.all
     ∙ sym (append-nil (h.gathered.out ++ part.octets.items))) w
 
--- the writer failed at one
 pub handed_fails : (first mid now : Writing) (part : Part) (all left rest : List (List ℕ))
     (octets : List ℕ) (e : ToolFault) → Handed first mid part all left → left ≡ octets ∷ rest
     → WritesAfter part.written (part.octets.items ++ octets) mid now (Err e)
@@ -202,7 +189,6 @@ handed_fails first mid now part all left rest octets e h is w =
     ∙ ap (λ (xs : List ℕ). xs ++ joined rest)
     (append_assoc h.gathered.out part.octets.items octets)) w
 
--- the writer failed after a front of the text of an archive
 pub archive_fails : (old new : Writing) (archive : ArchiveView) (octets : List ℕ) (e : ToolFault)
     → octets ≡ text archive.entries → WritesAfter 0 octets old new (Err e)
     → WritesArchive archive old new (Err e)

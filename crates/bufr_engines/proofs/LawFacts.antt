@@ -1,4 +1,5 @@
--- Streams shared out among archives, which are merged: for the law `streams_are_shared_out_anyhow`.
+-- The reports of the texts of groups keep what the reports of all their streams keep: for the law
+-- `streams_are_shared_out_anyhow`.
 use Rattle.std.proofs.Common.{◌≡◌, ℕ, List, [], ◌∷◌, ◌++◌, map, refl, sym, ap, ◌∙◌}
 use Rattle.std.specs.List.{flat_map, AllByRecursion}
 use Rattle.std.proofs.lemmas.Grind.{flat_map-append}
@@ -15,7 +16,6 @@ use Rattle.bufr_engines.specs.Collected.{collected_text, AreTextsOf, all_of}
 use Rattle.bufr_engines.specs.Laws.{SharedOutAnyhow}
 use Rattle.bufr_engines.proofs.CollectFacts.{kept_both}
 
--- what is kept of the reports of the texts of groups is what is kept of all that their streams tell
 shared_kept : ReportTextsTell
     → (tables : Entries) (groups : List (List (List ℕ))) (lists : List (List Report))
     → AllByRecursion (λ (streams : List (List ℕ)). AreUnder tables (all_told tables streams)) groups
@@ -37,6 +37,5 @@ shared_kept tell tables (g ∷ groups) (rs ∷ lists) under are =
 shared_kept tell tables [] (rs ∷ lists) under are = absurd are
 shared_kept tell tables (g ∷ groups) [] under are = absurd are
 
--- archives of groups of streams merged write the text of one archive of all the streams
 pub shared : ReportTextsTell → SharedOutAnyhow
 shared tell tables groups lists under are = ap text (shared_kept tell tables groups lists under are)

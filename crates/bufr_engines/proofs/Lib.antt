@@ -1,4 +1,4 @@
--- What the contracts of the engines are proved from.
+-- The lemmas of the engines' proofs.
 mod TextFacts
 mod LineFacts
 mod LineLengths

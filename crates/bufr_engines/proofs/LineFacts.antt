@@ -1,5 +1,4 @@
--- Whole lines: what is printed of a frame is some, and so is what of it was written when memory ran
--- out. The contracts of `print_fields`, `show_frame`, `print_message` and all above need it, and so those of
+-- The text of a frame is whole lines, and so is the part written before memory runs out: for
 -- `run_show` and `run_check`.
 use Rattle.std.proofs.Common.{◌≡◌, ℕ, false, inl, inr, List, [], ◌∷◌, ◌++◌, codes, decimal, length}
 use Rattle.std.proofs.Common.{Result, Ok, Err, refl, sym, ap, ◌∙◌, subst}
@@ -25,23 +24,20 @@ use Rattle.bufr_engines.specs.Lines.{AreWholeLines, WritesLines}
 
 -- ---- whole lines
 
--- octets before a line feed are whole lines with it
 pub line_whole : (before : List ℕ) → AreWholeLines (before ++ 10 ∷ [])
 line_whole before = inr (before, refl)
 
--- whole lines behind any octets, where there are some
+-- octets that end in whole lines
 pub end_whole : (a b : List ℕ) (before : List ℕ) → b ≡ before ++ 10 ∷ [] → AreWholeLines (a ++ b)
 end_whole a b before is =
     let whole = ap (λ (t : List ℕ). a ++ t) is ∙ sym (append_assoc a before (10 ∷ [])) in
     inr (a ++ before, whole)
 
--- whole lines, one behind another
 pub both_whole : (a b : List ℕ) → AreWholeLines a → AreWholeLines b → AreWholeLines (a ++ b)
 both_whole a b one (inl none) =
     subst AreWholeLines (sym (ap (λ (t : List ℕ). a ++ t) none ∙ append-nil a)) one
 both_whole a b one (inr last) = end_whole a b last.0 last.1
 
--- the same of many
 pub all_whole : {A : Type 0} (f : A → List ℕ) (xs : List A) → ((x : A) → AreWholeLines (f x))
     → AreWholeLines (flat_map f xs)
 all_whole f [] each = inl refl
@@ -49,22 +45,18 @@ all_whole f (x ∷ xs) each = both_whole (f x) (flat_map f xs) (each x) (all_who
 
 -- ---- listings
 
--- lines with their ends are whole
 pub joined_whole : (ls : List (List ℕ)) → AreWholeLines (joined ls)
 joined_whole ls = all_whole line ls line_whole
 
--- the lines of fields are whole
 pub fields_whole : (fields : List Field) → AreWholeLines (fields_text fields)
 fields_whole fields = all_whole (λ f. line (field_line f)) fields (λ f. line_whole (field_line f))
 
--- the listing of a message has whole lines
 listing_whole : (m : Message) → AreWholeLines (listing m)
 unfolding listing
 listing_whole m = joined_whole (lines_of m)
 
 -- ---- frames
 
--- what is printed of a frame, whether it spells a message or not, has whole lines
 pub printed_whole : (printing : Printing) (frame : Found) (found : Result Decoded Refused)
     → AreWholeLines (printed_as printing frame found)
 printed_whole Shown frame (Ok found) = listing_whole found.message
@@ -76,14 +68,12 @@ printed_whole Checked frame (Ok found) =
 printed_whole Checked frame (Err why) =
     line_whole (place_and_length frame ++ codes " refused " ++ reason why)
 
--- what is printed of a frame under the tables has whole lines
 pub frame_whole : (printing : Printing) (tables : Entries) (frame : Found)
     → AreWholeLines (frame_text printing tables frame)
 frame_whole printing tables frame = printed_whole printing frame (message_of tables frame.bytes)
 
 -- ---- lines that were written
 
--- no line was written yet
 pub lines_none : (w : Writing) (text : List ℕ) → w.failed ≡ false → WritesLines w w text
 lines_none w text works = record {
   front = [];
@@ -93,13 +83,11 @@ lines_none w text works = record {
   written = writes_none w works;
 }
 
--- all lines of a front were written
 pub some_lines : (first now : Writing) (front rest text : List ℕ) → text ≡ front ++ rest
     → AreWholeLines front → WritesAll first now front → WritesLines first now text
 some_lines first now front rest text parted whole all =
     record { front = front; rest = rest; parted = parted; whole = whole; written = all }
 
--- the first lines of a text are those of a longer one
 pub lines_longer : (first now : Writing) (text more all : List ℕ) → all ≡ text ++ more
     → WritesLines first now text → WritesLines first now all
 lines_longer first now text more all is h = record {

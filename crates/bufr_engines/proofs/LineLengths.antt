@@ -1,4 +1,4 @@
--- How long the line of a field is at most, and so the listing of a message with small subsets: for
+-- The greatest length of a field's line, and so of the listing of a message with small subsets: for
 -- `show_frame`.
 use Rattle.std.proofs.Common.{◌≡◌, ℕ, zero, suc, ◌+◌, ◌-◌, ◌*◌, ◌^◌, ◌<◌, ◌≤◌, Bool, true, false}
 use Rattle.std.proofs.Common.{List, [], ◌∷◌, ◌++◌, length, map, take, drop, replicate, codes, ap}
@@ -29,7 +29,6 @@ use Rattle.bufr_listing.specs.Listings.{value_word, field_line, line, joined, su
 
 -- ---- texts
 
--- an octet has three characters at most
 octet_short : (c : ℕ) → length (quoted_octet c) ≤ 3
 unfolding encode_with
 octet_short c = by_test (stands_for_itself c)
@@ -38,7 +37,6 @@ octet_short c = by_test (stands_for_itself c)
     by_test true = omega arith
     by_test false = omega arith
 
--- so have octets
 octets_short : (os : List ℕ) → length (flat_map quoted_octet os) ≤ 3 * length os
 octets_short [] = omega arith
 octets_short (c ∷ os) =
@@ -49,14 +47,12 @@ octets_short (c ∷ os) =
       length-append (quoted_octet c) (flat_map quoted_octet os),
     )
 
--- with their quotes
 quoted_short : (os : List ℕ) → length os ≤ 8191 → length (quoted os) ≤ 30000
 quoted_short os few =
     omega (arith, few, octets_short os, length-append (flat_map quoted_octet os) (34 ∷ []))
 
 -- ---- numbers
 
--- a value has few digits
 size_small : (n : ℕ) (reference : ℤ) → n < 2 ^ 64
     → unsigned_abs reference ≤ 4611686018427387904 → size_of (pos n +ℤ reference) < 10 ^ 64
 size_small n (pos m) small within = omega (arith, small, within)
@@ -65,11 +61,9 @@ size_small n (negsuc m) small within = elim (cases_Bool (nat_lt n (suc m))) [
   | inr above ↦ grind (arith, ints)
 ]
 
--- the digits of a number, at most 64
 digits_few : (n : ℕ) → n < 10 ^ 64 → length (decimal n) ≤ 64
 digits_few n small = length-decimal-le_wide 64 n (omega arith) small small
 
--- a point is one character more
 point_short : (k : ℕ) (ds : List ℕ) → length (take k ds ++ 46 ∷ drop k ds) ≡ length ds + 1
 point_short k ds =
     let all = ap length (take-append-drop k ds) in
@@ -80,11 +74,9 @@ point_short k ds =
       length-append (take k ds) (46 ∷ drop k ds),
     )
 
--- a number is not told 0
 not_zero : (n : ℕ) → (suc n == 0) ≡ false
 not_zero n = grind arith
 
--- digits by their scale
 digits_short : (scale : ℤ) (n : ℕ) → unsigned_abs scale ≤ 510 → n < 10 ^ 64
     → length (digits_by scale n) ≤ 1000
 digits_short (pos zero) n within small = omega (arith, digits_few n small)
@@ -109,13 +101,11 @@ digits_short (negsuc s) (suc n) within small =
       length-replicate {A = ℕ} (suc s) 48,
     ))
 
--- and behind their sign
 text_short : (units scale : ℤ) → unsigned_abs scale ≤ 510 → size_of units < 10 ^ 64
     → length (text_of (record { units = units; scale = scale })) ≤ 30000
 text_short (pos n) scale within small = omega (arith, digits_short scale n within small)
 text_short (negsuc n) scale within small = omega (arith, digits_short scale (suc n) within small)
 
--- the word of a number, by whether it is missing
 number_short : (missing : Bool) (spec : Spec) (n : ℕ) → IsInRange spec → n < 2 ^ 64
     → length (if missing then codes "missing" else number_word
     (if missing then None else decimal_within (pos n +ℤ spec.reference) spec.scale)) ≤ 30000
@@ -133,13 +123,11 @@ number_short false spec n fit small =
 
 -- ---- fields
 
--- a word, or `missing`
 word_short : (missing : Bool) (word : List ℕ) → length word ≤ 30000
     → length (if missing then codes "missing" else word) ≤ 30000
 word_short true word short = omega arith
 word_short false word short = short
 
--- the word of a value
 value_short : (d : ℕ) (kind : Kind) (spec : Spec) (raw : Raw) → IsSmall raw → IsInRange spec
     → length (value_word (record { fxy = d; spec = record spec { kind = kind }; raw = raw })) ≤ 30000
 value_short d kind spec (Text os) small fit =
@@ -152,14 +140,12 @@ value_short d kind spec (Number n) small fit =
     number_short (is_missing (record { fxy = d; spec = record spec { kind = kind }; raw = Number n }))
     spec n fit small
 
--- the line of a field, with its end
 line_short : (f : Field) → IsSmall f.raw → IsInRange f.spec
     → length (line (field_line f)) ≤ 32768
 line_short f small fit =
     let word = value_short f.fxy f.spec.kind f.spec f.raw small fit in
     omega (arith, word, length-append (field_line f) (10 ∷ []))
 
--- the lines of small fields
 lines_short : (fields : List Field) → AllByRecursion IsSmallField fields
     → length (joined (map field_line fields)) ≤ 32768 * length fields
 lines_short [] small = omega arith
@@ -173,19 +159,16 @@ lines_short (f ∷ fields) (small, others) =
       length-append (line (field_line f)) (joined (map field_line fields)),
     )
 
--- those of a subset of them
 subset_short : (s : Subset) → HasSmallFields s → length (joined (subset_lines s)) < 2 ^ 40
 subset_short s small =
     let few = small.few in
     let lines = lines_short s.fields small.small in
     omega (arith, few, lines)
 
--- so are those of subsets
 each_short : (subsets : List Subset) → AllByRecursion HasSmallFields subsets
     → AllByRecursion (λ s. length (joined (subset_lines s)) < 2 ^ 40) subsets
 each_short [] small = tt
 each_short (s ∷ subsets) (small, others) = (subset_short s small, each_short subsets others)
 
--- a message with small subsets has a short listing
 pub listing_short : (m : Message) → HasSmallSubsets m → HasShortListing m
 listing_short m small = record { few = small.few; short = each_short m.subsets small.small }

@@ -1,5 +1,5 @@
--- The listing of a message, subset by subset and field by field: the contracts of `print_fields` and
--- `print_listing` need it, and so that of `run_show`.
+-- The listing of a message, subset by subset and field by field: for `print_fields` and
+-- `print_listing`, and so for `run_show`.
 use Rattle.std.proofs.Common.{◌≡◌, ℕ, ◌+◌, ◌-◌, ◌<◌, ◌≤◌, false, List, [], ◌∷◌, ◌++◌}
 use Rattle.std.proofs.Common.{length, take, drop, Some, Result, Ok, Err, refl, sym, ap, ◌∙◌, subst}
 use Rattle.std.proofs.Common.{append_assoc, length-append, take-append-drop, arith, ◌^◌}
@@ -26,24 +26,23 @@ use Rattle.bufr_engines.specs.StreamEngines.{Adds, WritesAllBut}
 use Rattle.bufr_engines.proofs.LineFacts.{both_whole, fields_whole, joined_whole, line_whole}
 use Rattle.bufr_engines.proofs.PartFacts.{adds_halts, adds_longer, adds_then, but_all, counted_all}
 
--- that of the lines before the first subset
+-- the lines before the first subset
 abbrev heading_text : Message → List ℕ
 heading_text m = joined (heading_lines m)
 
--- the lines before the first subset and those of so many subsets
+-- the lines before the first subset and those of the first `count` subsets
 abbrev pub listed : Message → ℕ → List ℕ
 listed m count = heading_text m ++ flat_map (λ s. joined (subset_lines s)) (take count m.subsets)
 
--- what of the listing stands behind these
+-- the rest of the listing
 abbrev pub unlisted : Message → ℕ → List ℕ
 unlisted m count = flat_map (λ s. joined (subset_lines s)) (drop count m.subsets) ++ line end_line
 
--- the law of the parts of a listing, at one message
+-- the law of the parts of a listing, for one message
 abbrev pub IsJoined : Message → Type 0
 IsJoined m =
     listing m ≡ heading_text m ++ flat_map (λ s. joined (subset_lines s)) m.subsets ++ line end_line
 
--- both together are the listing
 pub listing_parted : (m : Message) (count : ℕ) → IsJoined m
     → listing m ≡ listed m count ++ unlisted m count
 listing_parted m count is_joined =
@@ -58,7 +57,6 @@ listing_parted m count is_joined =
     ∙ ap (λ (t : List ℕ). t ++ line end_line) (sym (append_assoc heading here there))
     ∙ append_assoc (heading ++ here) there (line end_line)
 
--- behind all subsets stands the last line
 pub listing_ended : (m : Message) (count : ℕ) → count ≡ length m.subsets → IsJoined m
     → listing m ≡ listed m count ++ line end_line
 listing_ended m count all is_joined =
@@ -66,7 +64,6 @@ listing_ended m count all is_joined =
     ∙ ap (λ ss. heading_text m ++ flat_map (λ s. joined (subset_lines s)) ss ++ line end_line)
     (sym (ap (λ n. take n m.subsets) all ∙ take-length m.subsets))
 
--- what a function makes of the front of a list, and of what stands behind it
 one_more : {A : Type 0} (f : A → List ℕ) (xs : List A) (i : ℕ) (x : A) (before : List ℕ)
     → i < length xs → slice_get xs i ≡ Some x
     → before ++ flat_map f (take (i + 1) xs) ≡ (before ++ flat_map f (take i xs)) ++ f x
@@ -76,14 +73,12 @@ one_more f xs i x before below at =
     (get_or_from_slice_get xs i x x at))
     ∙ sym (flat_map_more f before (take i xs) x)
 
--- the lines of one subset more
 listed_more : (m : Message) (i : ℕ) (s : Subset) → slice_get m.subsets i ≡ Some s
     → listed m (i + 1) ≡ listed m i ++ joined (subset_lines s)
 listed_more m i s at =
     one_more (λ s. joined (subset_lines s)) m.subsets i s (heading_text m)
     (slice_get_within m.subsets i s at) at
 
--- the lines before the first subset are held behind those that were
 pub heading_added : (m : Message) (p : Printer) (held : List ℕ) (w : Writing)
     → held ≡ p.held.items ++ heading_text m → AreWholeLines p.held.items → w.failed ≡ false
     → WritesAllBut held (p.held.items ++ listed m 0) p.written p.written w w
@@ -96,7 +91,6 @@ heading_added m p held w grown whole works =
 
 -- ---- subset by subset
 
--- the lines of one subset of a short listing are short
 pub lines_at : (m : Message) → HasShortListing m → (i : ℕ) (s : Subset)
     → slice_get m.subsets i ≡ Some s → length (joined (subset_lines s)) < 2 ^ 40
 lines_at m listed i s at =
@@ -105,7 +99,6 @@ lines_at m listed i s at =
     (slice_get_within m.subsets i s at)
     (All-from_recursion (λ s. length (joined (subset_lines s)) < 2 ^ 40) m.subsets listed.short))
 
--- with them few octets more are written and held
 pub subset_few : (m : Message) → HasShortListing m → (i : ℕ) (s : Subset) (q p' : Printer)
     (mid last : Writing) (done : Unit {0}) → slice_get m.subsets i ≡ Some s
     → Adds (joined (subset_lines s)) q p' mid last (Ok done)
@@ -120,7 +113,6 @@ subset_few m listed i s q p' mid last done at added =
       length-append q.held.items (joined (subset_lines s)),
     )
 
--- the lines of one subset more were added
 pub subset_more : (m : Message) (i : ℕ) (s : Subset) (p q p' : Printer) (first mid last : Writing)
     (done : Unit {0}) → slice_get m.subsets i ≡ Some s
     → WritesAllBut q.held.items (p.held.items ++ listed m i) p.written q.written
@@ -136,7 +128,6 @@ subset_more m i s p q p' first mid last done at w a =
     (adds_then (listed m i) (joined (subset_lines s)) p q p' first mid last (Ok done)
     (joined_whole (subset_lines s)) w a)
 
--- or adding them stopped
 pub subset_stopped : (m : Message) (i : ℕ) (s : Subset) (p q p' : Printer)
     (first mid last : Writing) (e : ToolFault) → slice_get m.subsets i ≡ Some s
     → IsJoined m
@@ -154,19 +145,17 @@ subset_stopped m i s p q p' first mid last e at is_joined w a =
 
 -- ---- field by field
 
--- the law of the lines of a subset, at fields none of which comes before
+-- the law of the lines of a subset, for these fields
 abbrev pub IsLined : List Field → Type 0
 IsLined fields =
     joined (subset_lines (record { fields = fields }))
     ≡ line subset_line ++ [] ++ fields_text fields
 
--- the lines of a subset are its first and those of its fields
 subset_text : (fields : List Field) → IsLined fields
     → joined (subset_lines (record { fields = fields })) ≡ line subset_line ++ fields_text fields
 subset_text fields lined =
     lined ∙ ap (λ (t : List ℕ). t ++ fields_text fields) (append-nil (line subset_line))
 
--- so its first line and those of its fields are short where the listing is
 pub fields_few : (m : Message) → HasShortListing m → (i : ℕ) (fields : List Field)
     → slice_get m.subsets i ≡ Some (record { fields = fields }) → IsLined fields
     → length (line subset_line) + length (fields_text fields) < 2 ^ 40
@@ -175,7 +164,6 @@ fields_few m listed i fields at lined =
     let whole = ap length (subset_text fields lined) in
     omega (arith, short, whole, length-append (line subset_line) (fields_text fields))
 
--- its first line was added, and then those of its fields were, or adding them stopped
 pub subset_added : (fields : List Field) (p q p' : Printer) (first mid last : Writing)
     (r : Result (Unit {0}) ToolFault) → IsLined fields
     → WritesAllBut q.held.items (p.held.items ++ line subset_line) p.written q.written first mid
@@ -186,15 +174,14 @@ subset_added fields p q p' first mid last r lined one more =
     (adds_then (line subset_line) (fields_text fields) p q p' first mid last r (fields_whole fields)
     one more)
 
--- the lines of the fields that were handed out were added: with those of the fields that are left
--- they are the lines of all
+-- has added the lines of the fields handed out; with the lines of the fields left they are the
+-- lines of all
 pub record AmidFields (all left : List Field) (p p' : Printer) (first now : Writing) : Type 0 where
   pub text : List ℕ
   pub parted : fields_text all ≡ text ++ fields_text left
   pub added : WritesAllBut p'.held.items (p.held.items ++ text) p.written p'.written
       first now
 
--- before the first was handed out
 pub amid_fields : (all : List Field) (p : Printer) (w : Writing) → AreWholeLines p.held.items
     → w.failed ≡ false → AmidFields all all p p w w
 amid_fields all p w whole works = record {
@@ -204,7 +191,6 @@ amid_fields all p w whole works = record {
       whole works;
 }
 
--- the line of the first that is left, and those of the others
 field_parted : (all left left' : List Field) (field : Field) (text : List ℕ)
     → left ≡ field ∷ left' → fields_text all ≡ text ++ fields_text left
     → fields_text all ≡ (text ++ line (field_line field)) ++ fields_text left'
@@ -212,7 +198,6 @@ field_parted all left left' field text is parted =
     parted ∙ ap (λ fs. text ++ fields_text fs) is
     ∙ sym (append_assoc text (line (field_line field)) (fields_text left'))
 
--- the line of one more was added
 pub field_more : (all left left' : List Field) (field : Field) (p q p' : Printer)
     (first mid last : Writing) (done : Unit {0}) → left ≡ field ∷ left'
     → AmidFields all left p q first mid → Adds (line (field_line field)) q p' mid last (Ok done)
@@ -226,7 +211,6 @@ field_more all left left' field p q p' first mid last done is a added =
           (line_whole (field_line field)) a.added added;
     }
 
--- or adding it stopped
 pub field_stopped : (all left left' : List Field) (field : Field) (p q p' : Printer)
     (first mid last : Writing) (e : ToolFault) → left ≡ field ∷ left'
     → AmidFields all left p q first mid → Adds (line (field_line field)) q p' mid last (Err e)
@@ -238,7 +222,6 @@ field_stopped all left left' field p q p' first mid last e is a added =
     (adds_then a.text here p q p' first mid last (Err e) (line_whole (field_line field)) a.added
     added)
 
--- no memory was there for one more
 pub field_halted : (all left : List Field) (p q : Printer) (first mid : Writing)
     → AmidFields all left p q first mid
     → Adds (fields_text all) p q first mid (Err faults.OutOfMemory)
@@ -246,7 +229,6 @@ field_halted all left p q first mid a =
     adds_halts (fields_text all) a.text (fields_text left) q.held.items p q first mid a.parted
     a.added refl
 
--- what was written then and what is held are no more octets than those of all lines
 pub amid_few : (all left : List Field) (p q : Printer) (first mid : Writing)
     → AmidFields all left p q first mid
     → q.written + length q.held.items
@@ -262,7 +244,6 @@ amid_few all left p q first mid a =
       length-append a.text (fields_text left),
     )
 
--- none is left
 pub fields_done : (all left : List Field) (p q : Printer) (first mid : Writing) → left ≡ []
     → AmidFields all left p q first mid
     → WritesAllBut q.held.items (p.held.items ++ fields_text all) p.written

@@ -1,5 +1,4 @@
--- Texts that are held and written in parts: the steps of `Printer`, for the contracts of `run_show`
--- and `run_check`.
+-- Texts that the printer holds and writes in parts: for the methods of `Printer`.
 use Rattle.std.proofs.Common.{◌≡◌, ℕ, ◌+◌, false, inl, List, [], ◌++◌, length, Result, Ok, Err}
 use Rattle.std.proofs.Common.{refl, sym, ap, ◌∙◌, subst, arith, length-append, append_assoc}
 use Rattle.std.proofs.lemmas.List.{append-nil}
@@ -14,7 +13,6 @@ use Rattle.bufr_engines.specs.StreamEngines.{Adds, Fits, Keeps, Stops, StopsWith
 use Rattle.bufr_engines.specs.StreamEngines.{WritesAllBut, WritesPart, WritesSome}
 use Rattle.bufr_engines.proofs.LineFacts.{both_whole, some_lines}
 
--- what stays in two steps stays in both
 pub keeps_both : (p q p' : Printer) → Keeps p q → Keeps q p' → Keeps p p'
 keeps_both p q p' a b = record {
   printing = b.printing ∙ a.printing;
@@ -26,7 +24,6 @@ keeps_both p q p' a b = record {
 
 -- ---- all lines of a text are written or held
 
--- nothing was written yet
 pub but_all : (held text : List ℕ) (before : ℕ) (w : Writing) → text ≡ held → AreWholeLines held
     → w.failed ≡ false → WritesAllBut held text before before w w
 but_all held text before w is whole works = record {
@@ -38,7 +35,6 @@ but_all held text before w is whole works = record {
   counted = omega arith;
 }
 
--- lines more are held
 pub held_more : (held text lines held' text' : List ℕ) (before now : ℕ) (first last : Writing)
     → held' ≡ held ++ lines → text' ≡ text ++ lines → AreWholeLines lines
     → WritesAllBut held text before now first last
@@ -53,7 +49,6 @@ held_more held text lines held' text' before now first last held_is text_is whol
   counted = w.counted;
 }
 
--- of what was held some was written
 pub held_less : (held held' text : List ℕ) (before then now : ℕ) (first mid last : Writing)
     → WritesAllBut held text before then first mid → WritesAllBut held' held then now mid last
     → WritesAllBut held' text before now first last
@@ -67,7 +62,6 @@ held_less held held' text before then now first mid last w v = record {
   counted = omega (arith, w.counted, v.counted, length-append w.front v.front);
 }
 
--- all that was held was written, and none is held
 pub held_none : (held held' text : List ℕ) (before then now : ℕ) (first mid last : Writing)
     → WritesAllBut held text before then first mid → WritesAll mid last held → held' ≡ []
     → now ≡ then + length held → WritesAllBut held' text before now first last
@@ -82,7 +76,6 @@ held_none held held' text before then now first mid last w all none long =
       counted = long;
     })
 
--- lines were added to what is held
 pub adds_held : (text held : List ℕ) (p : Printer) (w : Writing) → held ≡ p.held.items ++ text
     → AreWholeLines p.held.items → AreWholeLines text → w.failed ≡ false
     → WritesAllBut held (p.held.items ++ text) p.written p.written w w
@@ -90,7 +83,6 @@ adds_held text held p w is one two works =
     but_all held (p.held.items ++ text) p.written w (sym is)
     (subst AreWholeLines (sym is) (both_whole p.held.items text one two)) works
 
--- a text was added, and one more is held behind it
 both_held : (one two : List ℕ) (p q : Printer) (first mid : Writing) → AreWholeLines two
     → WritesAllBut q.held.items (p.held.items ++ one) p.written q.written first mid
     → WritesAllBut (q.held.items ++ two) (p.held.items ++ (one ++ two)) p.written
@@ -100,14 +92,12 @@ both_held one two p q first mid whole w =
     (p.held.items ++ (one ++ two)) p.written q.written first mid refl
     (sym (append_assoc p.held.items one two)) whole w
 
--- where none is held all was written
 pub all_written : (held text : List ℕ) (before now : ℕ) (first last : Writing)
     → held ≡ [] → WritesAllBut held text before now first last → WritesAll first last text
 all_written held text before now first last none w =
     subst (WritesAll first last)
     (sym (w.parted ∙ ap (λ (t : List ℕ). w.front ++ t) none ∙ append-nil w.front)) w.written
 
--- how many octets are written and held
 pub counted_all : (held text : List ℕ) (before now : ℕ) (first last : Writing)
     → WritesAllBut held text before now first last → now + length held ≡ before + length text
 counted_all held text before now first last w =
@@ -117,14 +107,12 @@ counted_all held text before now first last w =
 
 -- ---- the first lines of a text are written or held
 
--- those of a front of it, all of which are
 pub some_all : (held text rest all : List ℕ) (before now : ℕ) (first last : Writing)
     → all ≡ text ++ rest → WritesAllBut held text before now first last
     → WritesSome held all before now first last
 some_all held text rest all before now first last is w =
     record { front = text; rest = rest; parted = is; done = w }
 
--- and so of a longer text
 pub some_longer : (held text rest all : List ℕ) (before now : ℕ) (first last : Writing)
     → all ≡ text ++ rest → WritesSome held text before now first last
     → WritesSome held all before now first last
@@ -135,7 +123,6 @@ some_longer held text rest all before now first last is w = record {
   done = w.done;
 }
 
--- behind what was written stand the first lines of what was held
 pub some_less : (held held' text : List ℕ) (before then now : ℕ) (first mid last : Writing)
     → WritesAllBut held text before then first mid → WritesSome held' held then now mid last
     → WritesSome held' text before now first last
@@ -155,7 +142,6 @@ some_less held held' text before then now first mid last w v = record {
   };
 }
 
--- all that was held was written: they are whole lines
 pub some_written : (held text : List ℕ) (before then : ℕ) (first mid last : Writing)
     → WritesSome held text before then first mid → WritesAll mid last held
     → WritesLines first last text
@@ -168,7 +154,6 @@ some_written held text before then first mid last w all =
 
 -- ---- the writer failed
 
--- after a front of what was held
 pub held_fails : (held text rest all : List ℕ) (before then : ℕ) (first mid last : Writing)
     (e : ToolFault) → all ≡ text ++ rest → WritesAllBut held text before then first mid
     → WritesAfter then held mid last (Err e) → WritesAfter before all first last (Err e)
@@ -182,14 +167,12 @@ held_fails held text rest all before then first mid last (faults.WriteFailed wri
 )
 held_fails held text rest all before then first mid last e is w p = absurd p
 
--- so adding a text to what was held stopped
 adds_failed : (text : List ℕ) (p p' : Printer) (first last : Writing) (e : ToolFault)
     → WritesAfter p.written (p.held.items ++ text) first last (Err e)
     → Adds text p p' first last (Err e)
 adds_failed text p p' first last (faults.WriteFailed written) f = f
 adds_failed text p p' first last e f = absurd f
 
--- so it did where memory ran out behind a front of the text
 pub adds_halts : (text done rest held : List ℕ) (p p' : Printer) (first last : Writing)
     → text ≡ done ++ rest
     → WritesAllBut held (p.held.items ++ done) p.written p'.written first last
@@ -201,7 +184,6 @@ adds_halts text done rest held p p' first last is w same =
     (subst (λ (t : List ℕ). WritesAllBut t (p.held.items ++ done) p.written
     p'.written first last) (sym same) w)
 
--- or before the first of it
 pub adds_none : (text : List ℕ) (p p' : Printer) (w : Writing) → AreWholeLines p.held.items
     → w.failed ≡ false → p'.held.items ≡ p.held.items → p'.written ≡ p.written
     → Adds text p p' w w (Err faults.OutOfMemory)
@@ -213,13 +195,11 @@ adds_none text p p' w whole works same written =
     works))
     same
 
--- a text and its parts, behind another
 behind_all : (before front rest text : List ℕ) → text ≡ front ++ rest
     → before ++ text ≡ (before ++ front) ++ rest
 behind_all before front rest text is =
     ap (λ (t : List ℕ). before ++ t) is ∙ sym (append_assoc before front rest)
 
--- a text was added, and then another was, or adding it stopped: so it is with both
 pub adds_then : (one two : List ℕ) (p q p' : Printer) (first mid last : Writing)
     (r : Result (Unit {0}) ToolFault) → AreWholeLines two
     → WritesAllBut q.held.items (p.held.items ++ one) p.written q.written first mid
@@ -236,7 +216,6 @@ adds_then one two p q p' first mid last (Err faults.OutOfMemory) whole w a =
     q.written p'.written first mid last (both_held one two p q first mid whole w) a
 adds_then one two p q p' first mid last (Err e) whole w a = absurd a
 
--- where adding the front of a text stopped, adding the text did
 pub adds_longer : (front rest text : List ℕ) (p p' : Printer) (first last : Writing)
     (e : ToolFault) → text ≡ front ++ rest → Adds front p p' first last (Err e)
     → Adds text p p' first last (Err e)
@@ -251,7 +230,6 @@ adds_longer front rest text p p' first last faults.OutOfMemory is a =
     p'.written first last (behind_all p.held.items front rest text is) a
 adds_longer front rest text p p' first last e is a = absurd a
 
--- a text was added, and then some of what is held was written, or the writer failed
 pub adds_written : (text : List ℕ) (p q p' : Printer) (first mid last : Writing)
     (r : Result (Unit {0}) ToolFault)
     → WritesAllBut q.held.items (p.held.items ++ text) p.written q.written first mid
@@ -265,7 +243,6 @@ adds_written text p q p' first mid last (Err e) w part =
     (held_fails q.held.items all [] all p.written q.written first mid last e
     (sym (append-nil all)) w part)
 
--- printing a text stopped where the writer failed
 pub stops_failed : (text : List ℕ) (first last : Writing) (e : ToolFault)
     → WritesAfter 0 text first last (Err e) → Stops text first last e
 stops_failed text first last (faults.WriteFailed written) f =
@@ -275,7 +252,6 @@ stops_failed text first last e f = absurd f
 
 -- ---- printing stopped
 
--- within a text that was added to what is held
 pub within_more : (text more : List ℕ) (first mid last : Writing) (p p' : Printer) (e : ToolFault)
     → AreWholeLines more → WritesAllBut p.held.items text 0 p.written first mid
     → Adds more p p' mid last (Err e) → Fits p' → StopsWithin (text ++ more) first p' last e
@@ -292,13 +268,11 @@ within_more text more first mid last p p' faults.OutOfMemory whole w a fits = (
 )
 within_more text more first mid last p p' e whole w a fits = absurd a
 
--- and what was held was written
 pub stops_written : (text : List ℕ) (first mid last : Writing) (p : Printer)
     → StopsWithin text first p mid faults.OutOfMemory → WritesAll mid last p.held.items
     → Stops text first last faults.OutOfMemory
 stops_written text first mid last p s all = some_written _ text _ _ first mid last s.0 all
 
--- or the writer failed then
 pub stops_then : (text : List ℕ) (first mid last : Writing) (p : Printer) (e : ToolFault)
     → StopsWithin text first p mid faults.OutOfMemory
     → WritesAfter p.written p.held.items mid last (Err e) → Stops text first last e

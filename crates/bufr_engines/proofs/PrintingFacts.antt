@@ -1,5 +1,5 @@
--- What is printed frame by frame: the steps of `print_frame` and of what
--- takes in the frames of a stream, and so of the contracts of `run_show` and `run_check`.
+-- Frame by frame, the printer prints and counts: for `print_frame`, and so for `run_show` and
+-- `run_check`.
 use Rattle.std.proofs.Common.{◌≡◌, ℕ, ◌+◌, ◌*◌, ◌^◌, ◌<◌, ◌≤◌, false, inl, List, []}
 use Rattle.std.proofs.Common.{◌∷◌, ◌++◌, length}
 use Rattle.std.proofs.Common.{Result, Ok, Err, refl, sym, ap, ◌∙◌, subst, arith}
@@ -28,20 +28,17 @@ use Rattle.bufr_engines.proofs.PartFacts.{adds_written, but_all, counted_all, he
 use Rattle.bufr_engines.proofs.PartFacts.{held_more, held_none, some_all, within_more}
 use Rattle.bufr_io.specs.WritingLaws.{fails_longer}
 
--- the text of frames and one more
 pub text_more : (printing : Printing) (tables : Entries) (frames : List Found) (frame : Found)
     → frames_text printing tables (frames ++ frame ∷ [])
     ≡ frames_text printing tables frames ++ frame_text printing tables frame
 text_more printing tables frames frame =
     sym (flat_map_more (frame_text printing tables) [] frames frame)
 
--- the text of frames and of more frames
 pub text_append : (printing : Printing) (tables : Entries) (frames more : List Found)
     → frames_text printing tables (frames ++ more)
     ≡ frames_text printing tables frames ++ frames_text printing tables more
 text_append printing tables frames more = flat_map-append (frame_text printing tables) frames more
 
--- a frame was printed and counted, and then what is held is written where it is long
 pub frame_ends : (printing : Printing) (tables : Entries) (frame : Found) (p q p' : Printer)
     (first mid last : Writing) (r : Result (Unit {0}) ToolFault)
     → WritesPart q p' mid last r → Keeps q p'
@@ -75,7 +72,6 @@ frame_ends printing tables frame p q p' first mid last (Err e) part keeps short 
       λ long. omega (arith, most, short, fits),
     )
 
--- before the first frame none was printed
 pub printed_none : (printing : Printing) (tables : Entries) (first : Writing) (p : Printer)
     → p.printing ≡ printing → p.templates ≡ tables → p.frames ≡ 0 → p.refused ≡ 0 → p.octets ≡ 0
     → p.written ≡ 0 → p.held.items ≡ [] → first.failed ≡ false
@@ -91,7 +87,6 @@ printed_none printing tables first p is under frames refused inside out held wor
   short = omega arith;
 }
 
--- what is printed of a frame is what is printed of those before it
 pub told : (printing : Printing) (tables : Entries) (first mid now : Writing) (p p' : Printer)
     (frames : List Found) (frame : Found) (r : Result (Unit {0}) ToolFault)
     → HasPrinted printing tables first mid p frames
@@ -101,7 +96,6 @@ told printing tables first mid now p p' frames frame r h prints =
     subst (λ q. PrintsFrame q tables frame p p' mid now r) h.printing_is
     (subst (λ t. PrintsFrame p.printing t frame p p' mid now r) h.tables_are prints)
 
--- one frame more was printed
 pub printed_more : (printing : Printing) (tables : Entries) (first mid now : Writing)
     (p p' : Printer) (frames : List Found) (frame : Found) (done : Unit {0})
     → HasPrinted printing tables first mid p frames
@@ -135,7 +129,6 @@ printed_more printing tables first mid now p p' frames frame done h prints is un
           let s = h.short in let t = a.short in omega arith;
     }
 
--- so it is where lines that were held were written
 pub printed_written : (printing : Printing) (tables : Entries) (first mid now : Writing)
     (p p' : Printer) (frames : List Found) (done : Unit {0})
     → HasPrinted printing tables first mid p frames → WritesHeld p p' mid now (Ok done)
@@ -151,21 +144,18 @@ printed_written printing tables first mid now p p' frames done h w keeps = recor
   short = h.short;
 }
 
--- what is written and held of so many frames is short
 pub printed_short : (printing : Printing) (tables : Entries) (first now : Writing) (p : Printer)
     (frames : List Found) → HasPrinted printing tables first now p frames
     → p.written + length p.held.items + p.frames ≤ 2 ^ 80 * p.frames
 printed_short printing tables first now p frames h =
     omega (arith, counted_all _ _ _ _ _ _ h.text, h.short, h.frames_are)
 
--- what is held of so many frames can be counted with what was written
 pub printed_fits : (printing : Printing) (tables : Entries) (first now : Writing) (p : Printer)
     (frames : List Found) → HasPrinted printing tables first now p frames
     → length frames ≤ 2 ^ 48 → Fits p
 printed_fits printing tables first now p frames h few = λ long.
     omega (arith, counted_all _ _ _ _ _ _ h.text, h.short, few)
 
--- a front of the text of some frames is one of the text of more
 pub fails_further : (printing : Printing) (tables : Entries) (first now : Writing)
     (frames more : List Found) (written : ℕ)
     → FailsAfter written first now (frames_text printing tables frames)
@@ -174,19 +164,16 @@ fails_further printing tables first now frames more written h =
     subst (FailsAfter written first now) (sym (text_append printing tables frames more))
     (fails_longer first now _ _ written h)
 
--- the sum of how many are refused is at most how many there are
 pub refused_few : (f : Found → ℕ) (frames : List Found) → ((x : Found) → f x ≤ 1)
     → sum_by f frames ≤ length frames
 refused_few f frames most =
     omega (arith, sum_by-le f 1 frames (λ k d lt. most (slice_index_or frames k d)))
 
--- how many are refused of a frame is at most one
 pub refused_one : (tables : Entries) (frame : Found) → frame_refused tables frame ≤ 1
 refused_one tables frame =
     elim (message_of tables frame.bytes) as (λ (r : Result Decoded Refused). refused_as r ≤ 1)
     [ Ok found ↦ omega arith | Err why ↦ omega arith ]
 
--- and so of the frames that were printed
 pub refused_at_most : (printing : Printing) (tables : Entries) (first now : Writing)
     (p : Printer) (frames : List Found) → HasPrinted printing tables first now p frames
     → p.refused ≤ p.frames
@@ -194,7 +181,6 @@ refused_at_most printing tables first now p frames h =
     let a = h.refused_are in let b = h.frames_are in
     omega (arith, refused_few (frame_refused tables) frames (refused_one tables))
 
--- what printing answers that stopped at a frame behind others
 pub stopped : (printing : Printing) (tables : Entries) (first mid now : Writing)
     (p p' : Printer) (frames : List Found) (frame : Found) (e : ToolFault)
     → HasPrinted printing tables first mid p frames
@@ -207,7 +193,6 @@ stopped printing tables first mid now p p' frames frame e h prints =
     (within_more (frames_text printing tables frames) (frame_text printing tables frame) first mid
     now p p' e (frame_whole printing tables frame) h.text a.0 a.1)
 
--- memory ran out behind some frames
 pub halted : (printing : Printing) (tables : Entries) (first now : Writing) (p p' : Printer)
     (frames : List Found) → HasPrinted printing tables first now p frames
     → length frames ≤ 2 ^ 48 → p'.held.items ≡ p.held.items → p'.written ≡ p.written

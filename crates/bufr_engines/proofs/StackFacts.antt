@@ -1,4 +1,4 @@
--- Texts merged from the uppermost on: for `settle`, `merge_readers` and `merge_upper`.
+-- A stack merges its texts from the uppermost on: for `settle`, `merge_upper` and `merge_readers`.
 use Rattle.std.proofs.Common.{◌≡◌, List, [], ◌∷◌, ◌++◌, Option, Some, None, refl, sym}
 use Rattle.std.proofs.Common.{ap, subst, ◌∙◌, append_assoc}
 use Rattle.std.proofs.lemmas.List.{append-nil}
@@ -12,14 +12,13 @@ use Rattle.bufr_entries.specs.Orders.{kept-early, kept-late}
 use Rattle.bufr_gather.specs.Archives.{ArchiveView, merged}
 use Rattle.bufr_engines.specs.Stacks.{entries_together, together, AreUnderTables}
 
--- the entries of some archives and of one more
 together_more : (archives : List ArchiveView) (a : ArchiveView)
     → entries_together (archives ++ a ∷ []) ≡ entries_together archives ++ a.entries
 together_more archives a =
     flat_map-append (λ (x : ArchiveView). x.entries) archives (a ∷ [])
     ∙ ap (λ (es : List Entry). entries_together archives ++ es) (append-nil a.entries)
 
--- archives and one that was taken from above them, as what some archives and one above them hold
+-- the archives left and the one above them hold what the archives and `text` hold
 pub record HoldTogether (tables : Entries) (old : List ArchiveView) (text : ArchiveView)
     (archives : List ArchiveView) (top : ArchiveView) : Type 0 where
   pub under : AreUnderTables tables archives
@@ -27,7 +26,6 @@ pub record HoldTogether (tables : Entries) (old : List ArchiveView) (text : Arch
   pub same : kept (entries_together archives ++ top.entries)
       ≡ kept (entries_together old ++ text.entries)
 
--- the one below is under the tables of the one above
 pub taken_under : (tables : Entries) (old : List ArchiveView) (text : ArchiveView)
     (archives rest : List ArchiveView) (top below : ArchiveView) (found : Option ArchiveView)
     → HoldTogether tables old text archives top → archives ≡ rest ++ option_to_list found
@@ -38,7 +36,6 @@ taken_under tables old text archives rest top below found h taken is =
     (All-pop (λ (a : ArchiveView). a.tables ≡ tables) archives rest (Some below) joined h.under).1
     ∙ sym h.top_under
 
--- so are those that are left
 pub taken_left : (tables : Entries) (old : List ArchiveView) (text : ArchiveView)
     (archives rest : List ArchiveView) (top : ArchiveView) (found : Option ArchiveView)
     → HoldTogether tables old text archives top → archives ≡ rest ++ option_to_list found
@@ -46,7 +43,6 @@ pub taken_left : (tables : Entries) (old : List ArchiveView) (text : ArchiveView
 taken_left tables old text archives rest top found h taken =
     (All-pop (λ (a : ArchiveView). a.tables ≡ tables) archives rest found taken h.under).0
 
--- the one below was merged with the one above
 pub taken_together : (tables : Entries) (old : List ArchiveView) (text : ArchiveView)
     (archives rest : List ArchiveView) (top below both : ArchiveView) (found : Option ArchiveView)
     → HoldTogether tables old text archives top → archives ≡ rest ++ option_to_list found
@@ -67,7 +63,6 @@ taken_together tables old text archives rest top below both found h taken is mer
           ∙ h.same;
     }
 
--- the one above was put on what is left where no more was taken
 pub put_together : (tables : Entries) (old : List ArchiveView) (text : ArchiveView)
     (archives rest archives' : List ArchiveView) (top : ArchiveView) (found : Option ArchiveView)
     → HoldTogether tables old text archives top → archives ≡ rest ++ option_to_list found
@@ -84,13 +79,11 @@ put_together tables old text archives rest archives' top found h taken none put 
     ∙ h.same
     ∙ sym (kept-early (entries_together old) text.entries))
 
--- of none each is under the tables
 pub none_under : (tables : Entries) (archives : List ArchiveView) → archives ≡ []
     → AreUnderTables tables archives
 none_under tables archives none =
     subst (AreUnderTables tables) (sym none) (All-nil (λ (a : ArchiveView). a.tables ≡ tables))
 
--- nor does one more change that
 pub one_under : (tables : Entries) (old archives : List ArchiveView) (text : ArchiveView)
     → AreUnderTables tables old → text.tables ≡ tables → archives ≡ old ++ text ∷ []
     → AreUnderTables tables archives
@@ -98,14 +91,12 @@ one_under tables old archives text under same put =
     subst (AreUnderTables tables) (sym put)
     (All-push (λ (a : ArchiveView). a.tables ≡ tables) old text under same)
 
--- the uppermost was taken: those that are left are under the tables
 pub popped_under : (tables : Entries) (archives rest : List ArchiveView)
     (found : Option ArchiveView) → AreUnderTables tables archives
     → archives ≡ rest ++ option_to_list found → AreUnderTables tables rest
 popped_under tables archives rest found under taken =
     (All-pop (λ (a : ArchiveView). a.tables ≡ tables) archives rest found taken under).0
 
--- and so is it
 pub top_under : (tables : Entries) (archives rest : List ArchiveView) (top : ArchiveView)
     (found : Option ArchiveView) → AreUnderTables tables archives
     → archives ≡ rest ++ option_to_list found → found ≡ Some top → tables ≡ top.tables
@@ -115,7 +106,6 @@ top_under tables archives rest top found under taken is =
     sym ((All-pop (λ (a : ArchiveView). a.tables ≡ tables) archives rest (Some top) joined
     under).1)
 
--- none was there to be taken
 pub none_popped : (tables : Entries) (archives rest : List ArchiveView)
     (found : Option ArchiveView) → archives ≡ rest ++ option_to_list found → found ≡ None
     → together tables rest ≡ together tables archives
@@ -123,7 +113,6 @@ none_popped tables archives rest found taken none =
     ap (together tables) (sym (taken
     ∙ ap (λ (o : Option ArchiveView). rest ++ option_to_list o) none ∙ append-nil rest))
 
--- the uppermost was put back, merged with others or not
 pub put_back : (tables : Entries) (archives rest : List ArchiveView) (top : ArchiveView)
     (found : Option ArchiveView) → archives ≡ rest ++ option_to_list found → found ≡ Some top
     → merged (together tables rest) top ≡ together tables archives
@@ -135,7 +124,6 @@ put_back tables archives rest top found taken is =
     ∙ ap kept (sym (together_more rest top))
     ∙ ap (λ (xs : List ArchiveView). kept (entries_together xs)) (sym joined))
 
--- a text was put on others, which hold what others held
 pub put_above_is : (tables : Entries) (old archives : List ArchiveView) (text : ArchiveView)
     → archives ≡ old ++ text ∷ []
     → together tables archives ≡ merged (together tables old) text
@@ -144,8 +132,7 @@ put_above_is tables old archives text put =
 
 -- ---- all texts merged
 
--- texts that are left, the lowest that was taken from above them, and what those above it held:
--- together what all held
+-- the archives left, the lowest taken and those above it hold what all hold
 pub record LeftTogether (tables : Entries) (all archives : List ArchiveView)
     (lowest upper : ArchiveView) : Type 0 where
   pub under : AreUnderTables tables archives
@@ -154,7 +141,6 @@ pub record LeftTogether (tables : Entries) (all archives : List ArchiveView)
   pub same : kept ((entries_together archives ++ lowest.entries) ++ upper.entries)
       ≡ kept (entries_together all)
 
--- none was taken
 pub left_first : (tables : Entries) (all : List ArchiveView) (lowest upper : ArchiveView)
     → AreUnderTables tables all → lowest ≡ record { tables = tables; entries = [] }
     → upper ≡ record { tables = tables; entries = [] } → LeftTogether tables all all lowest upper
@@ -168,7 +154,6 @@ left_first tables all lowest upper under new also = record {
       ∙ ap kept (append-nil (entries_together all));
 }
 
--- one more was taken, and the one that was the lowest was merged with those above it
 pub left_more : (tables : Entries) (all archives rest : List ArchiveView)
     (lowest upper below both : ArchiveView) (found : Option ArchiveView)
     → LeftTogether tables all archives lowest upper → archives ≡ rest ++ option_to_list found
@@ -192,7 +177,6 @@ left_more tables all archives rest lowest upper below both found h taken is merg
           ∙ h.same;
     }
 
--- none is left
 pub left_none : (tables : Entries) (all archives rest : List ArchiveView)
     (lowest upper : ArchiveView) (found : Option ArchiveView)
     → LeftTogether tables all archives lowest upper → archives ≡ rest ++ option_to_list found

@@ -1,5 +1,5 @@
--- What is printed of a stream: the steps of `take_frame`, `end_piece`, `halt` and `print_tally`, and
--- so of the contracts of `run_show` and `run_check`.
+-- The printer takes in a stream, frame by frame and piece by piece, to its end: for `take_frame`,
+-- `end_piece`, `halt` and `print_tally`.
 use Rattle.std.proofs.Common.{◌≡◌, ℕ, ◌+◌, ◌^◌, ◌<◌, false, List, [], ◌∷◌, ◌++◌, length}
 use Rattle.std.proofs.Common.{Result, Ok, Err, OnOk, sym, ap, append_assoc}
 use Rattle.std.proofs.Common.{◌∙◌, subst, refl, arith, length-append}
@@ -26,7 +26,6 @@ use Rattle.bufr_engines.proofs.PrintingFacts.{halted, printed_more, printed_none
 
 -- ---- frame by frame
 
--- before the first frame none was printed since
 pub since_none : (first : Writing) (p : Printer) → p.frames ≡ 0 → p.refused ≡ 0 → p.octets ≡ 0
     → p.written ≡ 0 → p.held.items ≡ [] → first.failed ≡ false
     → HasPrintedSince p first p first []
@@ -35,7 +34,6 @@ since_none first p frames refused inside out held works = record {
   printed = printed_none p.printing p.templates first p refl refl frames refused inside out held works;
 }
 
--- one frame more was
 pub since_more : (start : Printer) (first mid now : Writing) (p p' : Printer) (frames : List Found)
     (frame : Found) (done : Unit {0}) → HasPrintedSince start first p mid frames
     → PrintsFrame p.printing p.templates frame p p' mid now (Ok done)
@@ -49,7 +47,6 @@ since_more start first mid now p p' frames frame done h prints is under = record
 
 -- ---- a piece ends
 
--- what is held was written, and no line is held
 pub held_taken : {B : Type 0} (writing : B → Writing) (p p' : Printer) (mid now : Writing)
     (r : Result (Unit {0}) ToolFault) → WritesHeld p p' mid now r → Keeps p p'
     → OnOk r ((start : Printer) (begin : B) (frames : List Found)
@@ -62,13 +59,11 @@ held_taken writing p p' mid now (Ok done) w keeps = λ start begin frames h. rec
 }
 held_taken writing p p' mid now (Err e) w keeps = tt
 
--- so none is
 pub held_left : (p p' : Printer) (mid now : Writing) (r : Result (Unit {0}) ToolFault)
     → WritesHeld p p' mid now r → OnOk r (p'.held.items ≡ [])
 held_left p p' mid now (Ok done) w = w.1
 held_left p p' mid now (Err e) w = tt
 
--- or the writer failed
 pub held_stopped : {B : Type 0} (writing : B → Writing) (p p' : Printer) (mid now : Writing)
     (r : Result (Unit {0}) ToolFault) → WritesHeld p p' mid now r
     → IfErr r (λ e. (start : Printer) (begin : B) (frames : List Found)
@@ -83,7 +78,6 @@ held_stopped writing p p' mid now (Err e) w = λ start begin frames h.
 
 -- ---- the end
 
--- what is printed of a stream, in two parts
 pub end_text : (printing : Printing) (tables : Entries) (stream text : List ℕ) (tally : Tally)
     → tally ≡ tally_of printing tables stream → text ≡ last_text printing tally
     → frames_text printing tables (cut stream) ++ text ≡ stream_text printing tables stream
@@ -91,7 +85,6 @@ end_text printing tables stream text tally is last =
     ap (λ (t : List ℕ). frames_text printing tables (cut stream) ++ t)
     (last ∙ ap (last_text printing) is)
 
--- what is counted at the end
 pub end_tally : (printing : Printing) (tables : Entries) (first now : Writing) (p : Printer)
     (fed skipped : ℕ) (stream : List ℕ) → HasEnded printing tables first now p fed stream
     → skipped ≡ skipped_by p.printing fed p.octets
@@ -109,7 +102,6 @@ end_tally printing tables first now p fed skipped stream h is =
     ∙ ap (skipped_by printing (length stream)) h.printed.octets_are in
     rw (h.printed.frames_are, h.printed.refused_are, here) refl
 
--- behind what was written stands what is held, with the last line
 pub end_held : (printing : Printing) (tables : Entries) (first mid : Writing) (p : Printer)
     (fed : ℕ) (stream held : List ℕ) (tally : Tally)
     → (h : HasEnded printing tables first mid p fed stream)
@@ -124,7 +116,6 @@ end_held printing tables first mid p fed stream held tally h is held_is =
     ∙ append_assoc front p.held.items last
     ∙ ap (λ (t : List ℕ). front ++ t) (sym held_is)
 
--- all that is held was written, with the last line
 pub end_done : (printing : Printing) (tables : Entries) (first mid now : Writing) (p : Printer)
     (fed : ℕ) (stream held : List ℕ) (tally : Tally)
     → HasEnded printing tables first mid p fed stream → tally ≡ tally_of printing tables stream
@@ -137,7 +128,6 @@ end_done printing tables first mid now p fed stream held tally h is held_is w = 
   is,
 )
 
--- or the writer failed after a front of it
 pub end_fails : (printing : Printing) (tables : Entries) (first mid now : Writing) (p : Printer)
     (fed : ℕ) (stream held : List ℕ) (tally : Tally) (e : ToolFault)
     → HasEnded printing tables first mid p fed stream → tally ≡ tally_of printing tables stream
@@ -154,7 +144,6 @@ end_fails printing tables first mid now p fed stream held tally
     (fails_more first mid now front held w.0 h.printed.text.written w.2))
 end_fails printing tables first mid now p fed stream held tally e h is held_is w = absurd w
 
--- memory ran out before the last line was held
 pub end_halted : (printing : Printing) (tables : Entries) (first now : Writing) (p p' : Printer)
     (fed : ℕ) (stream : List ℕ) → HasEnded printing tables first now p fed stream
     → fed < 2 ^ 48 → p'.held.items ≡ p.held.items → p'.written ≡ p.written
@@ -164,7 +153,6 @@ end_halted printing tables first now p p' fed stream h short held written =
     let long = h.long in
     halted printing tables first now p p' (cut stream) h.printed (omega arith) held written
 
--- printing stopped before the last line
 pub end_stopped : (printing : Printing) (tables : Entries) (first now : Writing)
     (stream : List ℕ) (e : ToolFault)
     → Stops (frames_text printing tables (cut stream)) first now e

@@ -1,16 +1,12 @@
--- The pieces of a printed line, joined as they are defined and as they are added behind a text, each
--- word and the number behind it: the contracts of `push_checked` and `push_tally` need it, and so
--- that of `run_check`.
+-- The pieces of a printed line join to the line: for `push_checked`.
 use Rattle.std.proofs.Common.{◌≡◌, ℕ, List, [], ◌∷◌, ◌++◌, ◌∙◌, ap, append_assoc}
 use Rattle.std.proofs.lemmas.List.{append-nil}
 
--- a piece more behind a text
 pub piece_more : (text before piece x : List ℕ) → x ≡ text ++ before
     → x ++ piece ≡ text ++ (before ++ piece)
 piece_more text before piece x is =
     ap (λ (z : List ℕ). z ++ piece) is ∙ append_assoc text before piece
 
--- the line of a frame that spells a message, as it is defined
 pieces_joined : (place long ok subsets slack end : List ℕ)
     → place ++ (32 ∷ []) ++ long ++ ok ++ subsets ++ (32 ∷ []) ++ slack ++ end
     ≡ ((((place ++ 32 ∷ long) ++ ok) ++ subsets) ++ 32 ∷ slack) ++ end
@@ -20,7 +16,6 @@ pieces_joined place long ok subsets slack end =
     ∙ ap (λ (z : List ℕ). z ++ end)
     (append_assoc (place ++ (32 ∷ long) ++ ok ++ subsets) (32 ∷ []) slack)
 
--- and behind a text
 pub checked_joined : (text place long ok subsets slack end : List ℕ)
     → (text ++ [] ++ place) ++ (32 ∷ []) ++ long ++ ok ++ subsets ++ (32 ∷ []) ++ slack ++ end
     ≡ text ++ (((((place ++ 32 ∷ long) ++ ok) ++ subsets) ++ 32 ∷ slack) ++ end)

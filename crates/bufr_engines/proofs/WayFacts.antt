@@ -1,4 +1,4 @@
--- Any way of adding and merging writes what one `add` of all streams would: for the law
+-- Any way of adding and merging writes what one `add` of all streams writes: for the law
 -- `any_way_writes_the_same`.
 use Rattle.std.proofs.Common.{◌≡◌, ℕ, List, [], ◌∷◌, ◌++◌, map, refl, sym, ap, subst, ◌∙◌}
 use Rattle.std.specs.List.{AllByRecursion}
@@ -16,25 +16,21 @@ use Rattle.bufr_engines.specs.Laws.{AreMadeOf, none, by_add, by_merge, all_strea
 use Rattle.bufr_engines.specs.Laws.{AnyWayWritesTheSame}
 use Rattle.bufr_engines.proofs.LawFacts.{shared}
 
--- what holds of each of two lists holds of each of both
 all_both : {A : Type 0} (P : A → Type 0) (xs ys : List A)
     → AllByRecursion P xs → AllByRecursion P ys → AllByRecursion P (xs ++ ys)
 all_both P [] ys each more = more
 all_both P (x ∷ xs) ys each more = (each.0, all_both P xs ys each.1 more)
 
--- what holds of each of both holds of each of the first
 all_first : {A : Type 0} (P : A → Type 0) (xs ys : List A)
     → AllByRecursion P (xs ++ ys) → AllByRecursion P xs
 all_first P [] ys each = tt
 all_first P (x ∷ xs) ys each = (each.0, all_first P xs ys each.1)
 
--- and of each of the second
 all_second : {A : Type 0} (P : A → Type 0) (xs ys : List A)
     → AllByRecursion P (xs ++ ys) → AllByRecursion P ys
 all_second P [] ys each = each
 all_second P (x ∷ xs) ys each = all_second P xs ys each.1
 
--- the reports that streams of octets tell are under the tables
 streams_under : ReportsToldAreUnder → (tables : Entries) (streams : List (List ℕ))
     → AllByRecursion AreOctets streams → AreUnder tables (all_told tables streams)
 streams_under under tables [] octets = tt
@@ -42,7 +38,6 @@ streams_under under tables (s ∷ streams) octets =
     all_both (IsUnder tables) (told tables s) (all_told tables streams)
     (under tables s octets.0) (streams_under under tables streams octets.1)
 
--- so are those of each group
 groups_under : ReportsToldAreUnder → (tables : Entries) (groups : List (List (List ℕ)))
     → AllByRecursion AreOctets (all_streams groups)
     → AllByRecursion (λ (streams : List (List ℕ)). AreUnder tables (all_told tables streams)) groups
@@ -52,7 +47,7 @@ groups_under under tables (g ∷ groups) octets = (
   groups_under under tables groups (all_second AreOctets g (all_streams groups) octets),
 )
 
--- each file has the text of what the streams of its group tell
+-- each file has the text of the reports of its group's streams
 made : ReportTextsTell → ReportsToldAreUnder → (tables : Entries) (groups : List (List (List ℕ)))
     (files : List (List ℕ)) → AllByRecursion AreOctets (all_streams groups)
     → AreMadeOf tables groups files → files ≡ map (collected_text tables) groups
@@ -78,7 +73,6 @@ abbrev first_of : List (List ℕ) → List ℕ
 first_of [] = []
 first_of (t ∷ ts) = t
 
--- a file that was made of streams has their text
 made_one : ReportTextsTell → ReportsToldAreUnder → (tables : Entries) (streams : List (List ℕ))
     (file : List ℕ) → AllByRecursion AreOctets streams
     → AreMadeOf tables (streams ∷ []) (file ∷ []) → file ≡ collected_text tables streams
@@ -86,7 +80,6 @@ made_one tell under tables streams file octets was =
     ap first_of (made tell under tables (streams ∷ []) (file ∷ [])
     (all_both AreOctets streams [] octets tt) was)
 
--- two files made of streams that hold the same messages are the same text, of what the streams tell
 pub any_way : ReportTextsTell → ReportsToldAreUnder → SameMessagesSameKept → AnyWayWritesTheSame
 any_way tell under kept tables a b x y octets others one two same =
     let first = made_one tell under tables a x octets one in

@@ -1,4 +1,4 @@
--- What adding the messages of frames to an archive has done so far.
+-- What an archive holds and counts after it added the messages of frames.
 use Rattle.std.specs.Prelude.{◌≡◌, ℕ, ◌+◌, ◌^◌, ◌<◌, ◌≤◌, List, ◌++◌, length, Result, Ok, Err}
 use Rattle.std.specs.List.{flat_map}
 use Rattle.bufr_bits.specs.Devices.{Reading}
@@ -24,15 +24,15 @@ use Rattle.bufr_engines.specs.Collects.{StreamsEndAt, ArchivesEndAt, AllArchives
 abbrev pub reports_of_frames : Entries → List Found → List Report
 reports_of_frames tables frames = flat_map (λ f. reports_in tables f.bytes) frames
 
--- the archive holds what is kept of the messages of these frames, and they are counted
+-- the archive keeps the messages of these frames, and the counts have the frames
 pub record HasAdded (tables : Entries) (archive : ArchiveView) (counts : Counts)
     (frames : List Found) : Type 0 where
   pub archive_is : archive ≡ archive_of tables (reports_of_frames tables frames)
   pub frames_are : counts.frames ≡ length frames
   pub refused_are : counts.refused ≡ refused_of tables frames
 
--- since this archive and its counts were so, the messages of these frames were added and counted,
--- whatever frames were added before
+-- since the state `first` of the archive and `start` of its counts, it added and counted the
+-- messages of these frames, after any frames added before
 pub record HasAddedSince (first : ArchiveView) (start : Counts) (archive : ArchiveView)
     (counts : Counts) (frames : List Found) : Type 0 where
   pub few : start.frames < 2 ^ 127
@@ -41,8 +41,8 @@ pub record HasAddedSince (first : ArchiveView) (start : Counts) (archive : Archi
   pub added : (tables : Entries) (before : List Found) → HasAdded tables first start before
       → HasAdded tables archive counts (before ++ frames)
 
--- some readers were read out, and the messages of the frames of their streams were added; or it
--- ended at one of them
+-- reads some readers to their ends and adds the messages of their streams' frames, or ends at one
+-- of the readers
 abbrev pub AddsStreams : Entries → ℕ → List Reading → List Reading → ArchiveView → Counts
     → Result (Unit {0}) ToolFault → Type 0
 AddsStreams tables reads olds news archive counts (Ok done) =
@@ -57,8 +57,8 @@ AddsStreams tables reads olds news archive counts (Err fault) = ⊥
 
 -- ---- archives
 
--- a reader was read out and had an archive's text, which is held; or it failed, is endless or had
--- none
+-- reads a reader to its end and holds the archive of its text; or the reader fails, is endless or
+-- has no archive's text
 abbrev pub ReadsArchive : Entries → ℕ → ℕ → Reading → Reading → Result ArchiveView ToolFault
     → Type 0
 ReadsArchive tables number reads old new (Ok archive) =
@@ -72,8 +72,8 @@ ReadsArchive tables number reads old new (Err (faults.NotAnArchive input place))
 ReadsArchive tables number reads old new (Err faults.OutOfMemory) = Unit {0}
 ReadsArchive tables number reads old new (Err fault) = ⊥
 
--- some readers were read out and had the texts of archives, and what is kept of all is held; or it
--- ended at one of them
+-- reads some readers to their ends and holds the archive of all reports of their archives, or ends
+-- at one of the readers
 abbrev pub MergesReaders : Entries → ℕ → List Reading → List Reading
     → Result ArchiveView ToolFault → Type 0
 MergesReaders tables reads olds news (Ok archive) =

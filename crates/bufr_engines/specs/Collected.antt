@@ -1,5 +1,4 @@
--- What is collected of streams and of archives (this project's own): reports in the words of
--- archives, and what is counted of them.
+-- What `add` collects of streams and `merge` of archives, and what they count (this project's own).
 use Rattle.std.specs.Prelude.{◌≡◌, ℕ, List, [], ◌∷◌, length}
 use Rattle.std.specs.List.{flat_map}
 use Rattle.bufr_tables.specs.Entries.{Entries}
@@ -13,16 +12,16 @@ use Rattle.bufr_gather.specs.StreamsTold.{all_told}
 
 -- ---- streams
 
--- the frames of streams, each of which is cut apart by itself
+-- the frames of the cut of each stream, stream by stream
 abbrev pub frames_of : List (List ℕ) → List Found
 frames_of streams = flat_map cut streams
 
--- the text of an archive of all reports that streams tell
+-- the text of the archive of all reports of streams
 abbrev pub collected_text : Entries → List (List ℕ) → List ℕ
 collected_text tables streams = text_of tables (all_told tables streams)
 
--- what is counted of it: the frames of the streams, those that spell no message, and the reports
--- that are kept
+-- the counts of `add`: the frames of the streams, the frames that spell no message, and the reports
+-- kept
 abbrev pub collected_tally : Entries → List (List ℕ) → Tally
 collected_tally tables streams = record {
   frames = length (frames_of streams);
@@ -33,7 +32,7 @@ collected_tally tables streams = record {
 
 -- ---- archives
 
--- these are the texts of these lists of reports under the tables, one of each
+-- the texts of these lists of reports under the tables, a text for each list
 abbrev pub AreTextsOf : Entries → List (List ℕ) → List (List Report) → Type 0
 AreTextsOf tables [] [] = Unit {0}
 AreTextsOf tables (text ∷ texts) (rs ∷ more) =
@@ -49,7 +48,7 @@ all_of lists = flat_map (λ rs. rs) lists
 abbrev pub merged_text : Entries → List (List Report) → List ℕ
 merged_text tables lists = text_of tables (all_of lists)
 
--- what is counted of it: the archives, and the reports that are kept of all
+-- the counts of `merge`: the archives, and the reports kept of all
 abbrev pub merged_tally : Entries → List (List Report) → Tally
 merged_tally tables lists = record {
   frames = length lists;

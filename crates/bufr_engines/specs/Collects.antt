@@ -1,4 +1,4 @@
--- What the engines over archives answer and do.
+-- What the engines over archives return and write (this project's own).
 use Rattle.std.specs.Prelude.{◌≡◌, ℕ, Result, Ok, Err, List}
 use Rattle.bufr_bits.specs.Devices.{Reading, Writing}
 use Rattle.bufr_tables.specs.Entries.{Entries}
@@ -18,22 +18,21 @@ use Rattle.bufr_io.specs.Readers.{WereReadOut, EndsAt}
 
 -- ---- streams
 
--- each of the readers was read out
+-- reads each of the readers to its end
 abbrev pub AllReadOut : List Reading → List Reading → Type 0
 AllReadOut old new = (octets : List (List ℕ)) × WereReadOut old new octets
 
--- it ended at the reader with this number, and those before it were read out
+-- ends at the reader of this number, from 1, after it read those before to their ends
 abbrev pub StreamsEndAt : (Reading → Type 0) → Input → List Reading → List Reading → Type 0
 StreamsEndAt Ends (Number n) old new = EndsAt AllReadOut (λ r r'. Ends r') n old new
 StreamsEndAt Ends TableB old new = ⊥
 StreamsEndAt Ends TableD old new = ⊥
 
--- What `run_add` answers and does, from readers and a writer that work to what it leaves of them.
--- Without a fault: every reader was read out, and of the streams that they had the text of an
--- archive of all reports that these tell was written, with the tally of it. Where the writer
--- failed: every reader was read out, and exactly so many octets of that text were written. Where
--- a read failed or an input is endless: those before it were read out, those behind it were not
--- read, and nothing was written. Where memory ran out: nothing was written.
+-- What `run_add` returns and does. Without a fault: it reads every reader to its end, writes the
+-- text of the archive of all reports of the streams, and returns the tally. If the writer fails: it
+-- has read every reader to its end, and has written exactly the first `written` octets of this
+-- text. If a read fails or an input is endless: it has read the inputs before to their ends, has
+-- not read the later ones, and has written nothing. If memory runs out: it has written nothing.
 abbrev pub Collects : Entries → ℕ → List Reading → List Reading → Writing → Writing
     → Result Tally ToolFault → Type 0
 Collects tables reads readers readers' writer writer' (Ok tally) =
@@ -53,12 +52,12 @@ Collects tables reads readers readers' writer writer' (Err fault) = ⊥
 
 -- ---- archives
 
--- each of the readers was read out, and had the text of an archive
+-- reads each of the readers to its end, and each has the text of an archive
 abbrev pub AllArchives : Entries → List Reading → List Reading → Type 0
 AllArchives tables old new = (texts : List (List ℕ)) × WereReadOut old new texts
     × (lists : List (List Report)) × AreTextsOf tables texts lists
 
--- it ended at the reader with this number, and those before it had the texts of archives
+-- ends at the reader of this number, from 1, after those before gave the texts of archives
 abbrev pub ArchivesEndAt : Entries → (Reading → Type 0) → Input → List Reading → List Reading
     → Type 0
 ArchivesEndAt tables Ends (Number n) old new =
@@ -66,17 +65,17 @@ ArchivesEndAt tables Ends (Number n) old new =
 ArchivesEndAt tables Ends TableB old new = ⊥
 ArchivesEndAt tables Ends TableD old new = ⊥
 
--- a reader was read out, and its octets break at this place: they are no archive's text
+-- reads a reader to its end, and its octets are no archive's text: they break at this place
 abbrev pub IsNoArchive : Entries → ℕ → Reading → Reading → Type 0
 IsNoArchive tables place r r' = WasReadOut r' × (octets : List ℕ) × AreAllOf r octets
     × BreaksAt tables octets place
 
--- What `run_merge` answers and does. Without a fault: every reader was read out and had the text of
--- an archive, and the text of an archive of the reports of all was written, with the tally of it.
--- Where the writer failed: so it is, and exactly so many octets of that text were written. Where a
--- read failed, an input is endless or is no archive: those before it had the texts of archives,
--- those behind it were not read, and nothing was written. Where memory ran out: nothing was
--- written.
+-- What `run_merge` returns and does. Without a fault: it reads every reader to its end, each has
+-- the text of an archive, and it writes the text of the archive of all their reports and returns
+-- the tally. If the writer fails: the same, but it has written exactly the first `written` octets
+-- of this text. If a read fails, or an input is endless or no archive: the inputs before had the
+-- texts of archives, it has not read the later ones, and has written nothing. If memory runs out:
+-- it has written nothing.
 abbrev pub Merges : Entries → ℕ → List Reading → List Reading → Writing → Writing
     → Result Tally ToolFault → Type 0
 Merges tables reads readers readers' writer writer' (Ok tally) =

@@ -1,4 +1,4 @@
--- What `encode` answers and does.
+-- What `encode` returns and writes (this project's own).
 use Rattle.std.specs.Prelude.{◌≡◌, ℕ, ◌+◌, Bool, ◌||◌, List, ◌∷◌, ◌++◌, length, map}
 use Rattle.std.specs.Prelude.{Option, Some, None, Result, Ok, Err}
 use Rattle.std.specs.List.{flat_map}
@@ -22,23 +22,22 @@ use Rattle.bufr_engines.specs.declared.encode.Encoded.{Encoded}
 
 -- ---- messages
 
--- a message as it is asked for: compressed too where that is asked
+-- a message as the command asks for it: compressed, if the command compresses
 abbrev pub as_asked : Bool → Message → Message
 as_asked compressed m = record m { compressed = m.compressed || compressed }
 
--- the octets of a message as it is asked for, or its first fault
+-- the octets of a message as the command asks for it, or its first fault
 abbrev pub code_as_asked : Entries → Bool → Message → Result (List ℕ) EncodeFault
 code_as_asked tables compressed m = code tables (as_asked compressed m)
 
--- octets are the encodings of messages, one behind another
+-- the octets are the encodings of messages, one after another
 pub record AreEncodings (tables : Entries) (compressed : Bool) (messages : List Message)
     (octets : List ℕ) : Type 0 where
   pub codes : List (List ℕ)
   pub each : map (code_as_asked tables compressed) messages ≡ map Ok codes
   pub joined : octets ≡ flat_map (λ c. c) codes
 
--- of messages that of this number, counted from 1, is the first that has no encoding, and this is
--- its fault
+-- the message of this number, from 1, is the first without an encoding, and this is its fault
 pub record IsFirstNotEncoded (tables : Entries) (compressed : Bool) (messages : List Message)
     (number : ℕ) (fault : EncodeFault) : Type 0 where
   pub before : List Message
@@ -52,7 +51,7 @@ pub record IsFirstNotEncoded (tables : Entries) (compressed : Bool) (messages : 
 
 -- ---- the engine
 
--- the reader was read to its end, and its octets list these messages
+-- reads the reader to its end, and its octets list these messages
 pub record ListsMessages (tables : Entries) (reader reader' : Reading) (messages : List Message)
     : Type 0 where
   pub ended : WasReadOut reader'
@@ -60,7 +59,7 @@ pub record ListsMessages (tables : Entries) (reader reader' : Reading) (messages
   pub all : AreAllOf reader text
   pub listed : messages_listed tables text ≡ Ok messages
 
--- the reader was read to its end, and this is the first fault of its octets as a listing
+-- reads the reader to its end, and this is the first fault of its octets as a listing
 pub record HasListingFault (tables : Entries) (reader reader' : Reading) (fault : ListingFault)
     : Type 0 where
   pub ended : WasReadOut reader'
@@ -68,15 +67,14 @@ pub record HasListingFault (tables : Entries) (reader reader' : Reading) (fault 
   pub all : AreAllOf reader text
   pub refused : messages_listed tables text ≡ Err fault
 
--- what is counted of so many messages that were written
+-- the counts of `encode` after this number of messages
 abbrev pub tally_written : ℕ → Tally
 tally_written count = record { frames = count; refused = 0; skipped = 0; reports = 0 }
 
--- What `run_encode` answers and does, from a reader and a writer that work to what they leave of
--- them. Without a fault: the whole listing was read, and the encodings of its messages were
--- written, one behind another. A fault of the listing comes before that of a message, and the
--- first of either is told. Where the writer failed: a front, so many octets long, of these
--- encodings. On every other fault nothing was written.
+-- What `run_encode` returns and does. Without a fault: it reads the whole listing and writes the
+-- encodings of its messages, one after another. A fault of the listing comes before a fault of a
+-- message, and it returns the first of either. If the writer fails: it has written the first
+-- `written` octets of these encodings. On every other fault it has written nothing.
 abbrev pub Encodes : Bool → Entries → ℕ → Reading → Reading → Writing → Writing
     → Result Tally ToolFault → Type 0
 Encodes compressed tables reads reader reader' writer writer' (Ok tally) =
@@ -102,8 +100,8 @@ Encodes compressed tables reads reader reader' writer writer' (Err fault) = ⊥
 
 -- ---- message by message
 
--- the encodings of the messages that a text lists and how many these are; or the first fault of the
--- listing; or else that of a message
+-- the encodings and the number of the messages that a text lists; or the first fault of the
+-- listing; or, after it, of a message
 abbrev pub EncodesListing : Entries → Bool → List ℕ → Result Encoded ToolFault → Type 0
 EncodesListing tables compressed text (Ok encoded) =
     (messages : List Message) × (messages_listed tables text ≡ Ok messages)
@@ -117,21 +115,21 @@ EncodesListing tables compressed text (Err (faults.Encode number why)) =
 EncodesListing tables compressed text (Err faults.OutOfMemory) = Unit {0}
 EncodesListing tables compressed text (Err fault) = ⊥
 
--- what was handed out of the messages that were left, or the fault of the listing
+-- hands out the next of the messages left, or returns the fault of the listing
 abbrev pub ReadsMessage : Unread → Unread → Result (Option Message) ToolFault → Type 0
 ReadsMessage old new (Ok found) = HandsOutMessage old (Ok found) new
 ReadsMessage old new (Err (faults.Listing why)) = HandsOutMessage old (Err (Fault why)) new
 ReadsMessage old new (Err faults.OutOfMemory) = Unit {0}
 ReadsMessage old new (Err fault) = ⊥
 
--- no fault is behind the messages that are left, or it is told
+-- passes all messages left, or returns the fault of the listing after them
 abbrev pub PassesAll : Unread → Result (Unit {0}) ToolFault → Type 0
 PassesAll u (Ok done) = u.fault ≡ None
 PassesAll u (Err (faults.Listing why)) = u.fault ≡ Some why
 PassesAll u (Err faults.OutOfMemory) = Unit {0}
 PassesAll u (Err fault) = ⊥
 
--- the fault behind the messages that are left, or else why the message of this number before them
+-- returns the fault of the listing after the messages left, or else why the message of this number
 -- has no encoding
 abbrev pub TellsFault : Unread → ℕ → Failure EncodeFault → ToolFault → Type 0
 TellsFault u number failure (faults.Listing why) = u.fault ≡ Some why

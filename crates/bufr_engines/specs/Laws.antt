@@ -1,5 +1,5 @@
--- That it does not matter how streams are shared out among archives, and in what ways these are
--- merged.
+-- That the text of a merged archive depends on the streams alone, not on their groups nor on the
+-- way of merging.
 use Rattle.std.specs.Prelude.{◌≡◌, ℕ, List, [], ◌∷◌, map}
 use Rattle.std.specs.List.{flat_map, AllByRecursion}
 use Rattle.bufr_tables.specs.Entries.{Entries}
@@ -14,9 +14,9 @@ use Rattle.bufr_engines.specs.Collected.{collected_text, AreTextsOf, merged_text
 abbrev pub all_streams : List (List (List ℕ)) → List (List ℕ)
 all_streams groups = flat_map (λ streams. streams) groups
 
--- Streams in groups, of each of which the archive's text is written, and these archives merged: the
--- text is that of one archive of all the streams. The reports that the streams tell are under the
--- tables, as all reports of messages are.
+-- Streams in groups, the archive of each group, and these archives merged: the text is that of one
+-- archive of all the streams. The reports of the streams are under the tables, as all reports of
+-- messages are.
 abbrev pub SharedOutAnyhow : Type 0
 SharedOutAnyhow = (tables : Entries) (groups : List (List (List ℕ))) (lists : List (List Report))
     → AllByRecursion (λ streams. AreUnder tables (all_told tables streams)) groups
@@ -25,9 +25,9 @@ SharedOutAnyhow = (tables : Entries) (groups : List (List (List ℕ))) (lists : 
 
 -- ---- any way of adding and merging
 
--- Files made of groups of streams, one of each group: `add` writes the text of what the streams of
--- a group tell (`Collects`), and `merge` the text of the reports of its archives (`Merges`), each
--- of which was itself made so.
+-- Files made of groups of streams, a file for each group: `add` writes the text of a group's
+-- reports (`Collects`), and `merge` the text of the reports of archives (`Merges`) that were made
+-- in the same way.
 pub data AreMadeOf (tables : Entries) : List (List (List ℕ)) → List (List ℕ) → Type 0 where
   none : AreMadeOf tables [] []
   by_add : (streams : List (List ℕ)) {groups : List (List (List ℕ))} {files : List (List ℕ)}
@@ -38,12 +38,12 @@ pub data AreMadeOf (tables : Entries) : List (List (List ℕ)) → List (List �
       → AreTextsOf tables archives lists → AreMadeOf tables groups files
       → AreMadeOf tables (all_streams parts ∷ groups) (merged_text tables lists ∷ files)
 
--- this file was made of these streams
+-- a file made of these streams
 abbrev pub IsMadeOf : Entries → List (List ℕ) → List ℕ → Type 0
 IsMadeOf tables streams file = AreMadeOf tables (streams ∷ []) (file ∷ [])
 
--- The headline for the commands: any two ways of adding and merging files whose streams of octets
--- hold the same messages write the same octets, the stated text of what the streams tell.
+-- The headline for the commands: any two ways of adding and merging files whose streams hold the
+-- same messages write the same octets, the stated text of the streams' reports.
 abbrev pub AnyWayWritesTheSame : Type 0
 AnyWayWritesTheSame = (tables : Entries) (a b : List (List ℕ)) (x y : List ℕ)
     → AllByRecursion AreOctets a → AllByRecursion AreOctets b

@@ -1,13 +1,13 @@
--- Lines of a text that a writer took, each of them whole.
+-- Whole lines of a text, as a writer takes them.
 use Rattle.std.specs.Prelude.{◌≡◌, ℕ, ◌⊎◌, List, [], ◌∷◌, ◌++◌}
 use Rattle.bufr_bits.specs.Devices.{Writing}
 use Rattle.bufr_io.specs.Engines.{WritesAll}
 
--- there are no octets, or the last of them is a line feed
+-- no octets, or octets that end with a line feed
 abbrev pub AreWholeLines : List ℕ → Type 0
 AreWholeLines octets = (octets ≡ []) ⊎ ((before : List ℕ) × (octets ≡ before ++ 10 ∷ []))
 
--- the first lines of a text were written, each of them whole, and nothing else; the writer works
+-- writes the first lines of a text, each of them whole, and nothing else; the writer works
 pub record WritesLines (old new : Writing) (text : List ℕ) : Type 0 where
   pub front : List ℕ
   pub rest : List ℕ

@@ -1,5 +1,4 @@
--- What `show` and `check` print, as functions of what they read. How many frames spell no message
--- (`refused_of`) is said in `Refusals` of bufr_io.
+-- What `show` and `check` print, as functions of what they read (this project's own).
 use Rattle.std.specs.Prelude.{ℕ, ◌-◌, Result, Ok, Err, List, [], ◌∷◌, ◌++◌, length, codes, decimal}
 use Rattle.std.specs.Prelude.{sum_by}
 use Rattle.std.specs.List.{flat_map}
@@ -21,58 +20,58 @@ use Rattle.bufr_engines.specs.declared.printing.Printing.TheVariants.{Shown, Che
 
 -- ---- one frame
 
--- what `show` prints of fields of a subset, a line each
+-- the lines of `show` for fields of a subset, a line for each
 abbrev pub fields_text : List Field → List ℕ
 fields_text fields = flat_map (λ f. line (field_line f)) fields
 
--- what `show` prints of a frame: the listing of its message, or its place and why it spells none
+-- the text of `show` for a frame: the listing of its message, or its place and the refusal
 abbrev pub shown_as : Found → Result Decoded Refused → List ℕ
 shown_as frame (Ok found) = listing found.message
 shown_as frame (Err why) = codes "# refused " ++ decimal frame.place ++ 32 ∷ reason why ++ 10 ∷ []
 
--- the place and the length of a frame, with which its line in `check` begins
+-- the place and the length of a frame, at the start of its line in `check`
 abbrev pub place_and_length : Found → List ℕ
 place_and_length frame = decimal frame.place ++ 32 ∷ decimal (length frame.bytes)
 
--- what `check` prints of a frame that spells a message: how many subsets it has and how many octets of
--- section 4 stand after the data
+-- the line of `check` for a frame that spells a message: the number of its subsets, and the number
+-- of octets of section 4 after the data
 abbrev pub checked_line : Found → Judged → List ℕ
 checked_line frame said = place_and_length frame ++ codes " ok "
     ++ decimal said.subsets ++ 32 ∷ decimal said.slack_octets ++ 10 ∷ []
 
--- what `check` prints of a frame: the line of its message, or why it spells none
+-- the line of `check` for a frame: the line of its message, or the refusal
 abbrev pub checked_as : Found → Result Decoded Refused → List ℕ
 checked_as frame (Ok found) = checked_line frame (judged found)
 checked_as frame (Err why) = place_and_length frame ++ codes " refused " ++ reason why ++ 10 ∷ []
 
--- what either prints of a frame
+-- the text of either command for a frame
 abbrev pub printed_as : Printing → Found → Result Decoded Refused → List ℕ
 printed_as Shown frame found = shown_as frame found
 printed_as Checked frame found = checked_as frame found
 
--- what is printed of a frame under the tables
+-- the text for a frame under the tables
 abbrev pub frame_text : Printing → Entries → Found → List ℕ
 frame_text printing tables frame = printed_as printing frame (message_of tables frame.bytes)
 
 -- ---- frames
 
--- what is printed of frames, one after another
+-- the texts for frames, one after another
 abbrev pub frames_text : Printing → Entries → List Found → List ℕ
 frames_text printing tables frames = flat_map (frame_text printing tables) frames
 
--- how many octets the frames have
+-- the number of octets of the frames
 abbrev pub octets_of : List Found → ℕ
 octets_of frames = sum_by (λ frame. length frame.bytes) frames
 
 -- ---- a stream that has ended
 
--- how many of a stream's octets stand in no frame, of which so many stand in one, where the command
--- counts them
+-- the number of a stream's octets outside its frames, for the command that counts them: the
+-- stream's length less the length of its frames
 abbrev pub skipped_by : Printing → ℕ → ℕ → ℕ
 skipped_by Shown long inside = 0
 skipped_by Checked long inside = long - inside
 
--- what is counted of a stream
+-- the counts of a stream
 abbrev pub tally_of : Printing → Entries → List ℕ → Tally
 tally_of printing tables stream = record {
   frames = length (cut stream);
@@ -86,21 +85,21 @@ abbrev pub tally_line : Tally → List ℕ
 tally_line tally = codes "frames " ++ decimal tally.frames ++ codes " refused "
     ++ decimal tally.refused ++ codes " skipped " ++ decimal tally.skipped ++ 10 ∷ []
 
--- what is printed after the frames
+-- the text after the frames
 abbrev pub last_text : Printing → Tally → List ℕ
 last_text Shown tally = []
 last_text Checked tally = tally_line tally
 
--- what is printed of a stream: of each frame of its cut, and the last line
+-- the text for a stream: for each frame of its cut, and the last line
 abbrev pub stream_text : Printing → Entries → List ℕ → List ℕ
 stream_text printing tables stream =
     frames_text printing tables (cut stream) ++ last_text printing (tally_of printing tables stream)
 
--- what `show` prints of a stream
+-- the output of `show` for a stream
 abbrev pub shown : Entries → List ℕ → List ℕ
 shown tables stream = frames_text Shown tables (cut stream)
 
--- what `check` prints of a stream
+-- the output of `check` for a stream
 abbrev pub checked : Entries → List ℕ → List ℕ
 checked tables stream =
     frames_text Checked tables (cut stream) ++ tally_line (tally_of Checked tables stream)

@@ -1,4 +1,4 @@
--- What the examples speak of: a frame, a message and counts, whose numbers all differ.
+-- The frame, message and counts of the examples: all their numbers differ.
 use Rattle.std.specs.Prelude.{true, false, [], ◌∷◌, None, codes}
 use Rattle.bufr_frame.specs.declared.frames.Found.{Found}
 use Rattle.bufr_message.specs.declared.Decoded.{Decoded}
@@ -8,7 +8,7 @@ use Rattle.bufr_io.specs.declared.fault.Tally.{Tally}
 abbrev pub frame_of_12 : Found
 frame_of_12 = record { place = 1840; bytes = codes "BUFR....7777" }
 
--- a message of three subsets without a field; five octets of section 4 stand after its data
+-- a message of three subsets without a field, with five octets of section 4 after its data
 abbrev pub three_subsets : Decoded
 three_subsets = record {
   message = record {

@@ -1,4 +1,4 @@
--- What the engines over the frames of a stream answer and do.
+-- What the engines over the frames of a stream return and write (this project's own).
 use Rattle.std.specs.Prelude.{◌≡◌, ℕ, ◌+◌, ◌*◌, ◌^◌, ◌≤◌, Bool, true, false, List, ◌++◌, length}
 use Rattle.std.specs.Prelude.{◌<◌, [], IfSome, Result, Ok, Err}
 use Rattle.bufr_bits.specs.Devices.{Reading, Writing}
@@ -20,24 +20,23 @@ use Rattle.bufr_engines.specs.Lines.{AreWholeLines, WritesLines}
 
 -- ---- an engine
 
--- the frames that may be handed out once this was read: the sure ones, or all where that was the
+-- the frames that a framer may hand out after these octets: the sure ones, or all of them at the
 -- end
 abbrev pub frames_by : Bool → List ℕ → List Found
 frames_by true read = cut read
 frames_by false read = sure read
 
--- what may be printed by then
+-- the text for these frames, and at the end the last line
 abbrev pub text_by : Printing → Entries → Bool → List ℕ → List ℕ
 text_by printing tables true read = stream_text printing tables read
 text_by printing tables false read = frames_text printing tables (sure read)
 
--- What `run_show` and `run_check` answer and do, from a reader and a writer that work to what they
--- leave of them. Without a fault: the whole stream was read, and all that is printed of it was
--- written. Where a read failed or the input was endless: of the octets that were read the lines of
--- the sure frames were written, and nothing else. Where memory ran out: the first lines, each of
--- them whole, of what is printed of the frames that may be handed out by what was read, and nothing
--- else. Where the writer failed: a front, so many octets long, of what may be printed by what was
--- read, which is one of what is printed of the whole stream.
+-- What `run_show` and `run_check` return and do. Without a fault: they read the whole stream and
+-- write its text. If a read fails or the input is endless: they have written the lines of the sure
+-- frames of the octets read, and nothing else. If memory runs out: they have written the first
+-- whole lines of the frames that a framer may hand out after the octets read, and nothing else. If
+-- the writer fails: they have written the first `written` octets of the text for the octets read,
+-- which begin the text of the whole stream too.
 abbrev pub Prints : Printing → Entries → ℕ → Reading → Reading → Writing → Writing
     → Result Tally ToolFault → Type 0
 Prints printing tables reads reader reader' writer writer' (Ok tally) =
@@ -62,8 +61,8 @@ Prints printing tables reads reader reader' writer writer' (Err fault) = ⊥
 
 -- ---- text by text
 
--- of a text the first lines were written behind so many octets before it, so that so many are
--- written now, and what is held is the rest of it: whole lines both
+-- writes the first lines of a text after `before` octets, so that the writer has `now`, and holds
+-- the rest of the text: whole lines both
 pub record WritesAllBut (held text : List ℕ) (before now : ℕ) (writer writer' : Writing) : Type 0
   where
     pub front : List ℕ
@@ -73,7 +72,7 @@ pub record WritesAllBut (held text : List ℕ) (before now : ℕ) (writer writer
     pub written : WritesAll writer writer' front
     pub counted : now ≡ before + length front
 
--- so it is with the first lines of a text
+-- writes or holds the first lines of a text
 pub record WritesSome (held text : List ℕ) (before now : ℕ) (writer writer' : Writing) : Type 0
   where
     pub front : List ℕ
@@ -81,8 +80,7 @@ pub record WritesSome (held text : List ℕ) (before now : ℕ) (writer writer' 
     pub parted : text ≡ front ++ rest
     pub done : WritesAllBut held front before now writer writer'
 
--- the lines that are held were written, and none is held; or the writer failed after a front of
--- them
+-- writes all lines that the printer holds, or the writer fails after their first octets
 abbrev pub WritesHeld : Printer → Printer → Writing → Writing → Result (Unit {0}) ToolFault
     → Type 0
 WritesHeld p p' writer writer' (Ok done) =
@@ -91,8 +89,8 @@ WritesHeld p p' writer writer' (Ok done) =
 WritesHeld p p' writer writer' (Err fault) =
     WritesAfter p.written p.held.items writer writer' (Err fault)
 
--- a text was added to the lines that were held: of both the first lines were written and the others
--- are held; or the writer failed after a front of them; or memory ran out behind some of the lines
+-- adds a text to the lines that the printer holds: writes the first lines of both and holds the
+-- others; or the writer fails after the first octets; or memory runs out after some of the lines
 abbrev pub Adds : List ℕ → Printer → Printer → Writing → Writing → Result (Unit {0}) ToolFault
     → Type 0
 Adds text p p' writer writer' (Ok done) = WritesAllBut p'.held.items (p.held.items ++ text)
@@ -104,7 +102,8 @@ Adds text p p' writer writer' (Err faults.OutOfMemory) = WritesSome p'.held.item
     (p.held.items ++ text) p.written p'.written writer writer'
 Adds text p p' writer writer' (Err fault) = ⊥
 
--- so it is with lines that were held, of which fewer are held now
+-- writes the first of the lines that the printer holds, or the writer fails after their first
+-- octets
 abbrev pub WritesPart : Printer → Printer → Writing → Writing → Result (Unit {0}) ToolFault
     → Type 0
 WritesPart p p' writer writer' (Ok done) = WritesAllBut p'.held.items p.held.items
@@ -112,8 +111,7 @@ WritesPart p p' writer writer' (Ok done) = WritesAllBut p'.held.items p.held.ite
 WritesPart p p' writer writer' (Err fault) =
     WritesAfter p.written p.held.items writer writer' (Err fault)
 
--- what is printed of frames, under which tables, and what was counted of them stay; lines are held
--- or written
+-- the command, the tables and the counts stay; lines may move to the writer
 pub record Keeps (p p' : Printer) : Type 0 where
   pub printing : p'.printing ≡ p.printing
   pub tables : p'.templates ≡ p.templates
@@ -121,13 +119,13 @@ pub record Keeps (p p' : Printer) : Type 0 where
   pub refused : p'.refused ≡ p.refused
   pub octets : p'.octets ≡ p.octets
 
--- what is held, which is no longer than a vector can be, can be counted with what was written
+-- the octets written and those held, as long as a vector can be, fit the counter
 abbrev pub Fits : Printer → Type 0
 Fits p = length p.held.items < 2 ^ 64 → p.written + length p.held.items < 2 ^ 128
 
 -- ---- frame by frame
 
--- a frame was printed and counted
+-- prints and counts a frame
 pub record HasAdded (printing : Printing) (tables : Entries) (frame : Found) (p p' : Printer)
     (writer writer' : Writing) : Type 0 where
   pub text : WritesAllBut p'.held.items (p.held.items ++ frame_text printing tables frame)
@@ -137,7 +135,7 @@ pub record HasAdded (printing : Printing) (tables : Entries) (frame : Found) (p 
   pub octets : p'.octets ≡ p.octets + length frame.bytes
   pub short : length (frame_text printing tables frame) < 2 ^ 80
 
--- so it is, or printing it stopped
+-- prints and counts a frame, or stops within its text
 abbrev pub PrintsFrame : Printing → Entries → Found → Printer → Printer → Writing → Writing
     → Result (Unit {0}) ToolFault → Type 0
 PrintsFrame printing tables frame p p' writer writer' (Ok done) =
@@ -145,8 +143,8 @@ PrintsFrame printing tables frame p p' writer writer' (Ok done) =
 PrintsFrame printing tables frame p p' writer writer' (Err fault) =
     Adds (frame_text printing tables frame) p p' writer writer' (Err fault) × Fits p'
 
--- these frames were printed since the first of the two states of the writer, and counted: their
--- text is what was written since then and what is held
+-- has printed and counted these frames since the writer's state `first`: their text is what it has
+-- written since and what it holds
 pub record HasPrinted (printing : Printing) (tables : Entries) (first now : Writing)
     (p : Printer) (frames : List Found) : Type 0 where
   pub printing_is : p.printing ≡ printing
@@ -158,34 +156,34 @@ pub record HasPrinted (printing : Printing) (tables : Entries) (first now : Writ
   pub octets_are : p.octets ≡ octets_of frames
   pub short : length (frames_text printing tables frames) + length frames ≤ 2 ^ 80 * length frames
 
--- printing a text stopped with a fault: the writer failed after a front of it; or memory ran out
--- when some of its lines were written or held
+-- stops within a text with a fault: the writer fails after its first octets, or memory runs out
+-- when some of its lines are written or held
 abbrev pub StopsWithin : List ℕ → Writing → Printer → Writing → ToolFault → Type 0
 StopsWithin text first p now (faults.WriteFailed written) = FailsAfter written first now text
 StopsWithin text first p now faults.OutOfMemory =
     WritesSome p.held.items text 0 p.written first now × Fits p
 StopsWithin text first p now fault = ⊥
 
--- so it is when no line is held
+-- stops within a text with a fault, and holds no line
 abbrev pub Stops : List ℕ → Writing → Writing → ToolFault → Type 0
 Stops text first now (faults.WriteFailed written) = FailsAfter written first now text
 Stops text first now faults.OutOfMemory = WritesLines first now text
 Stops text first now fault = ⊥
 
--- since these states of the printer and of its writer these frames were printed and counted
+-- has printed and counted these frames since these states of the printer and of its writer
 pub record HasPrintedSince (start : Printer) (first : Writing) (p : Printer) (now : Writing)
     (frames : List Found) : Type 0 where
   pub counted : p.frames ≡ start.frames + length frames
   pub printed : HasPrinted start.printing start.templates first now p frames
 
--- a stream of so many octets has ended, and all its frames were printed
+-- has printed all frames of a stream of `fed` octets, which has ended
 pub record HasEnded (printing : Printing) (tables : Entries) (first now : Writing) (p : Printer)
     (fed : ℕ) (stream : List ℕ) : Type 0 where
   pub printed : HasPrinted printing tables first now p (cut stream)
   pub long : fed ≡ length stream
 
--- and what stands after them was written, or a front of all that is printed of the stream; where
--- memory ran out, some lines of its frames
+-- writes the text after the frames too, or the writer fails after the first octets of the stream's
+-- text; if memory runs out, some lines of its frames
 abbrev pub PrintsEnd : Printing → Entries → List ℕ → Writing → Writing → Result Tally ToolFault
     → Type 0
 PrintsEnd printing tables stream first now (Ok tally) =

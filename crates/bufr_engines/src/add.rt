@@ -1,5 +1,3 @@
-//! The engine of `add`.
-
 ghost use Rattle.std.specs.Prelude.{◌≡◌, ◌≤◌, false, map};
 ghost use Rattle.bufr_engines.specs.Collects.{Collects};
 ghost use Rattle.bufr_io.specs.Readers.{AreFresh, AreReadAtMost};

@@ -1,5 +1,3 @@
-//! The engine of `encode`.
-
 ghost use Rattle.std.specs.Prelude.{◌≡◌, ◌≤◌, ◌++◌, ℕ, List, [], false, IfErr, Ok, OnOk};
 ghost use Rattle.bufr_base.specs.Answers.{Fails, Gives, result_map};
 ghost use Rattle.bufr_io.specs.Engines.{IsFresh};
@@ -51,7 +49,6 @@ pub fn run_encode<S: Source, W: Sink>(
     })
 }
 
-/// Encodes the messages of a listing.
 fn octets_of(
     alloc: Global,
     tables: &Tables,
@@ -93,7 +90,6 @@ fn add_listed(
     Ok(count)
 }
 
-/// Reads the next message of a listing.
 fn next_of(alloc: Global, messages: &mut Messages<'_>) -> Result<Option<Message>, ToolFault>
     ensures { ReadsMessage messages.old messages.new result }
 {
@@ -122,7 +118,6 @@ fn fault_of(
     }
 }
 
-/// Reads the other messages and drops them.
 fn pass_all(alloc: Global, mut messages: Messages<'_>) -> Result<(), ToolFault>
     ensures { PassesAll messages.entry result }
 {

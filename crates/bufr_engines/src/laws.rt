@@ -1,4 +1,4 @@
-//! Laws of the engines: each function has one as its contract, and does nothing.
+//! Laws of the engines.
 
 ghost use Rattle.bufr_engines.specs.Laws.{AnyWayWritesTheSame, SharedOutAnyhow};
 

@@ -1,5 +1,3 @@
-//! The engine of `merge`.
-
 ghost use Rattle.std.specs.Prelude.{◌≡◌, ◌≤◌, false, map, IfOk};
 ghost use Rattle.bufr_base.specs.Answers.{result_map};
 ghost use Rattle.bufr_io.specs.Engines.{IsFresh};
@@ -20,7 +18,6 @@ use bufr_io::{Input, Tally, ToolFault, read_all, room};
 use bufr_tables::Tables;
 use std::alloc::Global;
 
-/// Reads an archive.
 fn read_archive<'t, S: Source>(
     alloc: Global,
     reads: u64,

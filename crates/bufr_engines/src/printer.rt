@@ -51,7 +51,6 @@ pub(crate) struct Printer<'t> {
 }
 
 impl<'t> Printer<'t> {
-    /// Makes a printer that holds nothing.
     pub(crate) fn new(alloc: Global, printing: Printing, tables: &'t Tables) -> Printer<'t>
         ensures printing { result.printing ≡ printing }
         ensures tables { result.templates ≡ tables.now }
@@ -72,7 +71,6 @@ impl<'t> Printer<'t> {
         }
     }
 
-    /// Writes all lines that it holds.
     pub(crate) fn write_held<W: Sink>(&mut self, writer: &mut W) -> Result<(), ToolFault>
         requires works { (W.writing writer.old).failed ≡ false }
         requires fits { Fits self.old }
@@ -266,7 +264,6 @@ impl<'t> Printer<'t> {
         }
     }
 
-    /// Counts a frame.
     fn count(&mut self, octets: &[u8], refused: bool)
         requires frames { self.old.frames + 1 < 2 ^ 128 }
         requires refused { self.old.refused + 1 < 2 ^ 128 }
@@ -282,7 +279,6 @@ impl<'t> Printer<'t> {
         self.octets += octets.len() as u64;
     }
 
-    /// Prints a frame and counts it.
     pub(crate) fn print_frame<W: Sink>(
         &mut self,
         alloc: Global,

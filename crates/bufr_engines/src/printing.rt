@@ -89,7 +89,6 @@ pub(crate) fn hold_tally(
 
 // If memory runs out, these add a part of their line.
 
-/// Adds words and a number.
 fn push_number<I: Integer>(text: &mut Vec<u8>, words: &[u8], number: I) -> Result<(), OutOfMemory>
     ensures ok { OnOk result (text.new.items ≡ text.old.items ++ words.now ++ I.text number) }
     ensures kept { OnErr result (take (length text.old.items) text.new.items ≡ text.old.items) }

@@ -1,5 +1,3 @@
-//! Worked values of the lines of the engines.
-
 ghost use Rattle.std.specs.Prelude.{◌≡◌, ◌++◌, ◌∷◌, [], Ok, Err, codes};
 ghost use Rattle.bufr_io.specs.Faults.{input_text};
 ghost use Rattle.bufr_engines.specs.Output.{checked_as, last_text, shown_as, skipped_by};

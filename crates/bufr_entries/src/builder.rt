@@ -1,4 +1,3 @@
-//! A builder of sorted shelves.
 ghost use Rattle.std.specs.Prelude.{◌≡◌, ◌++◌, ◌∷◌, [], map, IfOk, OnOk, OnErr};
 ghost use Rattle.std.specs.List.Sorted.{IsStrictlySortedBy};
 ghost use Rattle.std.specs.Option.{option_map, option_to_list};
@@ -18,8 +17,8 @@ use std::alloc::Global;
 use std::marker::Model;
 
 /// A builder that gathers entries, without look-ups, and keeps the one of greatest rank of each
-/// slot. It sorts new entries in batches: at most 64 wait, and two more for each sorted entry;
-/// their octets are little more than 32 MiB, and 64 for each sorted entry.
+/// slot. It sorts in batches: at most 64 entries wait, and two for each sorted entry, with little
+/// more than 32 MiB, and 64 octets for each sorted entry.
 #[derive(Drop)]
 pub struct ShelfBuilder {
     alloc: Global,
@@ -127,8 +126,7 @@ impl ShelfBuilder {
     }
 }
 
-/// Moves the settled entries and the waiting ones into `left`, in order. If memory runs out, some
-/// may have moved.
+/// Moves all entries into `left`, in order; some if memory runs out.
 fn take_all(
     alloc: Global,
     settled: &mut Vec<Page>,

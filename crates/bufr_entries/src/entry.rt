@@ -1,4 +1,3 @@
-//! Entries of archives.
 use crate::key::Key;
 use bufr_base::Items;
 

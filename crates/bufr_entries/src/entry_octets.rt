@@ -1,4 +1,3 @@
-//! Entries that write their own octets.
 ghost use Rattle.std.specs.Prelude.{◌≡◌, ℕ, List, Option, IfOk, OnErr};
 ghost use Rattle.bufr_entries.specs.Octets.{PutsBehind};
 

@@ -59,8 +59,7 @@ impl KeptOctets {
     }
 }
 
-/// An iterator over the octets of kept entries. Contracts see the octets that it has still to
-/// return.
+/// An iterator over the octets of kept entries. Contracts see the octets left.
 #[derive(Drop)]
 pub struct LentOctets<'a> {
     // The entries left of one page, in reverse.

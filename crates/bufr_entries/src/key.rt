@@ -1,10 +1,9 @@
-//! Keys of reports, and their order.
 ghost use Rattle.std.specs.Prelude.{◌≡◌};
 
 use bufr_base::Items;
 
-/// A station: a WMO number comes before a WIGOS identifier, and that before a mobile name; two of
-/// one kind compare part by part, and names by octets.
+/// A station: WMO numbers come before WIGOS identifiers, and these before mobile names. Two of one
+/// kind compare part by part, names by octets.
 #[derive(Clone, Debug, Drop, PartialEq, Eq, PartialOrd, Ord)]
 pub enum Station {
     /// A WMO block number and station number (Table B 001001 and 001002).
@@ -78,8 +77,8 @@ pub struct Moment {
     pub second: u8,
 }
 
-/// A key: what reports of one observation share. It compares part by part; centre, categories and
-/// sub-centre are those of section 1 (FM 94 BUFR).
+/// A key of reports of one observation. It compares part by part; centre, categories and sub-centre
+/// are from section 1 (FM 94 BUFR).
 #[derive(Clone, Debug, Drop, PartialEq, Eq, PartialOrd, Ord)]
 pub struct Key {
     /// The originating centre.

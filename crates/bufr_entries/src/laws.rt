@@ -15,8 +15,8 @@ pub fn keys_in_order()
     ensures moments { (a b : AMoment) → ⟦<Moment as Ord>⟧.cmp a b ≡ moment_cmp a b }
 {}
 
-/// `kept` is the only list in order of slots with exactly the best entry of each slot; `changes` is
-/// true exactly if one more entry changes it.
+/// `kept` is the only list in order of slots with exactly the best entry of each slot; `changes`
+/// says if one more entry changes it.
 pub fn kept_is_the_best()
     ensures best { KeptIsTheBest }
     ensures only { OnlyKeptIsTheBest }
@@ -34,7 +34,7 @@ pub fn joins_agree()
 {}
 
 /// A shelf keeps all of a sorted list with no slot twice, and so all that an archive kept while
-/// keys had no sub-centre: the best of each slot by such keys, if octets tell entries apart.
+/// keys had no sub-centre.
 pub fn sorted_are_kept()
     ensures sorted { SortedAreKept }
     ensures from_before { CoarselyKeptAreKept }

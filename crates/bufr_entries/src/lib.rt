@@ -1,12 +1,8 @@
-//! Keys of reports, entries of archives, what is kept of entries, and entries gathered in any
-//! order.
+//! Keys of reports, and entries of archives, gathered in any order.
 //!
 //! An entry has a key or none, an update number and octets. Its slot is its key, or its octets if
-//! it has no key. Of the entries of one slot the one of greatest rank is kept, by update number and
-//! then by octets. Entries with a key come first in the order of slots.
-//!
-//! A [`ShelfBuilder`] takes entries in any order and looks none up. A [`PackedSlot`] holds the key and
-//! the update number of an entry in little room.
+//! it has no key; entries with a key come first. Of the entries of one slot an archive keeps the
+//! one of greatest rank, by update number and then by octets.
 #![tactic(auto)]
 
 mod builder;

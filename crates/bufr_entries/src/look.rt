@@ -18,14 +18,12 @@ pub struct Look<'a> {
 }
 
 impl Look<'_> {
-    /// Compares the slots of two entries.
     pub(crate) fn slot_cmp(self, other: Look) -> Ordering
         ensures { result ≡ slot_cmp (seen self.entry) (seen other.entry) }
     {
         self.mark.slot_order(self.octets, other.mark, other.octets)
     }
 
-    /// Compares their ranks.
     pub(crate) fn rank_cmp(self, other: Look) -> Ordering
         ensures { result ≡ rank_cmp (seen self.entry) (seen other.entry) }
     {

@@ -1,4 +1,3 @@
-//! Marks of entries.
 ghost use Rattle.std.specs.Prelude.{◌≡◌, IfOk, IfSome, MatchOption, Some, None};
 ghost use Rattle.std.specs.Option.{option_map};
 ghost use Rattle.bufr_entries.specs.KeyOrders.{octets_cmp};
@@ -162,8 +161,7 @@ impl PackedSlot {
         }
     }
 
-    /// Compares two slots that are not both packed keys of WMO stations; returns none if neither
-    /// has a key.
+    /// Compares two slots that are not both packed keys; returns none if neither has a key.
     fn order_by_key(&self, other: &PackedSlot) -> Option<Ordering>
         ensures { MatchOption result ((self.now.key ≡ None) × (other.now.key ≡ None))
             (λ order. (by_octets : Ordering)

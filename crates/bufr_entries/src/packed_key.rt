@@ -1,4 +1,3 @@
-//! Packed keys of WMO stations.
 ghost use Rattle.std.specs.Prelude.{◌≡◌, ◌+◌, ◌≤◌, ◌/◌, ◌%◌, ◌^◌, IfSome};
 ghost use Rattle.bufr_entries.specs.KeyOrders.{key_cmp};
 ghost use Rattle.bufr_entries.specs.PackedKeys.{bits, wmo_head, wmo_moment, wmo_key};
@@ -9,7 +8,7 @@ use crate::key::{Key, Moment, Station};
 use std::cmp::Ordering;
 
 /// A packed key, without its sub-centre, of a WMO station with block and number of two octets each.
-/// The parts begin in the highest bits, so the numbers compare as the keys do.
+/// Its parts begin in the highest bits, so it compares as the key does.
 #[derive(Clone, Copy, Drop)]
 pub(crate) struct WmoWords {
     pub(crate) high: u64,

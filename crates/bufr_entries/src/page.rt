@@ -18,7 +18,7 @@ const MOST_ENTRIES: usize = 512;
 /// The number of octets of a full page.
 const MOST_OCTETS: usize = 32_768;
 
-/// The octets that a new page reserves: more than a full page has, unless its last entry is long.
+/// The octets that a new page reserves.
 const ROOM_FOR_OCTETS: usize = 40_960;
 
 /// An entry of a page: its mark, and the length of its octets.
@@ -30,7 +30,7 @@ pub(crate) struct PageEntry {
 
 const _: () = prove!(size_of::<PageEntry>() == 32);
 
-/// A page of entries in order. Contracts see the entries that no call has taken from its front yet.
+/// A page of entries in order. Contracts see the entries left.
 #[derive(Drop)]
 pub(crate) struct Page {
     // The entries, in reverse.
@@ -141,7 +141,6 @@ impl PageRoom {
         self.entries.len() >= MOST_ENTRIES || self.octets.len() >= MOST_OCTETS
     }
 
-    /// Appends the first entry of other pages.
     pub(crate) fn push_left(&mut self, left: &mut PagesLeft) -> Result<(), OutOfMemory>
         ensures ok { OnOk result (self.new ≡ self.old ++ option_to_list (first_of left.old)) }
         ensures rest { OnOk result (left.new ≡ drop 1 left.old) }
@@ -159,7 +158,6 @@ impl PageRoom {
         Ok(())
     }
 
-    /// Appends the last waiting entry.
     pub(crate) fn push_last(&mut self, waiting: &mut Waiting) -> Result<(), OutOfMemory>
         ensures ok { OnOk result
             (self.new ≡ self.old ++ option_to_list (first_of (reverse waiting.old))) }
@@ -179,7 +177,6 @@ impl PageRoom {
         Ok(())
     }
 
-    /// Makes the page, and gives free memory back.
     pub(crate) fn into_page(self) -> Page
         ensures { result ≡ self }
     {

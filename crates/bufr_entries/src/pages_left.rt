@@ -1,4 +1,3 @@
-//! A queue of pages.
 ghost use Rattle.std.specs.Prelude.{◌≡◌, ◌++◌, ◌<◌, [], drop, length, reverse, IfSome, OnOk};
 ghost use Rattle.std.specs.Option.{option_map, option_to_list};
 ghost use Rattle.bufr_entries.specs.Keeping.{first_of};

@@ -40,8 +40,8 @@ pub(crate) fn settle(
     Ok(())
 }
 
-/// Appends one page to the settled ones: the next page whole, if it ends before the waiting
-/// entries, or else a new one.
+/// Appends a page to the settled ones: the next one whole, if it ends before the waiting entries,
+/// or else a new one.
 fn settle_page(
     alloc: Global,
     settled: &mut Vec<Page>,
@@ -101,8 +101,8 @@ fn fill(room: &mut PageRoom, left: &mut PagesLeft, waiting: &mut Waiting) -> Res
     Ok(())
 }
 
-/// Compares the slots of the two heads: the first entry left and the last waiting one. A missing
-/// head counts as greater.
+/// Compares the slots of the first entry left and the last waiting one. A missing one counts as
+/// greater.
 fn order_of_heads(left: &PagesLeft, waiting: &Waiting) -> Option<Ordering>
     ensures order { IfSome result (λ order.
         order ≡ heads_order slot_cmp left.now (reverse waiting.now)) }
@@ -139,8 +139,7 @@ fn drop_lesser(left: &mut PagesLeft, waiting: &mut Waiting)
     }
 }
 
-/// Drops the lower rank of the last two waiting entries, if they have one slot, and returns whether
-/// it did.
+/// Drops the lower rank of the last two waiting entries if they have one slot.
 fn drop_tied(waiting: &mut Waiting) -> bool
     requires { AreRising (reverse waiting.old) }
     ensures rising { AreRising (reverse waiting.new) }

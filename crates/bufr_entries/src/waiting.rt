@@ -116,8 +116,8 @@ fn at_once(entries: &[WaitingEntry]) -> usize
     count
 }
 
-/// Copies the octets of the last entries into `ahead`. The octets lie far apart, and one pass over
-/// them waits less for memory.
+/// Copies the octets of the last entries into `ahead`: they lie far apart, and one pass waits less
+/// for memory.
 fn read_last(octets: &[u8], entries: &[WaitingEntry], ahead: &mut Vec<u8>)
     ensures { AreLast octets.now entries.now ahead.new.items }
 {
@@ -148,8 +148,8 @@ fn come_in_runs(entries: &[WaitingEntry], octets: &[u8]) -> bool {
     true
 }
 
-/// Sorts entries that form long runs by merging these, greatest slot first, and returns whether it
-/// did; not if memory ran out.
+/// Sorts entries by merging their runs, greatest slot first, if the runs are long and memory
+/// suffices.
 fn merge_runs(entries: &mut Vec<WaitingEntry>, octets: &[u8]) -> bool
     ensures permutation { IsPermutation entries.old.items entries.new.items }
     ensures len { length entries.new.items ≡ length entries.old.items }
@@ -296,7 +296,6 @@ impl Waiting {
         sort_falling(&mut self.entries, &self.octets);
     }
 
-    /// Frees the memory of an empty batch.
     pub(crate) fn give_back(&mut self)
         ensures { self.new ≡ self.old }
     {

@@ -1,4 +1,3 @@
-//! Worked examples of the definitions.
 ghost use Rattle.std.specs.Prelude.{◌≡◌, ◌∷◌, [], Some, None, pos, negsuc, true, false, map, codes};
 ghost use Rattle.std.specs.declared.cmp.Ordering.TheVariants.{Less, Equal, Greater};
 ghost use Rattle.bufr_entries.specs.declared.key.Station.TheVariants.{Wmo};

@@ -23,3 +23,6 @@ pub use Rattle.bufr_base.specs.Answers
 pub use Rattle.bufr_tables.specs.Descriptors
 pub use Rattle.bufr_tables.specs.Elements
 pub use Rattle.bufr_tables.specs.Entries
+pub use Rattle.bufr_base.specs.declared.failure.Failure
+pub use Rattle.bufr_tables.specs.declared.element.Element
+pub use Rattle.bufr_tables.specs.declared.element.Kind

@@ -7,9 +7,9 @@ use bufr_tables::Fxy;
 /// A choice of descriptors.
 pub trait Asks {
     /// The chosen descriptors.
-    ghost is_asked: { ℕ → Bool };
+    ghost is_asked: { Self → ℕ → Bool };
 
     /// Returns whether a descriptor is chosen.
-    fn asks(fxy: Fxy) -> bool
-        ensures { result ≡ is_asked fxy };
+    fn asks(&self, fxy: Fxy) -> bool
+        ensures { result ≡ is_asked self.now fxy };
 }

@@ -74,7 +74,6 @@ fn add_part(
     }
 }
 
-/// Appends a node, within the limit.
 fn add_node(node: &Node, nodes: &mut Vec<Node>) -> Result<(), Failure<TemplateFault>>
     ensures { Gives (λ _. nodes.new.items) result
         (onto nodes.old.items (single_nodes (length nodes.old.items) node.now)) }

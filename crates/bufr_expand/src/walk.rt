@@ -161,15 +161,15 @@ impl<'t> Walk<'t> {
     }
 
     /// Returns true if the nodes ahead show that no chosen field is left.
-    pub fn tells_no_more<A: Asks>(&self) -> bool
-        ensures { OnTrue result (TellsNone A.is_asked (left self.now)) }
+    pub fn tells_no_more<A: Asks>(&self, asked: &A) -> bool
+        ensures { OnTrue result (TellsNone (A.is_asked asked.now) (left self.now)) }
     {
         match self.state {
             State::Going if self.loops.len() == 0 && self.place <= self.stop => {
                 let ahead = &self.nodes[self.place..self.stop];
                 ahead.iter().all(|node| match node {
                     Node::Element(fxy, _) | Node::Untouched(fxy, _) | Node::Delayed(fxy, _, _) => {
-                        !A::asks(*fxy)
+                        !asked.asks(*fxy)
                     }
                     Node::Operator(_) | Node::Repeated(_, _) => true,
                 })
@@ -178,7 +178,6 @@ impl<'t> Walk<'t> {
         }
     }
 
-    /// Visits the next node.
     fn visit(&mut self) -> Option<Result<Step, WalkFault>>
         requires goes { self.old.state ≡ Going }
         requires more { self.old.place < self.old.stop }
@@ -284,7 +283,6 @@ impl<'t> Walk<'t> {
         }
     }
 
-    /// Meets the factor of a delayed replication.
     #[tactic(auto, unfolding(crate::specs::Walks::left, crate::specs::Walks::waits, crate::specs::Walks::items_met, crate::specs::Walks::steps_left))]
     fn ask(&mut self, fxy: Fxy, element: &Element, len: u64) -> Result<Step, WalkFault>
         requires goes { self.old.state ≡ Going }

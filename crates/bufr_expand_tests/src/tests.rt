@@ -1,5 +1,6 @@
 //! Tests of templates, walks and tables.
 
+mod limits;
 mod runs;
 mod samples;
 mod tables;

@@ -1,4 +1,4 @@
--- A decimal's units are the only ones that its text can have: the basis of `parse_decimal`.
+-- A decimal's units are the only ones that its text can have: the basis of `Decimal::parse`.
 use Rattle.std.proofs.Common.{◌≡◌, ℕ, zero, suc, ◌-◌, ◌^◌, ◌<◌, ◌≤◌, List, [], ◌∷◌, ◌++◌}
 use Rattle.std.proofs.Common.{length, take, drop, replicate, get_or, subst, refl, sym, ap, ◌∙◌}
 use Rattle.std.proofs.Common.{arith, length-append, inl, inr}

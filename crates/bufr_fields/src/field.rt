@@ -1,5 +1,3 @@
-//! Fields, subsets and values.
-
 use crate::form::{are_ones, is_below, is_greatest, is_octets, is_same};
 use crate::limits::MOST_DECIMAL_SCALE;
 use bufr_base::Items;

@@ -1,5 +1,3 @@
-//! The texts of values.
-
 ghost use Rattle.std.specs.Prelude.{◌≡◌, ◌≤◌, ◌+◌, ◌-◌, ◌++◌, length, take, decimal, Some};
 ghost use Rattle.std.specs.Prelude.{IsAscii, OnOk, OnErr, replicate};
 ghost use Rattle.bufr_fields.specs.Values.{sign_of, digits_by, pointed, text_of};
@@ -60,7 +58,6 @@ fn sign(units: i128) -> &'static str
     if units < 0 { "-" } else { "" }
 }
 
-/// Splits the digits of a number by its scale.
 fn parts_of<'a>(buffer: &'a mut Buffer, number: u128, scale: i32) -> Parts<'a>
     ensures { result.front.now ++ result.point.now ++ replicate result.zeros 48 ++ result.back.now
         ≡ digits_by scale number }

@@ -1,5 +1,3 @@
-//! Worked values of the definitions.
-
 ghost use Rattle.std.specs.Prelude.{◌≡◌, ◌∷◌, ◌-◌, ◌+◌, ◌^◌, [], pos, negsuc, codes, map, Some, None};
 ghost use Rattle.std.specs.Prelude.{true, false, replicate};
 ghost use Rattle.bufr_tables.specs.Descriptors.{descriptor};

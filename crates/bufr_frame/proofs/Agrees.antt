@@ -1,6 +1,6 @@
 -- Lists agree if they are equal as far as the shorter goes: for `agrees`.
 use Rattle.std.proofs.Common.{◌≡◌, ℕ, zero, suc, true, false, cond, eqb, nat_eq, ◌&&◌, List, []}
-use Rattle.std.proofs.Common.{◌∷◌, length, take, refl, arith, min}
+use Rattle.std.proofs.Common.{◌∷◌, length, take, get_or, refl, arith, min, ◌≤◌}
 use Rattle.std.specs.Cmp.Lexicographic.{pointwise}
 use Rattle.bufr_frame.specs.Starts.{agrees}
 
@@ -16,3 +16,11 @@ agrees_by (x ∷ xs) (y ∷ ys) (suc n) e =
     elim (eqb x y) as
     (λ b. (b && pointwise nat_eq (take n xs) (take n ys)) ≡ cond b (agrees xs ys) false)
     [ true ↦ agrees_by xs ys n same | false ↦ refl ]
+
+-- four octets and a mark of four
+pub agrees_by_four : (xs ys : List ℕ) → 4 ≤ length xs → length ys ≡ 4
+    → pointwise nat_eq (get_or xs 0 0 ∷ get_or xs 1 0 ∷ get_or xs 2 0 ∷ get_or xs 3 0 ∷ [])
+    (get_or ys 0 0 ∷ get_or ys 1 0 ∷ get_or ys 2 0 ∷ get_or ys 3 0 ∷ []) ≡ agrees xs ys
+agrees_by_four (a ∷ b ∷ c ∷ d ∷ xs) (k ∷ l ∷ m ∷ n ∷ []) long four =
+    agrees_by (a ∷ b ∷ c ∷ d ∷ xs) (k ∷ l ∷ m ∷ n ∷ []) 4 (omega arith)
+agrees_by_four _ _ long four = absurd (omega arith)

@@ -1,4 +1,3 @@
-//! The framer of a stream.
 ghost use Rattle.std.specs.Prelude.{◌≡◌, ◌≤◌, ◌+◌, ◌^◌, ◌<◌, ◌++◌, [], List, ℕ, length, drop};
 ghost use Rattle.std.specs.Prelude.{None, IfOk, IfSome, IfNone, OnOk, OnErr};
 ghost use Rattle.bufr_frame.specs.declared.places.TheConstants.{LONGEST};
@@ -67,7 +66,7 @@ impl Framer {
         self.octets.len() - self.from
     }
 
-    /// Returns what `feed` would hand out for this piece, and the framer after it.
+    /// Returns what `feed` would hand out for this piece.
     pub fn look(&self, piece: &[u8]) -> Result<Look, OutOfMemory>
         requires { self.now.fed + length piece.now < 2 ^ 64 }
         ensures found { IfOk result (λ look. AreSureNext self.now piece.now look.frames) }
@@ -84,7 +83,7 @@ impl Framer {
         Ok(Look { frames, next })
     }
 
-    /// Returns what `finish` would hand out, and the framer after it.
+    /// Returns what `finish` would hand out.
     pub fn look_end(&self) -> Result<Look, OutOfMemory>
         ensures found { IfOk result (λ look. AreLast self.now look.frames) }
         ensures next { IfOk result (λ look. look.next ≡ new_framing) }
@@ -124,8 +123,8 @@ impl Framer {
         Ok(scan.frames)
     }
 
-    /// Takes in the piece up to the next sure frame, and hands out a copy. Call it again with the
-    /// rest until it hands out none: even an empty rest may leave frames.
+    /// Takes in the piece up to the next sure frame, and hands out a copy. Call it with the rest
+    /// until it hands out none, even if the rest is empty.
     pub fn take_next<'p>(&mut self, piece: &'p [u8]) -> Result<Taken<'p>, OutOfMemory>
         requires { self.old.fed + length piece.now < 2 ^ 64 }
         ensures rest { IfOk result (λ taken. IsRestOf piece.now taken.rest.now) }
@@ -180,7 +179,7 @@ impl Framer {
         }
     }
 
-    /// Lends the frame at the next mark of the piece, if nothing is held and the mark is near.
+    /// Lends the frame at the next mark of the piece, if it is near and nothing is held.
     fn lend<'p>(&mut self, piece: &'p [u8]) -> Option<(LentFrame<'p>, &'p [u8])>
         requires { self.old.fed + length piece.now < 2 ^ 64 }
         ensures rest { IfSome result (λ lent. IsRestOf piece.now lent.1.now) }

@@ -1,4 +1,3 @@
-//! A frame of a stream.
 ghost use Rattle.std.specs.Prelude.{◌≡◌, IfOk};
 
 use bufr_base::{Items, OutOfMemory};

@@ -11,7 +11,7 @@ use bufr_base::OutOfMemory;
 const ROOM: usize = 65_536;
 
 /// Drops the octets before a place if they outnumber the others, and returns the new place. Gives
-/// memory back if less than a quarter is in use.
+/// memory back below a quarter in use.
 pub(crate) fn let_go(octets: &mut Vec<u8>, place: usize) -> usize
     requires { place ≤ length octets.old.items }
     ensures held { drop result octets.new.items ≡ drop place octets.old.items }

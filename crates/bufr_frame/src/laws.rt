@@ -1,4 +1,3 @@
-//! Laws of frames.
 ghost use Rattle.std.specs.Prelude.{◌≡◌, ◌↔◌, ◌≤◌, ◌+◌, ◌++◌, ◌∷◌, [], ℕ, true, List, length, take};
 ghost use Rattle.std.specs.Prelude.{drop};
 ghost use Rattle.std.specs.List.{AllByRecursion};
@@ -11,16 +10,16 @@ ghost use Rattle.bufr_frame.specs.Holdings.{StandsFor};
 ghost use Rattle.bufr_frame.specs.NextFrames.{taken_in, IsRestOf, IsNextFrame, IsNoFrame};
 ghost use Rattle.bufr_frame.specs.NextFrames.{StandsAfter, HandedOut, IsBetweenCalls};
 
-/// The cut is the only list of frames of a stream, in order and apart, such that each frame of the
-/// stream begins inside one of the list.
+/// The cut is the only list of frames, in order and apart, such that each frame of the stream
+/// begins inside one of the list.
 pub fn cut_is_taken_from_the_left()
     ensures is { (stream : List ℕ) → IsCut stream (cut stream) }
     ensures only { (stream : List ℕ) (frames : List FoundFrame)
         → IsCut stream frames → frames ≡ cut stream }
 {}
 
-/// The sure frames are the longest start of the cut in which no frame has before it an open place,
-/// outside earlier frames.
+/// The sure frames are the longest start of the cut with no open place before a frame, outside
+/// earlier frames.
 pub fn sure_is_the_longest_clear_front()
     ensures is { (stream : List ℕ) → IsSure stream (sure stream) }
     ensures only { (stream : List ℕ) (frames : List FoundFrame)
@@ -37,14 +36,13 @@ pub fn sure_stays()
         ≡ sure stream ++ drop (length (sure stream)) (cut (stream ++ more)) }
 {}
 
-/// What a framer holds, by functions, is what it must hold, by relations.
+/// A framer holds what the relations ask for.
 pub fn framer_holds_what_it_must()
     ensures { (framer : Framing) (stream : List ℕ) (out : ℕ)
         → Stands framer stream out ↔ StandsFor framer stream out }
 {}
 
-/// Whole frames, joined, are their own cut, whatever follows. If a part contains the first `k`, its
-/// cut begins with these.
+/// Whole frames, joined, are their own cut, whatever follows.
 pub fn joined_frames_are_cut_apart()
     ensures joined { (frames : List (List ℕ)) → AllByRecursion IsOneFrame frames
         → cut (joined frames) ≡ frames_at 0 frames }
@@ -56,8 +54,7 @@ pub fn joined_frames_are_cut_apart()
         ≡ frames_at 0 frames ++ frames_from true (length (joined frames)) 0 more }
 {}
 
-/// A reader that calls `take_next` until it hands out none has the sure frames of all that it read,
-/// and with `finish` the cut.
+/// `take_next`, until it hands out none, gives the sure frames; with `finish` the cut.
 pub fn frames_taken_are_the_sure_ones()
     ensures first { (framer : Framing) → Stands framer [] 0 → HandedOut framer [] [] }
     ensures piece { (framer : Framing) (stream piece : List ℕ) (frames : List FoundFrame)

@@ -1,4 +1,3 @@
-//! Frames lent from a piece.
 ghost use Rattle.std.specs.Prelude.{◌≡◌};
 
 use crate::frames::Found;

@@ -1,10 +1,10 @@
 //! Finds the BUFR messages in a stream of octets that comes in any pieces.
 //!
-//! A *frame* is `BUFR`, three octets with a length of at least 12, the other octets of that length,
-//! and `7777` as the last four. The *cut* of a stream has its frames from the left: the first, then
-//! the first that begins at or after its end, and so on. A place is *open* while a frame may still
-//! come there. A [`Framer`] hands out a frame as soon as it is *sure*: no open place before it,
-//! outside earlier frames. If memory runs out, a call changes nothing.
+//! A *frame* is `BUFR`, three octets with a length of at least 12, the other octets, and `7777` at
+//! its end. The *cut* of a stream has its frames from the left: the first, then the first that
+//! begins at or after its end, and so on. A place is *open* while a frame may still come there. A
+//! frame is *sure* if no place before it, outside earlier frames, is open. If memory runs out, a
+//! call changes nothing.
 #![tactic(auto)]
 
 pub use bufr_base::{Items, OutOfMemory};

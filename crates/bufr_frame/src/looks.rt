@@ -1,4 +1,3 @@
-//! Looks ahead.
 ghost use Rattle.std.specs.Prelude.{◌≡◌};
 
 use crate::framers::Framer;

@@ -1,4 +1,3 @@
-//! Results of `take_next` and `next_frame`.
 use crate::frames::Found;
 use crate::lent_frame::LentFrame;
 

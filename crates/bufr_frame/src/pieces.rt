@@ -1,4 +1,3 @@
-//! All frames of a stream in pieces.
 ghost use Rattle.std.specs.Prelude.{◌≡◌, ◌<◌, ◌^◌, length, IfOk};
 ghost use Rattle.std.specs.List.{flat_map};
 ghost use Rattle.bufr_frame.specs.Streams.{cut};

@@ -1,4 +1,3 @@
-//! What begins at a place of a stream.
 ghost use Rattle.std.specs.Prelude.{◌≡◌, ◌+◌, ◌*◌, ◌≤◌, ◌<◌, Some, None, length, IfSome};
 ghost use Rattle.std.specs.Prelude.{option_map};
 ghost use Rattle.bufr_frame.specs.Starts.{agrees, announced, start_of};
@@ -28,10 +27,15 @@ pub(crate) enum Start {
 }
 
 /// Whether octets and mark are the same as far as both go.
-#[tactic(auto, using(crate::proofs::Agrees::agrees_by))]
+#[inline(always)]
+#[tactic(auto, using(crate::proofs::Agrees::agrees_by, crate::proofs::Agrees::agrees_by_four))]
 pub(crate) fn agrees(octets: &[u8], mark: &[u8]) -> bool
     ensures { result ≡ agrees octets.now mark.now }
 {
+    // Compares four octets at once.
+    if let ([a, b, c, d, ..], [k, l, m, n]) = (octets, mark) {
+        return [*a, *b, *c, *d] == [*k, *l, *m, *n];
+    }
     let both = octets.len().min(mark.len());
     octets[..both] == mark[..both]
 }

@@ -25,7 +25,7 @@ pub(crate) struct NextStart {
     pub(crate) length: Option<usize>,
 }
 
-/// Returns the first place from `from` on with a mark, perhaps cut off by the end; else the end.
+/// Returns the first place from `from` on with a mark, whole or cut by the end; else the end.
 pub(crate) fn next_mark(finder: &Finder<'_>, octets: &[u8], from: usize) -> usize
     requires mark { finder.now ≡ bufr }
     requires within { from ≤ length octets.now }
@@ -47,8 +47,8 @@ pub(crate) fn next_mark(finder: &Finder<'_>, octets: &[u8], from: usize) -> usiz
     octets.len()
 }
 
-/// Returns the first place from `from` on with a frame, or an open one if the stream goes on; else
-/// the end.
+/// Returns the first place from `from` on with a frame, or an open one before the stream's end;
+/// else the end.
 pub(crate) fn next_start(finder: &Finder<'_>, ended: bool, octets: &[u8], from: usize) -> NextStart
     requires mark { finder.now ≡ bufr }
     requires within { from ≤ length octets.now }

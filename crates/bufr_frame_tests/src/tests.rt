@@ -249,6 +249,60 @@ fn streams(rt: HostRuntime) {
     }
 }
 
+/// Two frames and a stray: the first is sure with octet 80, the second at the end alone.
+const STRAY: &[&[u8]] = &[b"ISMD01 EDZW 151200", SEQUENCES, b"BUFR", SEQUENCES];
+
+const FIRST: &[Frame<'static>] = &[(18, SEQUENCES)];
+
+/// A piece of `STRAY` has the first frame exactly if its octet 80 is in it.
+fn feed_stray(rt: &impl Abort, alloc: Global, framer: &mut Framer, piece: &[u8]) {
+    let before = framer.fed();
+    let found = give(rt, alloc, Way::Feed, framer, piece);
+    let count = if before < 80 && framer.fed() >= 80 {
+        1
+    } else {
+        0
+    };
+    assert_found(rt, &found, part(rt, FIRST, 0, count));
+}
+
+/// `STRAY` in two pieces, and in pieces of one octet.
+#[test]
+fn two_frames_and_a_stray_in_any_pieces(rt: HostRuntime) {
+    let alloc = rt.alloc();
+    let stream = joined(&rt, alloc, STRAY);
+    for cut in 0usize..147 {
+        let mut framer = Framer::new(alloc);
+        feed_stray(&rt, alloc, &mut framer, part(&rt, &stream, 0, cut));
+        feed_stray(&rt, alloc, &mut framer, part(&rt, &stream, cut, 146));
+        assert_end(&rt, &mut framer, &[(84, SEQUENCES)]);
+    }
+    let mut framer = Framer::new(alloc);
+    for octet in stream.chunks(1) {
+        feed_stray(&rt, alloc, &mut framer, octet);
+    }
+    assert_end(&rt, &mut framer, &[(84, SEQUENCES)]);
+}
+
+/// 16,777,216 octets of `BUFR`, in pieces of 65,536. Each announces 4,347,206 octets, so it is ruled out
+/// by the octet after 4,347,202 of its own: of those that are not, the first has 4,347,200 octets.
+#[test]
+fn bufr_without_end(rt: HostRuntime) {
+    let alloc = rt.alloc();
+    let mut piece = Vec::new(alloc);
+    for _ in 0..16_384 {
+        piece.extend_from_slice(b"BUFR").expect(&rt, "room");
+    }
+    let mut framer = Framer::new(alloc);
+    for turn in 1usize..257 {
+        let found = give(&rt, alloc, Way::Feed, &mut framer, &piece);
+        assert_found(&rt, &found, &[]);
+        let fed = 65_536 * turn;
+        assert_state(&rt, &framer, fed, fed.min(4_347_200));
+    }
+    assert_end(&rt, &mut framer, &[]);
+}
+
 /// Returns 12,500 bulletins of one message each, and a frame inside one without an end.
 fn many_bulletins(rt: &impl Abort, alloc: Global) -> Vec<u8> {
     let mut stream = Vec::new(alloc);

@@ -1,4 +1,3 @@
-//! Why a message was not added.
 use bufr_message::Refused;
 use thiserror::Error;
 
@@ -6,7 +5,7 @@ use thiserror::Error;
 #[derive(Clone, Copy, Debug, Drop, Error, PartialEq, Eq)]
 #[error("out of memory, {done} reports joined")]
 pub struct RanOut {
-    /// The number of reports joined, from the first on.
+    /// The number of reports joined.
     pub done: u128,
 }
 

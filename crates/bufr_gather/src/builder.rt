@@ -1,4 +1,3 @@
-//! A builder of archives.
 ghost use Rattle.std.specs.Prelude.{◌≡◌, ◌<◌, ◌∷◌, [], get_or, length, map, IfOk, OnOk, OnErr};
 ghost use Rattle.bufr_entries.specs.Entries.{kept};
 ghost use Rattle.bufr_gather.specs.Archives.{IsKept, taken_in};
@@ -51,7 +50,6 @@ impl<'t> ArchiveBuilder<'t> {
     pub fn add_message(&mut self, octets: &[u8]) -> Result<(), AddFault>
         ensures { AddsToBuilder self.old self.new octets.now result }
     {
-        // The builder keeps its templates for the next message.
         let reports = match MessageReports::of_octets(self.alloc, &mut self.templates, octets) {
             Ok(reports) => reports,
             Err(Failure::Fault(why)) => return Err(AddFault::Refused(why)),
@@ -66,7 +64,6 @@ impl<'t> ArchiveBuilder<'t> {
         }
     }
 
-    /// The builder holds what is kept.
     fn are_kept(&self)
         ensures { IsKept self.now }
     {

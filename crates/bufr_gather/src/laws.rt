@@ -1,4 +1,4 @@
-//! Laws of the texts of archives and of streams: a contract states each, and no body does anything.
+//! Laws of the texts of archives and of streams.
 ghost use Rattle.bufr_gather.specs.StreamsTold.{SameMessagesSameKept, ReportsToldAreUnder};
 ghost use Rattle.bufr_gather.specs.ReportLaws.{ReportsAreEntries, FramesOfReports, FramesOfReportFronts, ReportTextsTell, TextsFromBefore, FromBeforeAreTexts, KeptBeforeIsTheBest, ToldAreTold, OnlyToldAreTold};
 
@@ -20,8 +20,7 @@ pub fn reports_are_entries()
 }
 
 /// The frames of a text are its canonical messages in order, whatever their character data hold. A
-/// front with the first k messages has frames that begin with these. A text read as a stream gives
-/// what it was written of.
+/// text read as a stream gives the reports of the archive.
 pub fn texts_are_cut_apart()
     ensures frames { FramesOfReports }
     ensures fronts { FramesOfReportFronts }
@@ -33,8 +32,8 @@ pub fn texts_are_cut_apart()
     canonical_messages_are_reports();
 }
 
-/// A text from before, when keys had no sub-centre, is the text of the reports that were kept then.
-/// So reading takes it; a report that was replaced then does not come back.
+/// A text from before, when keys had no sub-centre, is the text of the reports kept then, so
+/// reading takes it.
 pub fn texts_from_before()
     ensures kept { TextsFromBefore }
     ensures texts { FromBeforeAreTexts }

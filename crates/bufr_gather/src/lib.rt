@@ -1,11 +1,9 @@
-//! Archives as `add` and `merge` make them: reports are gathered, and texts are read and merged,
-//! without a shelf.
+//! Archives as `add` and `merge` make them, without a shelf.
 //!
-//! A report that has a station and a time is kept by its key: only the one with the greatest update
-//! sequence number, and then the greatest octets, stays. A report without key is kept once. What is
-//! kept of reports has one text, the canonical messages joined in order. An [`ArchiveBuilder`]
-//! gathers the reports of messages; an [`ArchiveText`] is the text of an archive with a mark of each
-//! entry.
+//! Of the reports with one key an archive keeps the one with the greatest update sequence number,
+//! and then the greatest octets; a report without key once. Its text is the canonical messages in
+//! order. An [`ArchiveBuilder`] gathers the reports of messages; an [`ArchiveText`] is the text of
+//! an archive with a mark for each entry.
 #![tactic(auto)]
 
 mod add_fault;

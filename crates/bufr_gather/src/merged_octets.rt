@@ -19,8 +19,8 @@ pub(crate) enum Origin {
     RightOfBoth,
 }
 
-/// An iterator over the octets of the kept entries of two texts, in order of slots. It lends them
-/// from their texts. Contracts see the octets that it has still to return.
+/// An iterator over the octets of the kept entries of two texts, in order of slots, lent from their
+/// texts. Contracts see the octets left.
 #[derive(Drop)]
 pub struct MergedOctets<'a> {
     origins: Vec<Origin>,

@@ -28,7 +28,6 @@ pub(crate) struct Unmerged<'a> {
 }
 
 impl<'a> Unmerged<'a> {
-    /// The whole text of the entries with these marks.
     pub(crate) fn of_text(marks: &'a [PackedSlot], octets: &'a [u8]) -> Unmerged<'a>
         ensures { (tables : Entries) (es : List AnEntry) → AreInOrder tables es
             → marks.now ≡ marks_of es → octets.now ≡ text es → AreLeft tables es result }

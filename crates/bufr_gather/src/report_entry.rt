@@ -1,4 +1,3 @@
-//! Reports as entries of an archive.
 ghost use Rattle.std.specs.Prelude.{◌≡◌, ◌-◌, ◌<◌, ◌≤◌, IfOk, IfSome, Ok, Some, get_or, length, slice_get};
 ghost use Rattle.std.specs.Option.{option_map};
 ghost use Rattle.bufr_base.specs.Answers.{Gives};
@@ -57,8 +56,8 @@ pub fn entry_of(
     Ok(Some(entry_with(alloc, report, octets)?))
 }
 
-/// Whether the octets are the canonical message of the view's one report. Makes that message only
-/// if the view can't decide.
+/// Whether the octets are the canonical message of the view's one report. Makes it only if the view
+/// can't decide.
 fn is_own(alloc: Global, view: &View<'_>, octets: &[u8]) -> Result<bool, OutOfMemory>
     requires { length view.now.message.subsets ≡ 1 }
     ensures { IfOk result (λ same. IfSome (slice_get (reports_of view.now.message) 0)
@@ -172,8 +171,7 @@ impl<'a> MessageReports<'a> {
         self.view.count()
     }
 
-    /// Makes the entry of the report at an index, if it has a canonical message. It asks no tables,
-    /// and builds no subset.
+    /// Makes the entry of the report at an index, if it has a canonical message. Builds no subset.
     pub fn entry_at(&self, alloc: Global, index: usize) -> Result<Option<Entry>, OutOfMemory>
         requires { index < length self.now.view.message.subsets }
         ensures { IfOk result (λ found.

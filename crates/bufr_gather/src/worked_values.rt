@@ -1,4 +1,3 @@
-//! Worked examples of the definitions.
 ghost use Rattle.std.specs.Prelude.{◌≡◌, ◌++◌, ◌∷◌, [], Some, None, Ok, Err, codes};
 ghost use Rattle.bufr_gather.specs.Samples.{keys_in, updates_in, text_of_both, text_told, judged, entries_of_both, key_of_original, original, updated, warmer, month_13, distinct, key_of_distinct, other_sub_centre, next_station, text_of_both_before};
 

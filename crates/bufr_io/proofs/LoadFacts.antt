@@ -1,4 +1,4 @@
--- What loading the two tables answers, by what loading either of them answered.
+-- What loading both tables returns, by what loading each returns.
 use Rattle.std.proofs.Common.{◌≡◌, ℕ, List, Option, Some, None, Result, Ok, Err, IfSome, IsOk, refl}
 use Rattle.std.proofs.Common.{sym, subst}
 use Rattle.bufr_bits.specs.Devices.{Reading}
@@ -11,7 +11,6 @@ use Rattle.bufr_io.specs.declared.fault.ToolFault.TheVariants as faults
 use Rattle.bufr_io.specs.Engines.{HasFailed, IsEndless}
 use Rattle.bufr_io.specs.Loads.{FailsAt, IsFaultOf, Loads, LoadsTable}
 
--- Table B is not loaded
 pub stops_at_b : (reads : ℕ) (b b' d : Reading) (e : ToolFault)
     → LoadsTable table_b TableB reads b b' (Err e) → Loads reads b b' d d (Err e)
 stops_at_b reads b b' d (faults.ReadFailed which) h =
@@ -26,13 +25,11 @@ stops_at_b reads b b' d (faults.Listing why) h = absurd h
 stops_at_b reads b b' d (faults.Encode number why) h = absurd h
 stops_at_b reads b b' d (faults.NotAnArchive input place) h = absurd h
 
--- the text of a table that was parsed has no fault
 parsed : {T : Type 0} (left : Option (List ℕ)) (parse : List ℕ → Result T TableFault) (table : T)
     → IfSome left (λ text. parse text ≡ Ok table) → IfSome left (λ text. IsOk (parse text))
 parsed None parse table is = tt
 parsed (Some text) parse table is = rw is refl
 
--- Table B is loaded, and Table D is not
 pub stops_at_d : (reads : ℕ) (b b' d d' : Reading) (elements : List (ℕ × Element)) (e : ToolFault)
     → LoadsTable table_b TableB reads b b' (Ok elements)
     → LoadsTable table_d TableD reads d d' (Err e) → Loads reads b b' d d' (Err e)

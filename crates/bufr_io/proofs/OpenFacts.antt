@@ -1,24 +1,21 @@
--- Lists of files that are to be read, none of which was: the contract of `inputs_of` needs it, and
--- so that of `run_command` of bufr_tool.
+-- Files that nobody has read: for `inputs_of`, and so for `run_command` of bufr_tool.
 use Rattle.std.proofs.Common.{◌≡◌, false, List, [], ◌∷◌, ◌++◌, map}
 use Rattle.std.specs.List.{AllByRecursion}
 use Rattle.bufr_bits.specs.Devices.{Reading}
 use Rattle.bufr_io.specs.declared.lazy_input.LazyInput.{LazyInput}
 use Rattle.bufr_io.specs.Engines.{IsFresh}
 
--- a file was not read, and works
+-- the file works, and nobody has read it
 pub record Unread {A B C : Type 0} (r : LazyInput A B C) : Type 0 where
   pub failed : r.failed ≡ false
   pub reads : r.reads ≡ 0
   pub met_end : r.met_end ≡ false
 
--- one more
 pub unread_more : {A B C : Type 0} (files : List (LazyInput A B C)) (r : LazyInput A B C)
     → AllByRecursion Unread files → Unread r → AllByRecursion Unread (files ++ r ∷ [])
 unread_more [] r all here = (here, tt)
 unread_more (x ∷ files) r all here = (all.0, unread_more files r all.1 here)
 
--- what contracts see of them is fresh
 pub fresh_all : {A B C : Type 0} (reading : LazyInput A B C → Reading)
     (files : List (LazyInput A B C)) → ((r : LazyInput A B C) → Unread r → IsFresh (reading r))
     → AllByRecursion Unread files → AllByRecursion IsFresh (map reading files)

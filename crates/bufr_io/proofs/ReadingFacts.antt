@@ -1,5 +1,4 @@
--- A reader that is read again and again: what a read adds to what was read before, for the contracts
--- of `next` and `read_all`.
+-- What a read adds to the octets read before: for `next` and `read_all`.
 use Rattle.std.proofs.Common.{◌≡◌, ℕ, ◌+◌, ◌<◌, ◌≤◌, false, nat_eq, Option, Some, None, Ok, Err}
 use Rattle.std.proofs.Common.{List, [], ◌∷◌, ◌++◌, length, take, drop, subst, refl, sym, ◌∙◌, ap}
 use Rattle.std.proofs.Common.{arith, IfSome, append_assoc, length-append}
@@ -14,7 +13,6 @@ use Rattle.bufr_io.specs.Engines.{WasReadOut, HasGiven, AreAllOf}
 use Rattle.bufr_io.specs.Inputs.{GoesOn, HasRead, ReadsAll, ReadsOn}
 use Rattle.bufr_io.specs.Limits.{longest_piece}
 
--- what was given, and one piece more
 given_more : (old mid new : Option (List ℕ)) (octets given : List ℕ)
     → IfSome old (λ all. (rest : List ℕ) × (all ≡ octets ++ rest) × (mid ≡ Some rest))
     → IfSome mid (λ all. given ≡ take (length given) all)
@@ -33,7 +31,6 @@ given_more (Some all) mid new octets given so_far first rest =
       back,
     )
 
--- a read that gave nothing
 HasGiven_more : (old mid new : Reading) (octets given : List ℕ) → HasGiven old mid octets
     → Gave mid new given → length given ≡ 0 → HasGiven old new octets
 HasGiven_more old mid new octets [] so_far gave none =
@@ -41,11 +38,9 @@ HasGiven_more old mid new octets [] so_far gave none =
     subst (HasGiven old new) (append-nil octets) more
 HasGiven_more old mid new octets (x ∷ xs) so_far gave none = absurd (omega arith)
 
--- a number above 0 is not told 0
 not_zero : (n : ℕ) → 0 < n → nat_eq n 0 ≡ false
 not_zero n some = grind (arith, nat_tests)
 
--- one more read that gave octets
 GoesOn_more : (old mid new : Reading) (octets given : List ℕ) (count : ℕ)
     → GoesOn old mid octets count → Gave mid new given → 0 < length given
     → GoesOn old new (octets ++ given) (count + 1)
@@ -56,7 +51,6 @@ GoesOn_more old mid new octets given count so_far gave some = record {
   met_end = gave.met_end ∙ rw (so_far.met_end, not_zero (length given) some) refl;
 }
 
--- nothing is left
 left_end : (old mid : Option (List ℕ)) (octets : List ℕ)
     → IfSome old (λ all. (rest : List ℕ) × (all ≡ octets ++ rest) × (mid ≡ Some rest))
     → IfSome mid (λ rest. rest ≡ [])
@@ -66,7 +60,6 @@ left_end (Some all) mid octets so_far none =
     let end : so_far.0 ≡ [] = rw so_far.2 at none in
     so_far.1 ∙ ap (λ x. octets ++ x) end ∙ append-nil octets
 
--- a read that gave none met the end
 GoesOn_ends : (old mid new : Reading) (octets given : List ℕ) (count : ℕ)
     → GoesOn old mid octets count → Gave mid new given → length given ≡ 0
     → WasReadOut new × AreAllOf old octets
@@ -77,7 +70,6 @@ GoesOn_ends old mid new octets given count so_far gave none = (
 
 -- ---- read by read
 
--- a read that failed leaves what was given as it was
 given_kept : (old mid new : Option (List ℕ)) (read : List ℕ)
     → IfSome old (λ all. (rest : List ℕ) × (all ≡ read ++ rest) × (mid ≡ Some rest))
     → IfSome mid (λ octets. new ≡ Some octets)
@@ -86,7 +78,6 @@ given_kept None mid new read so_far kept = tt
 given_kept (Some all) mid new read so_far kept =
     (so_far.0, so_far.1, (let h = rw so_far.2 at kept in h))
 
--- all reads that are allowed were made
 pub reads_endless : (source : Input) (most : ℕ) (first now : Reading) (pieces : Pieces)
     (octets : List ℕ) → HasRead source most first now pieces octets → pieces.most ≤ pieces.made
     → ReadsOn source most first now pieces octets (Err (faults.EndlessInput pieces.source))
@@ -103,7 +94,6 @@ reads_endless source most first now pieces octets h all =
       h.goes_on.so_far,
     )
 
--- a read failed
 pub reads_failed : (source : Input) (most : ℕ) (first mid now : Reading) (pieces after : Pieces)
     (octets : List ℕ) → HasRead source most first mid pieces octets → pieces.made < pieces.most
     → FailedRead mid now
@@ -118,7 +108,6 @@ reads_failed source most first mid now pieces after octets h few f =
       omega arith,
     )
 
--- a read met the end
 pub reads_ends : (source : Input) (most : ℕ) (first mid now : Reading) (pieces : Pieces)
     (octets given : List ℕ) → HasRead source most first mid pieces octets
     → pieces.made < pieces.most → Gave mid now given → length given ≡ 0
@@ -135,7 +124,6 @@ reads_ends source most first mid now pieces octets given h few gave none =
       omega arith,
     )
 
--- a read gave a piece
 pub reads_more : (source : Input) (most : ℕ) (first mid now : Reading) (pieces : Pieces)
     (octets given : List ℕ) → HasRead source most first mid pieces octets
     → pieces.made < pieces.most → Gave mid now given → 0 < length given
@@ -156,7 +144,6 @@ reads_more source most first mid now pieces octets given h few gave some room =
       some,
     )
 
--- where no piece can be read, not all octets are
 pub no_more : (source : Input) (most : ℕ) (old new : Reading) (pieces : Pieces) (octets : List ℕ)
     (e : ToolFault) → ReadsOn source most old new pieces octets (Err e)
     → ReadsAll source most old new (Err e)

@@ -1,5 +1,5 @@
--- The frames of a stream taken in as its pieces come: the steps of `take_frames`, `take_piece`,
--- `take_rest` and `take_stream`, for the contracts of all engines over streams.
+-- The taker takes in the frames of a stream as its pieces come: for `take_piece`, `take_rest` and
+-- `take_stream`.
 use Rattle.std.proofs.Common.{◌≡◌, ℕ, ◌+◌, ◌^◌, ◌<◌, ◌≤◌, Option, Some, IfSome}
 use Rattle.std.proofs.Common.{List, [], ◌∷◌, ◌++◌, length, take, drop, get_or, Result, Ok, Err}
 use Rattle.std.proofs.Common.{refl, sym, ap, ◌∙◌, subst, arith, length-append, append_assoc}
@@ -26,13 +26,12 @@ use Rattle.bufr_io.specs.Inputs.{HasRead, ReadsOn}
 use Rattle.bufr_io.specs.ReadingLaws.{HasRead_none}
 use Rattle.bufr_io.specs.Taking.{frame_at, AreFew, StopsAmong, HasSure, TakesPiece}
 
--- ---- so few frames
+-- ---- few frames
 
--- how many octets frames have
+-- the number of octets of frames
 abbrev octets_in : List Found → ℕ
 octets_in frames = sum_by (λ (f : Found). length f.bytes) frames
 
--- the first of few frames are few
 pub few_first : (all frames more : List Found) → all ≡ frames ++ more → AreFew all → AreFew frames
 few_first all frames more is few =
     let a = few.count in
@@ -41,19 +40,16 @@ few_first all frames more is few =
     let sum = ap octets_in is ∙ sum_by-append (λ (f : Found). length f.bytes) frames more in
     record { count = omega arith; octets = omega arith }
 
--- so are the sure frames of a stream
 pub few_sure : (stream : List ℕ) → length stream ≤ 2 ^ 48 → AreFew (sure stream)
 few_sure stream short =
     record { count = omega (arith, sure_few stream, short); octets = omega (arith, sure_short stream, short) }
 
--- and all frames of its cut
 pub few_cut : (stream : List ℕ) → length stream ≤ 2 ^ 48 → AreFew (cut stream)
 few_cut stream short =
     record { count = omega (arith, cut_few stream, short); octets = omega (arith, cut_short stream, short) }
 
 -- ---- frame by frame
 
--- a list up to one of its elements, that one, and those behind it
 split_at : {A : Type 0} (xs : List A) (i : ℕ) (x : A) → i < length xs → x ≡ get_or xs i x
     → xs ≡ take i xs ++ x ∷ drop (i + 1) xs
 split_at xs i x inside is =
@@ -61,12 +57,10 @@ split_at xs i x inside is =
     ∙ ap (λ ys. take i xs ++ ys)
     (drop_more xs i x inside ∙ ap (λ y. y ∷ drop (i + 1) xs) (sym is))
 
--- the octets of a frame at its place are that frame
 same_frame : (frame : Found) (place : ℕ) (octets : List ℕ) → place ≡ frame.place
     → octets ≡ frame.bytes → frame_at place octets ≡ frame
 same_frame frame place octets at has = rw (at, has) refl
 
--- the octets of an element of a list at its place are that element
 pub item_is : (frames : List Found) (i : ℕ) (frame : Found) (octets : List ℕ)
     → octets ≡ frame.bytes → frame ≡ get_or frames i frame
     → frame_at frame.place octets ≡ get_or frames i (frame_at frame.place octets)
@@ -74,7 +68,6 @@ item_is frames i frame octets has is =
     subst (λ (f : Found). f ≡ get_or frames i f)
     (sym (same_frame frame frame.place octets refl has)) is
 
--- the frames of a list up to one, that one, and those behind it
 pub parted_at : (frames : List Found) (i : ℕ) (frame : Found) (before : List Found)
     → i < length frames → frame ≡ get_or frames i frame
     → before ++ frames ≡ ((before ++ take i frames) ++ frame ∷ []) ++ drop (i + 1) frames
@@ -83,7 +76,6 @@ parted_at frames i frame before inside is =
     ∙ sym (append_assoc before (take i frames) (frame ∷ drop (i + 1) frames))
     ∙ sym (append_assoc (before ++ take i frames) (frame ∷ []) (drop (i + 1) frames))
 
--- and with it they are the first of one more
 pub taken_to : (frames : List Found) (i : ℕ) (frame : Found) (before : List Found)
     → i < length frames → frame ≡ get_or frames i frame
     → (before ++ take i frames) ++ frame ∷ [] ≡ before ++ take (i + 1) frames
@@ -94,15 +86,13 @@ taken_to frames i frame before inside is =
 
 -- ---- within a piece
 
--- all but the rest of the stream was handed on to the framer, and the frames handed out were taken
--- in
+-- the framer has taken in all but the rest of the stream, and the taker the frames handed out
 pub record Amid (Taken : List Found → Type 0) (framer : Framing) (stream rest : List ℕ) : Type 0
   where
     pub frames : List Found
     pub taking : IsBetweenCalls framer stream rest frames
     pub taken : Taken frames
 
--- where a piece begins
 pub amid_first : (Taken : List Found → Type 0) (framer : Framing) (stream piece : List ℕ)
     → HasSure Taken framer stream → Amid Taken framer (stream ++ piece) piece
 amid_first Taken framer stream piece h = record {
@@ -111,14 +101,12 @@ amid_first Taken framer stream piece h = record {
   taken = h.taken;
 }
 
--- the frames that were handed out are few
 pub amid_few : (framer : Framing) (stream rest : List ℕ) (frames : List Found)
     → IsBetweenCalls framer stream rest frames → length stream ≤ 2 ^ 48 → AreFew frames
 amid_few framer stream rest frames t short =
     let front = between_front framer stream rest frames t in
     few_first (sure stream) frames front.0 front.1 (few_sure stream short)
 
--- they are no more than the stream's octets
 pub amid_within : (framer : Framing) (stream rest : List ℕ) (frames : List Found)
     → IsBetweenCalls framer stream rest frames → length frames ≤ length stream
 amid_within framer stream rest frames t =
@@ -126,17 +114,15 @@ amid_within framer stream rest frames t =
     let long = ap length front.1 ∙ length-append frames front.0 in
     omega (arith, long, sure_few stream)
 
--- a frame was handed out after all that were handed out before, and less of the piece is left
+-- hands out a frame after all earlier ones, with less of the piece left
 abbrev pub Hands : Framing → Framing → List ℕ → List ℕ → Found → Type 0
 Hands before after rest left frame = (stream : List ℕ) (frames : List Found)
     → IsBetweenCalls before stream rest frames
     → IsBetweenCalls after stream left (frames ++ frame ∷ [])
 
--- what holds of the value of an option
 some_is : {A : Type 0} (P : A → Type 0) (o : Option A) (x : A) → o ≡ Some x → IfSome o P → P x
 some_is P o x e p = subst (λ w. IfSome w P) e p
 
--- so it is where `next_frame` answers a frame, which has these octets at this place
 pub hands : (before after : Framing) (rest left : List ℕ) (o : Option Found) (frame : Found)
     (place : ℕ) (octets : List ℕ) → o ≡ Some frame → place ≡ frame.place → octets ≡ frame.bytes
     → IsRestOf rest left → IfSome o (IsNextFrame before (taken_in rest left))
@@ -149,7 +135,6 @@ hands before after rest left o frame place octets is at has parted next stands =
     (some_is (λ f. StandsAfter before after (taken_in rest left) 1) o (frame_at place octets) here
     stands)
 
--- a frame more was handed out and taken in
 pub amid_more : (Taken Taken' : List Found → Type 0) (before after : Framing)
     (stream rest left : List ℕ) (frame : Found) → (a : Amid Taken before stream rest)
     → Hands before after rest left frame → Taken' (a.frames ++ frame ∷ [])
@@ -160,7 +145,6 @@ amid_more Taken Taken' before after stream rest left frame a h taken = record {
   taken = taken;
 }
 
--- no frame more is sure: the piece was taken in, and all that is sure was
 pub amid_none : (Taken Taken' : List Found → Type 0) (before after : Framing)
     (stream rest : List ℕ) → (a : Amid Taken before stream rest) → IsNoFrame before rest
     → StandsAfter before after rest 0 → Taken' a.frames → HasSure Taken' after stream
@@ -171,7 +155,6 @@ amid_none Taken Taken' before after stream rest a none stands taken =
       taken = subst Taken' both.1 taken;
     }
 
--- it stopped behind some frames of a stream that were handed out
 pub amid_stopped : (Stopped : List Found → ToolFault → Type 0) (framer : Framing)
     (stream rest : List ℕ) (frames : List Found) (fault : ToolFault)
     → IsBetweenCalls framer stream rest frames → Stopped frames fault
@@ -182,7 +165,6 @@ amid_stopped Stopped framer stream rest frames fault t stopped =
 
 -- ---- the end
 
--- it stopped at the end, when it had the sure frames
 pub rest_stopped : (Stopped : List Found → ToolFault → Type 0) (stream : List ℕ)
     (fault : ToolFault) → Stopped (sure stream) fault → StopsAmong Stopped (cut stream) fault
 rest_stopped Stopped stream fault stopped = record {
@@ -194,7 +176,7 @@ rest_stopped Stopped stream fault stopped = record {
 
 -- ---- between two reads
 
--- these octets were given, what is sure of them was taken in, and nothing is held back
+-- the reader gave these octets, the taker has their sure frames and holds nothing back
 pub record Between (Taken : List Found → Type 0) (HoldsNone : Type 0) (source : Input) (most : ℕ)
     (old now : Reading) (pieces : Pieces) (framer : Framing) : Type 0 where
   pub read : List ℕ
@@ -202,7 +184,6 @@ pub record Between (Taken : List Found → Type 0) (HoldsNone : Type 0) (source 
   pub sure_taken : HasSure Taken framer read
   pub none : HoldsNone
 
--- before the first
 pub nothing_read : (Taken : List Found → Type 0) (HoldsNone : Type 0) (source : Input) (most : ℕ)
     (reader : Reading) (framer : Framing) → IsFresh reader → Stands framer [] 0 → Taken []
     → HoldsNone
@@ -215,7 +196,6 @@ nothing_read Taken HoldsNone source most reader framer fresh stands taken none =
   none = none;
 }
 
--- so many reads were made at the most
 pub unread_bounded : (source : Input) (reads : ℕ) (old new : Reading) (after : Pieces)
     (read : List ℕ) (e : ToolFault) → ReadsOn source reads old new after read (Err e)
     → new.reads ≤ reads
@@ -224,18 +204,15 @@ unread_bounded source reads old new after read (faults.EndlessInput which) r =
     let all = r.1.reads in omega arith
 unread_bounded source reads old new after read e r = absurd r
 
--- what follows where a call was done
 pub ok_of : {A E : Type 0} (r : Result A E) (P Q : Type 0) → OnOk r P → (P → Q) → OnOk r Q
 ok_of (Ok x) P Q p f = f p
 ok_of (Err e) P Q p f = p
 
--- and where it was not
 pub err_of : {A E : Type 0} (r : Result A E) (P Q : E → Type 0) → IfErr r P
     → ((e : E) → P e → Q e) → IfErr r Q
 err_of (Ok x) P Q p f = p
 err_of (Err e) P Q p f = f e p
 
--- no frame more is sure, and the piece has ended
 pub piece_ends : (Taken Taken' : List Found → Type 0) (HoldsNone : Type 0)
     (Stopped : List Found → ToolFault → Type 0) (before after : Framing) (stream rest : List ℕ)
     (r : Result (Unit {0}) ToolFault) → (a : Amid Taken before stream rest)
@@ -247,7 +224,6 @@ piece_ends Taken Taken' HoldsNone Stopped before after stream rest (Ok done) a l
 piece_ends Taken Taken' HoldsNone Stopped before after stream rest (Err e) a last stands taken none
     stopped = amid_stopped Stopped before stream rest a.frames e a.taking stopped
 
--- a stream with a piece more is short
 pub piece_short : (framer : Framing) (stream piece : List ℕ) (out : ℕ) → Stands framer stream out
     → framer.fed + length piece ≤ 2 ^ 48 → length (stream ++ piece) ≤ 2 ^ 48
 piece_short framer stream piece out stands room =

@@ -3,7 +3,7 @@ use Rattle.std.specs.Prelude.{ℕ, List, ◌++◌, codes, decimal}
 use Rattle.bufr_io.specs.declared.fault.Input.{Input}
 use Rattle.bufr_io.specs.declared.fault.Input.TheVariants.{TableB, TableD, Number}
 
--- what the lines of faults call an input
+-- the words for an input in the lines of faults
 unfoldable pub input_text : Input → List ℕ
 input_text TableB = codes "table B"
 input_text TableD = codes "table D"

@@ -1,4 +1,4 @@
--- What is read of an input.
+-- What the reads of an input return.
 use Rattle.std.specs.Prelude.{◌≡◌, ℕ, ◌*◌, ◌≤◌, ◌<◌, false, Option, Some, None, List, ◌++◌, length}
 use Rattle.std.specs.Prelude.{Result, Ok, Err}
 use Rattle.bufr_bits.specs.Devices.{Reading}
@@ -9,15 +9,15 @@ use Rattle.bufr_io.specs.declared.input.Pieces.{Pieces}
 use Rattle.bufr_io.specs.Engines.{WasReadOut, HasFailed, IsEndless, HasGiven, AreAllOf}
 use Rattle.bufr_io.specs.Limits.{longest_piece}
 
--- a reader that was read so often, works, has not met its end, and gave these octets
+-- the reader works, has not met its end, and gave these octets in `count` reads
 pub record GoesOn (old new : Reading) (octets : List ℕ) (count : ℕ) : Type 0 where
   pub so_far : HasGiven old new octets
   pub works : new.failed ≡ false
   pub reads : new.reads ≡ count
   pub met_end : new.met_end ≡ false
 
--- pieces of an input were read, by some of so many reads: the reader goes on, and gave these
--- octets, no more than these reads asked for
+-- has read pieces of an input in some of `most` reads: the reader goes on, and gave these octets,
+-- at most `longest_piece` a read
 pub record HasRead (source : Input) (most : ℕ) (old now : Reading) (pieces : Pieces)
     (octets : List ℕ) : Type 0 where
   pub goes_on : GoesOn old now octets pieces.made
@@ -26,8 +26,8 @@ pub record HasRead (source : Input) (most : ℕ) (old now : Reading) (pieces : P
   pub most_is : pieces.most ≡ most
   pub source_is : pieces.source ≡ source
 
--- behind these octets a piece more was read; or a read met the end, and they are all; or a read
--- failed, or all that are allowed answered octets
+-- reads one piece more after these octets; or a read meets the end, and they are all; or a read
+-- fails, or all allowed reads returned octets
 abbrev pub ReadsOn : Input → ℕ → Reading → Reading → Pieces → List ℕ
     → Result (Option (List ℕ)) ToolFault → Type 0
 ReadsOn source most old new pieces octets (Ok (Some piece)) =
@@ -41,7 +41,7 @@ ReadsOn source most old new pieces octets (Err (faults.EndlessInput which)) =
     (which ≡ source) × IsEndless most new × HasGiven old new octets
 ReadsOn source most old new pieces octets (Err fault) = ⊥
 
--- all octets of the reader, where it tells them, or the fault that kept them back
+-- all octets of the reader, if it tells them, or the fault
 abbrev pub ReadsAll : Input → ℕ → Reading → Reading → Result (List ℕ) ToolFault → Type 0
 ReadsAll source reads old new (Ok octets) = WasReadOut new × AreAllOf old octets
 ReadsAll source reads old new (Err (faults.ReadFailed which)) = (which ≡ source) × HasFailed new

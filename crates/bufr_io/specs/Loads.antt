@@ -1,4 +1,4 @@
--- What loading the two table files answers.
+-- What loading the two table files returns (this project's own).
 use Rattle.std.specs.Prelude.{◌≡◌, ℕ, List, IfSome, Result, Ok, Err, IsOk}
 use Rattle.bufr_bits.specs.Devices.{Reading}
 use Rattle.bufr_tables.specs.declared.table_faults.TableFault.{TableFault}
@@ -10,18 +10,18 @@ use Rattle.bufr_io.specs.declared.fault.ToolFault.{ToolFault}
 use Rattle.bufr_io.specs.declared.fault.ToolFault.TheVariants as faults
 use Rattle.bufr_io.specs.Engines.{WasReadOut, HasFailed, IsEndless}
 
--- Table B was read to its end and has no fault
+-- reads the file of Table B to its end and finds no fault
 abbrev pub LoadsB : Reading → Reading → Type 0
 LoadsB b b' = WasReadOut b' × IfSome b.left (λ text. IsOk (table_b text))
 
--- the reading that was told failed: that of Table B, and Table D was not read; or that of Table D,
+-- fails at the file of this name: at that of Table B before it reads Table D, or at that of Table D
 -- after Table B
 abbrev pub FailsAt : Input → (Reading → Type 0) → Reading → Reading → Reading → Reading → Type 0
 FailsAt TableB Failing b b' d d' = Failing b' × (d' ≡ d)
 FailsAt TableD Failing b b' d d' = LoadsB b b' × Failing d'
 FailsAt (Number n) Failing b b' d d' = ⊥
 
--- the file that was told was read to its end and has this fault
+-- reads the file of this name to its end and finds this fault
 abbrev pub IsFaultOf : Input → TableFault → Reading → Reading → Reading → Reading → Type 0
 IsFaultOf TableB fault b b' d d' = WasReadOut b' × IfSome b.left (λ text. table_b text ≡ Err fault)
     × (d' ≡ d)
@@ -43,7 +43,7 @@ Loads reads b b' d d' (Err fault) = ⊥
 
 -- ---- one file
 
--- what a file that is read to its end is parsed as, or why there is no table
+-- the table of a file read to its end, or the fault
 abbrev pub LoadsTable : {T : Type 0} → (List ℕ → Result T TableFault) → Input → ℕ → Reading
     → Reading → Result T ToolFault → Type 0
 LoadsTable parse source reads r r' (Ok table) = WasReadOut r'

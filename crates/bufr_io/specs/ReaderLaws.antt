@@ -1,4 +1,4 @@
--- Readers that are read one after the other: what the contracts of engines over several readers need.
+-- Laws of readers that an engine reads one after another.
 use Rattle.std.proofs.Common.{◌≡◌, ℕ, zero, suc, ◌+◌, ◌<◌, ◌≤◌, List, [], ◌∷◌, ◌++◌, length, map}
 use Rattle.std.proofs.Common.{get_or, refl, sym, ap, ◌∙◌, subst, arith, length-append, append_assoc}
 use Rattle.std.specs.List.{AllByRecursion}
@@ -16,26 +16,26 @@ all_mid : {A : Type 0} (P : A → Type 0) (front : List A) (x : A) (behind : Lis
 all_mid P [] x behind all = all.0
 all_mid P (y ∷ front) x behind all = all_mid P front x behind all.1
 
--- and still of all where one is replaced by one of which it holds
+-- it holds of all after one is set for which it holds
 all_set : {A : Type 0} (P : A → Type 0) (xs : List A) (i : ℕ) (x : A) → AllByRecursion P xs → P x
     → AllByRecursion P (set xs i x)
 all_set P [] i x all here = all
 all_set P (y ∷ xs) zero x all here = (here, all.1)
 all_set P (y ∷ xs) (suc i) x all here = (all.0, all_set P xs i x all.1 here)
 
--- the element behind a front, and another in its place
+-- the element after a front
 get_mid : (front : List Reading) (x : Reading) (behind : List Reading) (d : Reading)
     → get_or (front ++ x ∷ behind) (length front) d ≡ x
 get_mid [] x behind d = refl
 get_mid (y ∷ front) x behind d = get_mid front x behind d
 
--- an element set behind a front takes the place of the one that stood there
+-- setting the element after a front
 set_mid : (front : List Reading) (x : Reading) (behind : List Reading) (y : Reading)
     → set (front ++ x ∷ behind) (length front) y ≡ front ++ y ∷ behind
 set_mid [] x behind y = refl
 set_mid (z ∷ front) x behind y = ap (λ (xs : List Reading). z ∷ xs) (set_mid front x behind y)
 
--- an element of a list that is looked at
+-- the image of an element of a list
 item_at : {A : Type 0} (f : A → Reading) (xs : List A) (i : ℕ) (d : A) → i < length xs
     → f (get_or xs i d) ≡ get_or (map f xs) i (f (get_or xs i d))
 item_at f [] i d inside = absurd (omega arith)
@@ -49,7 +49,7 @@ none_left (x ∷ xs) h = absurd (omega arith)
 
 -- ---- readers
 
--- readers that were not read, and one more
+-- one fresh reader more
 pub fresh_more : {A : Type 0} (reading : A → Reading) (readers : List A) (reader : A)
     → AreFresh (map reading readers) → IsFresh (reading reader)
     → AreFresh (map reading (readers ++ reader ∷ []))
@@ -57,20 +57,20 @@ fresh_more reading [] reader all here = (here, tt)
 fresh_more reading (r ∷ readers) reader all here =
     (all.0, fresh_more reading readers reader all.1 here)
 
--- readers that were not read were read at most so often
+-- fresh readers have at most any number of reads
 pub at_most_fresh : (reads : ℕ) (readers : List Reading) → AreFresh readers
     → AreReadAtMost reads readers
 at_most_fresh reads [] fresh = tt
 at_most_fresh reads (r ∷ readers) fresh =
     let none = fresh.0.reads in (omega arith, at_most_fresh reads readers fresh.1)
 
--- readers of which each was read at most so often stay so where one such is put in a place
+-- readers of at most `reads` reads stay so after one of them is set
 pub at_most_set : (reads : ℕ) (readers : List Reading) (i : ℕ) (r : Reading)
     → AreReadAtMost reads readers → r.reads ≤ reads → AreReadAtMost reads (set readers i r)
 at_most_set reads readers i r all here =
     all_set (λ (x : Reading). x.reads ≤ reads) readers i r all here
 
--- one more was read out
+-- one more reader read to its end
 read_out_more : (old new : List Reading) (octets : List (List ℕ)) (r r' : Reading) (more : List ℕ)
     → WereReadOut old new octets → WasReadOut r' → AreAllOf r more
     → WereReadOut (old ++ r ∷ []) (new ++ r' ∷ []) (octets ++ more ∷ [])
@@ -82,7 +82,7 @@ read_out_more [] (n ∷ new) octets r r' more out here all = absurd out
 read_out_more (o ∷ old) [] octets r r' more out here all = absurd out
 read_out_more (o ∷ old) (n ∷ new) [] r r' more out here all = absurd out
 
--- so many readers were read out, and had these octets; those behind them are as they were
+-- the first `i` readers were read to their ends and had these octets; the later ones are as before
 pub record Through (old new : List Reading) (octets : List (List ℕ)) (i : ℕ) : Type 0 where
   pub front : List Reading
   pub left : List Reading
@@ -93,7 +93,7 @@ pub record Through (old new : List Reading) (octets : List (List ℕ)) (i : ℕ)
   pub so_many : length left ≡ i
   pub out : WereReadOut front left octets
 
--- and this one comes next
+-- the reader at index `i` comes next
 pub record Reached (old new : List Reading) (octets : List (List ℕ)) (i : ℕ)
     (r : Reading) : Type 0 where
   pub front : List Reading
@@ -105,7 +105,7 @@ pub record Reached (old new : List Reading) (octets : List (List ℕ)) (i : ℕ)
   pub so_many : length left ≡ i
   pub out : WereReadOut front left octets
 
--- before the first
+-- before the first reader
 pub through_first : (readers : List Reading) → Through readers readers [] 0
 through_first readers = record {
   front = [];
@@ -118,7 +118,7 @@ through_first readers = record {
   out = tt;
 }
 
--- after the last
+-- after the last reader
 pub through_all : (old new : List Reading) (octets : List (List ℕ)) (i : ℕ)
     → Through old new octets i → length new ≤ i → WereReadOut old new octets
 through_all old new octets i t all =
@@ -132,7 +132,7 @@ through_all old new octets i t all =
     subst (λ (xs : List Reading). WereReadOut old xs octets) left
     (subst (λ (xs : List Reading). WereReadOut xs t.left octets) front t.out)
 
--- the next
+-- the next reader
 reach_in : (old new : List Reading) (octets : List (List ℕ)) (i : ℕ) (r : Reading)
     (front left behind : List Reading) → old ≡ front ++ behind → new ≡ left ++ behind
     → length front ≡ i → length left ≡ i → WereReadOut front left octets → i < length new
@@ -154,14 +154,14 @@ reach_in old new octets i r front left (x ∷ behind) old_are new_are as_many so
       out = out;
     }
 
--- the reader after those read out parts the readers in those before it and those behind it
+-- the next reader parts the readers in those before it and those after it
 pub reach : (old new : List Reading) (octets : List (List ℕ)) (i : ℕ) (r : Reading)
     → Through old new octets i → i < length new → r ≡ get_or new i r → Reached old new octets i r
 reach old new octets i r t inside is =
     reach_in old new octets i r t.front t.left t.behind t.old_are t.new_are t.as_many t.so_many
     t.out inside is
 
--- so does one that is told by what contracts see of a reader
+-- the next reader, as contracts see it, parts the readers too
 pub reach_item : {A : Type 0} (f : A → Reading) (old : List Reading) (xs : List A)
     (octets : List (List ℕ)) (i : ℕ) (d : A) → Through old (map f xs) octets i → i < length xs
     → Reached old (map f xs) octets i (f (get_or xs i d))
@@ -169,13 +169,13 @@ reach_item f old xs octets i d t inside =
     let long = length-map xs f in
     reach old (map f xs) octets i (f (get_or xs i d)) t (omega arith) (item_at f xs i d inside)
 
--- it is fresh
+-- the next reader is fresh
 pub fresh_next : (old new : List Reading) (octets : List (List ℕ)) (i : ℕ) (r : Reading)
     → AreFresh old → Reached old new octets i r → IsFresh r
 fresh_next old new octets i r fresh at =
     all_mid IsFresh at.front r at.behind (subst AreFresh at.old_are fresh)
 
--- the readers where it is replaced
+-- the readers after another state takes its place
 pub put_next : (old new new' : List Reading) (octets : List (List ℕ)) (i : ℕ) (r r' : Reading)
     → (at : Reached old new octets i r) → new' ≡ set new i r' → new' ≡ at.left ++ r' ∷ at.behind
 put_next old new new' octets i r r' at is =
@@ -183,7 +183,7 @@ put_next old new new' octets i r r' at is =
     ∙ subst (λ (k : ℕ). set (at.left ++ r ∷ at.behind) k r' ≡ at.left ++ r' ∷ at.behind) at.so_many
     (set_mid at.left r at.behind r')
 
--- it was read out
+-- the next reader was read to its end
 pub through_more : (old new new' : List Reading) (octets : List (List ℕ)) (more : List ℕ) (i : ℕ)
     (r r' : Reading) → Reached old new octets i r → new' ≡ set new i r' → WasReadOut r'
     → AreAllOf r more → Through old new' (octets ++ more ∷ []) (i + 1)
@@ -205,7 +205,7 @@ through_more old new new' octets more i r r' at is out all =
       out = read_out_more at.front at.left octets r r' more at.out out all;
     }
 
--- it ended there
+-- the engine ends at the next reader
 pub ends_here : (Before : List Reading → List Reading → Type 0) (Ends : Reading → Reading → Type 0)
     (old new new' : List Reading) (octets : List (List ℕ)) (i : ℕ) (r r' : Reading)
     → (at : Reached old new octets i r) → new' ≡ set new i r'

@@ -1,26 +1,26 @@
--- What becomes of readers that are read one after the other.
+-- What an engine does to readers that it reads one after another (this project's own).
 use Rattle.std.specs.Prelude.{◌≡◌, ℕ, ◌+◌, ◌≤◌, List, [], ◌∷◌, ◌++◌, length}
 use Rattle.std.specs.List.{AllByRecursion}
 use Rattle.bufr_bits.specs.Devices.{Reading}
 use Rattle.bufr_io.specs.Engines.{IsFresh, WasReadOut, AreAllOf}
 
--- none of the readers was read, and all work
+-- all readers work, and nobody has read them
 abbrev pub AreFresh : List Reading → Type 0
 AreFresh readers = AllByRecursion IsFresh readers
 
--- so often each was read at the most
+-- each reader has at most this number of reads
 abbrev pub AreReadAtMost : ℕ → List Reading → Type 0
 AreReadAtMost reads readers = AllByRecursion (λ r. r.reads ≤ reads) readers
 
--- each of the readers was read out, and had these octets if it tells its octets
+-- each reader was read to its end, and had these octets if it tells its octets
 abbrev pub WereReadOut : List Reading → List Reading → List (List ℕ) → Type 0
 WereReadOut [] [] [] = Unit {0}
 WereReadOut (old ∷ olds) (new ∷ news) (octets ∷ more) =
     WasReadOut new × AreAllOf old octets × WereReadOut olds news more
 WereReadOut olds news octets = ⊥
 
--- It ended at the reader of this number, counted from 1: of those before it the one holds, of it
--- the other, and those behind it were not read.
+-- Ends at the reader of this number, from 1: `Before` holds of those before it, `Ends` of it, and
+-- the later ones are unread.
 pub record EndsAt (Before : List Reading → List Reading → Type 0)
     (Ends : Reading → Reading → Type 0) (number : ℕ) (old new : List Reading) : Type 0 where
   pub before_old : List Reading

@@ -1,5 +1,4 @@
--- A reader that is not read yet: where the reading of an input begins, and where an engine ends
--- before it.
+-- Laws of a reader before its first read.
 use Rattle.std.proofs.Common.{◌≡◌, ℕ, Option, Some, None, List, [], ◌++◌, refl, arith, IfSome}
 use Rattle.bufr_bits.specs.Devices.{Reading}
 use Rattle.bufr_io.specs.declared.fault.Input.{Input}
@@ -12,11 +11,11 @@ given_none : (left : Option (List ℕ))
 given_none None = tt
 given_none (Some all) = (all, refl, refl)
 
--- before the first read a reader has given nothing
+-- a reader has given nothing before the first read
 pub HasGiven_none : (r : Reading) → HasGiven r r []
 HasGiven_none r = given_none r.left
 
--- before the first read no piece was read
+-- an engine has read no piece before the first read
 pub HasRead_none : (source : Input) (most : ℕ) (reader : Reading) → IsFresh reader
     → HasRead source most reader reader (record { made = 0; most = most; source = source }) []
 HasRead_none source most reader fresh = record {

@@ -1,6 +1,6 @@
--- Taking in the frames of a stream, each as soon as it is sure (private contracts). Three facts are
--- said of what takes them in: that it took in these frames, that it holds nothing back of them, and
--- that it stopped with a fault when it had some.
+-- Taking in the frames of a stream, each as soon as it is sure (private contracts). `Taken` says
+-- that the taker has taken in these frames, `HoldsNone` that it holds nothing of them back,
+-- `Stopped` that it stopped with a fault after them.
 use Rattle.std.specs.Prelude.{◌≡◌, ℕ, ◌*◌, ◌^◌, ◌≤◌, ◌<◌, Result, Ok, Err, List, ◌++◌, length, sum_by}
 use Rattle.bufr_bits.specs.Devices.{Reading}
 use Rattle.bufr_frame.specs.declared.frames.Found.{Found}
@@ -14,16 +14,16 @@ use Rattle.bufr_io.specs.Engines.{WasReadOut, HasGiven, AreAllOf}
 use Rattle.bufr_io.specs.Inputs.{GoesOn, ReadsOn}
 use Rattle.bufr_io.specs.Limits.{longest_piece}
 
--- the frame of these octets at a place
+-- a frame at a place, of these octets
 abbrev pub frame_at : ℕ → List ℕ → Found
 frame_at place octets = record { place = place; bytes = octets }
 
--- there are so few of them, with so few octets
+-- few frames, with few octets
 pub record AreFew (frames : List Found) : Type 0 where
   pub count : length frames ≤ 2 ^ 48
   pub octets : sum_by (λ frame. length frame.bytes) frames ≤ 2 ^ 48
 
--- it stopped at one of these frames, or between two of them
+-- stops at one of these frames, or between two of them
 pub record StopsAmong (Stopped : List Found → ToolFault → Type 0) (frames : List Found)
     (fault : ToolFault) : Type 0 where
   pub front : List Found
@@ -31,18 +31,18 @@ pub record StopsAmong (Stopped : List Found → ToolFault → Type 0) (frames : 
   pub parted : frames ≡ front ++ rest
   pub stopped : Stopped front fault
 
--- it took in these frames, or stopped among them
+-- takes in these frames, or stops among them
 abbrev pub TakesAll : (List Found → Type 0) → (List Found → ToolFault → Type 0) → List Found
     → Result (Unit {0}) ToolFault → Type 0
 TakesAll Taken Stopped frames (Ok done) = Taken frames
 TakesAll Taken Stopped frames (Err fault) = StopsAmong Stopped frames fault
 
--- of this stream all sure frames were handed out, and it took them in
+-- has taken in all sure frames of this stream
 pub record HasSure (Taken : List Found → Type 0) (framer : Framing) (stream : List ℕ) : Type 0 where
   pub handed : HandedOut framer stream (sure stream)
   pub taken : Taken (sure stream)
 
--- and it holds nothing back; or it stopped among these frames
+-- takes in these frames and holds nothing back, or stops among them
 abbrev pub TakesPiece : (List Found → Type 0) → Type 0 → (List Found → ToolFault → Type 0) → Framing
     → List ℕ → Result (Unit {0}) ToolFault → Type 0
 TakesPiece Taken HoldsNone Stopped framer stream (Ok done) =
@@ -50,9 +50,9 @@ TakesPiece Taken HoldsNone Stopped framer stream (Ok done) =
 TakesPiece Taken HoldsNone Stopped framer stream (Err fault) =
     StopsAmong Stopped (sure stream) fault
 
--- Why a stream was not taken in to its end: no piece could be read behind these octets, whose sure
--- frames it has, and it holds nothing back; or it stopped among the sure frames of what was read
--- by then; or among all frames, when the end was read.
+-- Why a stream ends early: no read returned a piece after these octets, and the taker has their
+-- sure frames and holds nothing back; or it stopped among the sure frames of the octets read; or
+-- among all frames after the end.
 pub data EndsEarly (Taken : List Found → Type 0) (HoldsNone : Type 0)
     (Stopped : List Found → ToolFault → Type 0) (source : Input) (reads : ℕ) (old new : Reading)
     (fault : ToolFault) : Type 0 where
@@ -66,7 +66,7 @@ pub data EndsEarly (Taken : List Found → Type 0) (HoldsNone : Type 0)
       → StopsAmong Stopped (cut stream) fault
       → EndsEarly Taken HoldsNone Stopped source reads old new fault
 
--- a stream, of so many octets, was read to its end, and it took in all its frames; or that ended
+-- reads a stream to its end, takes in all its frames and returns its length in octets; or ends
 -- early
 abbrev pub TakesStream : (List Found → Type 0) → Type 0 → (List Found → ToolFault → Type 0) → Input
     → ℕ → Reading → Reading → Result ℕ ToolFault → Type 0

@@ -1,4 +1,4 @@
--- What was written, one text after another: what the engines' contracts on their writers need.
+-- Laws of writing one text after another.
 use Rattle.std.proofs.Common.{◌≡◌, ℕ, ◌+◌, Option, Some, None, List, [], ◌++◌, length, take, false}
 use Rattle.std.proofs.Common.{sym, ap, ◌∙◌, subst, arith, IfSome, length-append, append_assoc}
 use Rattle.std.proofs.lemmas.List.{append-nil, take-append-le}
@@ -15,12 +15,12 @@ taken_more (Some x) mid now a b one two =
     let then : now ≡ Some ((x ++ a) ++ b) = rw one at two in
     then ∙ ap (λ y. Some y) (append_assoc x a b)
 
--- nothing was written yet
+-- nothing written yet
 taken_none : (now : Option (List ℕ)) → IfSome now (λ x. now ≡ Some (x ++ []))
 taken_none None = tt
 taken_none (Some x) = ap (λ y. Some y) (sym (append-nil x))
 
--- what is kept is what was taken before
+-- the octets taken before stay the first
 taken_kept : (first mid now : Option (List ℕ)) (a : List ℕ)
     → IfSome first (λ x. mid ≡ Some (x ++ a)) → IfSome mid (λ x. now ≡ Some x)
     → IfSome first (λ x. now ≡ Some (x ++ a))
@@ -31,7 +31,7 @@ taken_kept (Some x) mid now a one two = rw one at two
 pub writes_none : (w : Writing) → w.failed ≡ false → WritesAll w w []
 writes_none w works = record { taken = taken_none w.taken; works = works }
 
--- one text after another was written
+-- writes one text after another
 pub writes_more : (first mid now : Writing) (a b : List ℕ) → WritesAll first mid a
     → WritesAll mid now b → WritesAll first now (a ++ b)
 writes_more first mid now a b one two =
@@ -41,7 +41,7 @@ writes_more first mid now a b one two =
           two.works;
     }
 
--- a text was written, and of another a front
+-- writes a text, and fails within another
 pub fails_more : (first mid now : Writing) (a b : List ℕ) (n : ℕ) → WritesAll first mid a
     → FailsAfter n mid now b → FailsAfter (length a + n) first now (a ++ b)
 fails_more first mid now a b n one two =
@@ -53,7 +53,7 @@ fails_more first mid now a b n one two =
       failed = two.failed;
     }
 
--- a front of a text is one of a longer text
+-- the first octets of a text are the first of a longer one
 pub fails_longer : (first now : Writing) (a b : List ℕ) (n : ℕ) → FailsAfter n first now a
     → FailsAfter n first now (a ++ b)
 fails_longer first now a b n one = record {

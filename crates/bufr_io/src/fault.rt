@@ -1,5 +1,3 @@
-//! What an engine returns.
-
 ghost use Rattle.std.specs.Prelude.{◌≡◌, Some};
 ghost use Rattle.bufr_io.specs.Faults.{input_text};
 ghost use Rattle.bufr_io.specs.declared.fault.ToolFault.TheVariants.{OutOfMemory as NoMemory};

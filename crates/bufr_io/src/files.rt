@@ -1,5 +1,3 @@
-//! The input files of a command line.
-
 ghost use Rattle.std.specs.Prelude.{map, IfOk, IfSome};
 ghost use Rattle.std.specs.List.{AllByRecursion};
 ghost use Rattle.bufr_io.specs.Engines.{IsFresh};

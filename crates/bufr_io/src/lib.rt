@@ -1,5 +1,5 @@
-//! The ends of devices: inputs read to their end, the frames of streams, outputs written whole, files
-//! opened at their first use, the tables of two files, tallies and faults.
+//! Inputs and outputs of commands: files opened at their first use, the frames of streams, the
+//! tables of two files, tallies and faults.
 #![tactic(auto)]
 
 mod fault;

@@ -1,5 +1,3 @@
-//! The tables of two files.
-
 ghost use Rattle.std.specs.Prelude.{◌≤◌};
 ghost use Rattle.bufr_base.specs.Answers.{result_map};
 ghost use Rattle.bufr_io.specs.Engines.{IsFresh};

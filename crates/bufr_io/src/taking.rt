@@ -105,7 +105,6 @@ fn take_piece<O, T: TakesFrames<O>>(
     }
 }
 
-/// Ends a stream, and hands on the other frames.
 fn take_rest<O, T: TakesFrames<O>>(
     alloc: Global,
     framer: &mut Framer,

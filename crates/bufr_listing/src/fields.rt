@@ -70,7 +70,6 @@ pub fn title(fxy: Fxy) -> [u8; 7]
 
 // If memory runs out, the functions below leave a part of what they add.
 
-/// Adds a field's value and the line's end.
 fn push_value(text: &mut Vec<u8>, field: &Field) -> Result<(), OutOfMemory>
     ensures ok { OnOk result (text.new.items ≡ text.old.items ++ line (value_word field.now)) }
     ensures kept { OnErr result (take (length text.old.items) text.new.items ≡ text.old.items) }

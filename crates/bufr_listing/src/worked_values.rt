@@ -1,5 +1,3 @@
-//! Worked examples of listings: quotes, and texts of faults.
-
 ghost use Rattle.std.specs.Prelude.{◌≡◌, ◌++◌, ◌∷◌, [], codes};
 ghost use Rattle.bufr_tables.specs.Descriptors.{descriptor};
 ghost use Rattle.bufr_listing.specs.Listings.{quoted};

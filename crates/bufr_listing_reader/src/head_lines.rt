@@ -26,7 +26,6 @@ use bufr_tables::Fxy;
 use bufr_tables::laws::descriptor_texts;
 use std::alloc::Global;
 
-/// Reads a line of this word alone.
 pub(crate) fn read_word(lines: &mut Lines, word: &[u8]) -> Result<(), Failure<ListingFault>>
     requires { has_octets word.now ≡ false }
     ensures read { Gives {Y = Unit {0} × List Line} (λ u. (u, left lines.new)) result

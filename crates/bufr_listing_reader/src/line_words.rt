@@ -20,7 +20,6 @@ pub(crate) struct Words<'a> {
 }
 
 impl<'a> Words<'a> {
-    /// Starts at the first word of a text.
     #[tactic(auto, unfolding(crate::specs::Words::words_left))]
     pub(crate) fn of(text: &'a [u8]) -> Words<'a>
         ensures { words_left result ≡ words_of text.now }
@@ -46,7 +45,6 @@ impl<'a> Words<'a> {
         }
     }
 
-    /// Starts after the first word of a line.
     pub(crate) fn behind_first(line: &'a [u8]) -> Words<'a>
         ensures { words_left result ≡ drop 1 (words_of line.now) }
     {
@@ -119,7 +117,6 @@ impl<'a> Words<'a> {
         })
     }
 
-    /// Reads the words left as descriptors.
     pub(crate) fn descriptors(mut self, alloc: Global) -> Result<Option<Vec<Fxy>>, OutOfMemory>
         ensures { IfOk result (λ o. option_map (λ ds. ds.items) o
             ≡ descriptors_of (words_left self.entry)) }

@@ -33,7 +33,6 @@ impl<'a> Lines<'a> {
     ghost use Rattle.bufr_listing_reader.specs.Cursors as cursors;
     ghost use Rattle.bufr_listing_reader.specs.Cursors.{printed, next_of};
 
-    /// Starts at the first line of a text.
     #[tactic(auto, unfolding(crate::specs::Cursors::left, crate::specs::Cursors::past))]
     pub(crate) fn of(text: &'a [u8]) -> Lines<'a>
         ensures lines { cursors.left result ≡ counting_lines text.now }
@@ -48,7 +47,6 @@ impl<'a> Lines<'a> {
         all
     }
 
-    /// Returns the next line, and stays there.
     #[tactic(auto, using(crate::specs::Cursors::next_is), unfolding(crate::specs::Cursors::left, crate::specs::Cursors::past))]
     pub(crate) fn peek(&self) -> Option<TextLine<'a>>
         ensures { cursors.IsNextLine (cursors.left self.now) result }

@@ -1,5 +1,3 @@
-//! Reads listings.
-
 ghost use Rattle.std.specs.Prelude.{◌≡◌, List, true, Ok, Err, IfOk, option_map};
 ghost use Rattle.bufr_base.specs.Answers.{Gives};
 ghost use Rattle.bufr_listing_reader.specs.Cursors.{left, past};

@@ -170,7 +170,6 @@ fn first_octet(text: &[u8]) -> Option<(u8, &[u8])>
     }
 }
 
-/// Returns the value of a lower hexadecimal digit.
 fn lower_value(digit: u8) -> Option<u8>
     ensures { result ≡ lower_value digit }
 {

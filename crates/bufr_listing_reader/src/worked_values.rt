@@ -1,5 +1,3 @@
-//! Worked examples of listings, written and read.
-
 ghost use Rattle.std.specs.Prelude.{◌≡◌, ◌+◌, ◌-◌, ◌^◌, ◌++◌, ◌∷◌, [], map, Ok, Err, Some, None};
 ghost use Rattle.std.specs.Prelude.{codes, replicate, pos, negsuc, true, false};
 ghost use Rattle.bufr_tables.specs.Descriptors.{descriptor};

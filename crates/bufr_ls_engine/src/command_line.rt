@@ -47,7 +47,6 @@ pub fn line<'a, S: AsStr>(alloc: Global, words: &'a [S]) -> Result<CommandLine<'
     Ok(CommandLine { columns, files })
 }
 
-/// Returns all values of an argument, in order.
 fn values<'a>(
     alloc: Global,
     matches: &ArgMatches<'a>,
@@ -62,7 +61,6 @@ fn values<'a>(
     }
 }
 
-/// Returns what the program takes: columns and files.
 fn program<'a>(alloc: Global) -> Result<Command<'a>, OutOfMemory>
     ensures { IfOk result (λ c. app_of c ≡ program) }
 {
@@ -75,7 +73,6 @@ fn program<'a>(alloc: Global) -> Result<Command<'a>, OutOfMemory>
         .arg(files_argument(alloc))
 }
 
-/// Returns the option of the columns.
 fn columns_option<'a>(alloc: Global) -> Arg<'a>
     ensures rule { rule_of result ≡ columns_option }
     ensures local { result.global ≡ false }
@@ -87,7 +84,6 @@ fn columns_option<'a>(alloc: Global) -> Arg<'a>
         .action(ArgAction::Set)
 }
 
-/// Returns the argument of the files.
 fn files_argument<'a>(alloc: Global) -> Arg<'a>
     ensures rule { rule_of result ≡ files_argument }
     ensures local { result.global ≡ false }

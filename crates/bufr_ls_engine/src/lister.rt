@@ -31,7 +31,6 @@ pub(crate) struct Lister<'c> {
 }
 
 impl<'c> Lister<'c> {
-    /// Makes a writer of rows before the first input.
     pub(crate) fn new(alloc: Global, columns: &'c [Column]) -> Lister<'c>
         ensures columns { result.columns.now ≡ columns.now }
         ensures written { result.written ≡ 0 }
@@ -47,7 +46,6 @@ impl<'c> Lister<'c> {
         }
     }
 
-    /// Begins an input.
     pub(crate) fn begin(&mut self, input: u128)
         ensures { self.new ≡ record self.old { input = input; frames = 0; refused = 0 } }
     {
@@ -75,7 +73,6 @@ impl<'c> Lister<'c> {
         Ok(())
     }
 
-    /// Writes the header line.
     pub(crate) fn write_header<W: Sink>(&mut self, writer: &mut W) -> Result<(), ToolFault>
         requires works { (W.writing writer.old).failed ≡ false }
         requires none { self.old.held.items ≡ [] }
@@ -87,7 +84,6 @@ impl<'c> Lister<'c> {
         self.write_held(writer)
     }
 
-    /// Flushes the writer.
     pub(crate) fn hand_on<W: Sink>(&self, writer: &mut W) -> Result<(), ToolFault>
         requires works { (W.writing writer.old).failed ≡ false }
         ensures { WritesAfter self.now.written [] (W.writing writer.old) (W.writing writer.new) result }

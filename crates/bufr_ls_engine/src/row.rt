@@ -60,7 +60,6 @@ pub(crate) fn hold_row(
     Ok(said.is_err())
 }
 
-/// Adds the header line.
 pub(crate) fn push_header(text: &mut Vec<u8>, columns: &[Column]) -> Result<(), OutOfMemory>
     ensures { OnOk result (text.new.items ≡ text.old.items ++ header columns.now) }
 {
@@ -87,7 +86,6 @@ fn push_words(text: &mut Vec<u8>, columns: &[Column]) -> Result<(), OutOfMemory>
     Ok(())
 }
 
-/// Adds the row of a frame, given its sections.
 fn push_row(
     alloc: Global,
     text: &mut Vec<u8>,
@@ -149,7 +147,6 @@ fn push_field(
     }
 }
 
-/// Returns the edition of a frame.
 fn edition_of(octets: &[u8]) -> u8
     ensures { result ≡ edition_of octets.now }
 {
@@ -159,7 +156,6 @@ fn edition_of(octets: &[u8]) -> u8
     }
 }
 
-/// Adds the field of a column of sections.
 #[inline(always)]
 #[tactic(auto, unfolding(crate::specs::Rows::field_as, crate::specs::Rows::said_in))]
 fn push_said(
@@ -203,7 +199,6 @@ fn push_said(
     push_count(text, u64::from(number))
 }
 
-/// Adds the field of a column of a refusal.
 #[tactic(auto, unfolding(crate::specs::Rows::field_as, crate::specs::Rows::refused_in))]
 fn push_refused(
     alloc: Global,
@@ -262,7 +257,6 @@ fn push_descriptor(text: &mut Vec<u8>, high: u8, low: u8) -> Result<(), OutOfMem
     Ok(())
 }
 
-/// Adds a number.
 fn push_number<I: Integer>(text: &mut Vec<u8>, number: I) -> Result<(), OutOfMemory>
     ensures ok { OnOk result (text.new.items ≡ text.old.items ++ I.text number) }
     ensures kept { OnErr result (take (length text.old.items) text.new.items ≡ text.old.items) }
@@ -298,7 +292,6 @@ fn push_count(text: &mut Vec<u8>, number: u64) -> Result<(), OutOfMemory>
     push_digit(text, number)
 }
 
-/// Adds a number of one digit.
 #[inline(always)]
 #[tactic(auto, using(std::proofs::lemmas::Fmt::decimal_digit))]
 fn push_digit(text: &mut Vec<u8>, digit: u64) -> Result<(), OutOfMemory>

@@ -43,7 +43,6 @@ struct Described<'a> {
 }
 
 impl LentSections<'_> {
-    /// Returns the originating centre.
     #[inline(always)]
     pub(crate) fn centre(&self) -> u16
         ensures { result ≡ (lent self.now).head.centre }
@@ -54,7 +53,6 @@ impl LentSections<'_> {
         }
     }
 
-    /// Returns the originating sub-centre.
     #[inline(always)]
     pub(crate) fn sub_centre(&self) -> u16
         ensures { result ≡ (lent self.now).head.sub_centre }
@@ -65,7 +63,6 @@ impl LentSections<'_> {
         }
     }
 
-    /// Returns the update sequence number.
     #[inline(always)]
     pub(crate) fn update(&self) -> u16
         ensures { result ≡ (lent self.now).head.update }
@@ -76,7 +73,6 @@ impl LentSections<'_> {
         }
     }
 
-    /// Returns the data category.
     #[inline(always)]
     pub(crate) fn category(&self) -> u16
         ensures { result ≡ (lent self.now).head.category }
@@ -87,7 +83,6 @@ impl LentSections<'_> {
         }
     }
 
-    /// Returns the international data sub-category.
     #[inline(always)]
     pub(crate) fn international(&self) -> u16
         ensures { result ≡ (lent self.now).head.international }
@@ -98,7 +93,6 @@ impl LentSections<'_> {
         }
     }
 
-    /// Returns the local data sub-category.
     #[inline(always)]
     pub(crate) fn local_category(&self) -> u16
         ensures { result ≡ (lent self.now).head.local_category }
@@ -109,7 +103,6 @@ impl LentSections<'_> {
         }
     }
 
-    /// Returns the version of the master tables.
     #[inline(always)]
     pub(crate) fn master_version(&self) -> u16
         ensures { result ≡ (lent self.now).head.master_version }
@@ -120,7 +113,6 @@ impl LentSections<'_> {
         }
     }
 
-    /// Returns the version of the local tables.
     #[inline(always)]
     pub(crate) fn local_version(&self) -> u16
         ensures { result ≡ (lent self.now).head.local_version }
@@ -131,7 +123,6 @@ impl LentSections<'_> {
         }
     }
 
-    /// Returns the year.
     #[inline(always)]
     pub(crate) fn year(&self) -> u16
         ensures { result ≡ (lent self.now).head.year }
@@ -142,7 +133,6 @@ impl LentSections<'_> {
         }
     }
 
-    /// Returns the month.
     #[inline(always)]
     pub(crate) fn month(&self) -> u16
         ensures { result ≡ (lent self.now).head.month }
@@ -153,7 +143,6 @@ impl LentSections<'_> {
         }
     }
 
-    /// Returns the day of the month.
     #[inline(always)]
     pub(crate) fn day(&self) -> u16
         ensures { result ≡ (lent self.now).head.day }
@@ -164,7 +153,6 @@ impl LentSections<'_> {
         }
     }
 
-    /// Returns the hour.
     #[inline(always)]
     pub(crate) fn hour(&self) -> u16
         ensures { result ≡ (lent self.now).head.hour }
@@ -175,7 +163,6 @@ impl LentSections<'_> {
         }
     }
 
-    /// Returns the minute.
     #[inline(always)]
     pub(crate) fn minute(&self) -> u16
         ensures { result ≡ (lent self.now).head.minute }
@@ -186,7 +173,6 @@ impl LentSections<'_> {
         }
     }
 
-    /// Returns the second.
     #[inline(always)]
     pub(crate) fn second(&self) -> u16
         ensures { result ≡ (lent self.now).head.second }
@@ -219,7 +205,6 @@ fn two_at(octets: &[u8], place: usize) -> u16
     256 * octet_at(octets, place) + octet_at(octets, place + 1)
 }
 
-/// Returns the year of a year of the century.
 #[inline(always)]
 fn year_of(octet: u16) -> u16
     requires { octet < 256 }

@@ -38,7 +38,6 @@ struct Run<'a> {
 }
 
 impl<'a> Run<'a> {
-    /// Makes a run over inputs, with devices that serve.
     fn new(columns: &'a [Column], first: &'a [u8], second: &'a [u8], third: &'a [u8]) -> Self {
         Run {
             place: 0,
@@ -83,7 +82,6 @@ fn assert_run(
     same(rt, writer.taken.as_slice(), text, run.place);
 }
 
-/// Returns texts, one after another.
 fn joined(rt: &impl Abort, alloc: Global, texts: &[&str]) -> Vec<u8> {
     let mut all = Vec::new(alloc);
     for text in texts {

@@ -1,4 +1,4 @@
--- What `judge` returns (this project's own).
+-- What `MessageReader::check` returns (this project's own).
 use Rattle.std.specs.Prelude.{length}
 use Rattle.bufr_sections.specs.declared.message.Decoded.{Decoded}
 use Rattle.bufr_message.specs.declared.judged.Judged.{Judged}

@@ -39,3 +39,12 @@ pub use Rattle.bufr_listing_reader.specs.Lines
 pub use Rattle.bufr_listing_reader.specs.FirstFaults
 pub use Rattle.bufr_listing_reader.specs.Reading
 pub use Rattle.bufr_listing_reader.specs.Unread
+pub use Rattle.bufr_base.specs.declared.failure.Failure
+pub use Rattle.bufr_data.specs.Handed
+pub use Rattle.bufr_data.specs.Kept as KeptTemplates
+pub use Rattle.bufr_data.specs.LeftFields
+pub use Rattle.bufr_expand.specs.Reasons as TemplateReasons
+pub use Rattle.bufr_expand.specs.Templates
+pub use Rattle.bufr_tables.specs.TableFiles
+pub use Rattle.bufr_tables.specs.Titles
+pub use Rattle.bufr_tables.specs.declared.element.Element

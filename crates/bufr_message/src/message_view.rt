@@ -216,7 +216,6 @@ impl<'a> View<'a> {
         put_alone(alloc, head, observed, descriptors, &contents, out)
     }
 
-    /// Builds the message with all its subsets.
     pub(crate) fn into_decoded(self, alloc: Global) -> Result<Decoded, OutOfMemory>
         ensures { IfOk result (λ d. d ≡ self.entry) }
     {
@@ -299,7 +298,6 @@ pub(crate) fn judge_keeping(
     judge_in(alloc, &mut kept[0], &sections)
 }
 
-/// Judges the message of sections, with their template.
 fn judge_in(
     alloc: Global,
     kept: &mut Kept,

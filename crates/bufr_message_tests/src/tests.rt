@@ -1,5 +1,6 @@
 //! Reads, views and writes messages and their reports.
 
+mod listed;
 mod long;
 mod refused;
 mod samples;

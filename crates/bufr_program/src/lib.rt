@@ -1,4 +1,4 @@
-//! What a program does around its engine: its words, what it says of faults, its exit statuses.
+//! A program around its engine: its words, its faults, its exit statuses.
 #![tactic(auto)]
 
 mod saying;

@@ -1,4 +1,4 @@
-//! A program's words, what it says of a fault, and its exit status.
+//! A program's words, its lines of faults, and its exit status.
 
 ghost use Rattle.std.specs.Prelude.{◌≡◌, ◌≤◌, IfErr, IfOk, map, string_bytes};
 ghost use Rattle.bufr_program.specs.Words.{or_help};
@@ -22,8 +22,8 @@ const REFUSED: u8 = 1;
 /// The exit status of a fault.
 const FAULT: u8 = 2;
 
-/// Takes the words of the command from the runtime, without the program's name. If a word is not UTF-8
-/// or memory runs out, says so on `err` and returns the exit status.
+/// Takes the words of the command, without the program's name. If a word is not UTF-8 or memory
+/// runs out, writes that to `err` and returns the exit status.
 pub fn words_of<E: Write + Drop>(
     rt: &HostRuntime,
     alloc: Global,
@@ -86,7 +86,8 @@ pub fn explain<O: Write + Drop, E: Write + Drop>(
     }
 }
 
-/// Says the fault of an engine on `err`, or that an input cannot open, and returns the exit status.
+/// Writes the fault of an engine to `err`, or that an input cannot open, and returns the exit
+/// status.
 pub fn status_of<'a, R: Files, E: Write + Drop>(
     alloc: Global,
     program: &str,
@@ -106,14 +107,14 @@ pub fn status_of<'a, R: Files, E: Write + Drop>(
     }
 }
 
-/// Says a fault on `err`, and returns the exit status.
+/// Writes a fault to `err`, and returns the exit status.
 pub fn say<E: Write + Drop>(alloc: Global, program: &str, fault: &ToolFault, err: &mut E) -> u8
     ensures { result ≡ 2 }
 {
     tell(program, format!(in alloc; "{program}: {fault}\n"), err)
 }
 
-/// Says on `err` that a file cannot open, and returns the exit status.
+/// Writes to `err` that a file cannot open, and returns the exit status.
 pub fn cannot_open<E: Write + Drop>(alloc: Global, program: &str, path: &str, err: &mut E) -> u8
     ensures { result ≡ 2 }
 {
@@ -124,8 +125,8 @@ pub fn cannot_open<E: Write + Drop>(alloc: Global, program: &str, path: &str, er
     )
 }
 
-/// Writes a line on `err` at once, so that lines of several programs do not mix. If memory runs out,
-/// says that, in parts.
+/// Writes a line to `err` at once, so that lines of several programs do not mix. If memory runs
+/// out, writes that in parts.
 fn tell<E: Write + Drop>(program: &str, line: Result<String, OutOfMemory>, err: &mut E) -> u8
     ensures { result ≡ 2 }
 {

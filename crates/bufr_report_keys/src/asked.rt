@@ -32,9 +32,9 @@ fn is_asked(fxy: Fxy) -> bool
 struct KeyElements;
 
 impl Asks for KeyElements {
-    ghost is_asked = { is_asked };
+    ghost is_asked = { λ _. is_asked };
 
-    fn asks(fxy: Fxy) -> bool {
+    fn asks(&self, fxy: Fxy) -> bool {
         is_asked(fxy)
     }
 }
@@ -51,7 +51,7 @@ pub(crate) fn note_handed(
     match fields.laid() {
         Ok(fields) => note_laid(alloc, fields, values),
         Err(mut left) => {
-            while let Some(field) = left.next_asked::<KeyElements>(alloc)? {
+            while let Some(field) = left.next_asked(alloc, &KeyElements)? {
                 values.note(field);
             }
             Ok(())
@@ -68,9 +68,9 @@ fn note_laid(
     ensures { OnOk result (values.new ≡ all_noted fields.entry values.old) }
 {
     loop {
-        if let Some(number) = fields.next_asked_number::<KeyElements>() {
+        if let Some(number) = fields.next_asked_number(&KeyElements) {
             values.note_number(number);
-        } else if let Some(field) = fields.next_asked::<KeyElements>(alloc)? {
+        } else if let Some(field) = fields.next_asked(alloc, &KeyElements)? {
             values.note(field);
         } else {
             return Ok(());
@@ -78,7 +78,6 @@ fn note_laid(
     }
 }
 
-/// Notes the fields of a list, and copies texts.
 pub(crate) fn note_listed(
     alloc: Global,
     fields: &[Field],

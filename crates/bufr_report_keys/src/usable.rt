@@ -43,7 +43,6 @@ fn is_blank(octet: u8) -> bool
     octet == b' ' || octet == 0
 }
 
-/// Cuts the spaces and NULs at the end.
 fn without_last_blanks(text: &[u8]) -> &[u8]
     ensures { result.now ≡ without_last_blanks text.now }
 {

@@ -1,5 +1,3 @@
-//! The sections of a message, as read.
-
 use crate::message::Head;
 use bufr_base::Items;
 

@@ -1,5 +1,3 @@
-//! The layouts of section 1.
-
 ghost use Rattle.std.specs.Prelude.{◌≡◌};
 ghost use Rattle.bufr_sections.specs.Sections.{shortest1};
 

@@ -1,5 +1,3 @@
-//! Messages.
-
 use bufr_base::Items;
 use bufr_fields::Subset;
 use bufr_tables::Fxy;

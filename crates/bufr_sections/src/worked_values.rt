@@ -1,5 +1,3 @@
-//! Worked examples of sections.
-
 ghost use Rattle.std.specs.Prelude.{◌≡◌, ◌++◌, Ok, Err, IsOk, Some, None, true, false, [], ◌∷◌};
 ghost use Rattle.std.specs.Prelude.{take, codes, map};
 ghost use Rattle.bufr_fields.specs.declared.fault.MisfitFault.TheVariants.{TooLarge};

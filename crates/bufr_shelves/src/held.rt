@@ -57,7 +57,6 @@ impl Held<'_> {
     }
 }
 
-/// Lends a key and its rank as an entry.
 pub(crate) fn held_with_key<'a>(found: Option<(&'a Key, &'a Rank)>) -> Option<Held<'a>>
     ensures { option_map lent result ≡ option_map with_key (option_map deref_pair found.entry) }
 {

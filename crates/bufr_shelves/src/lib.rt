@@ -1,11 +1,8 @@
-//! Shelves: what an archive keeps its entries in.
+//! Shelves, which keep the entries of archives.
 //!
-//! An entry is a key or none, an update number and octets. Its slot is its key, or its octets if it
-//! has no key; its rank is its update number, and then its octets. A shelf keeps the entry of
-//! greatest rank of each slot, in order of slots, entries with a key first. So neither the order of
-//! entries nor the route of joins matters.
-//!
-//! A call that runs out of memory changes nothing, unless its line says otherwise.
+//! A shelf keeps the entry of greatest rank of each slot, in order of slots, entries with a key
+//! first. So neither the order of entries nor the route of joins matters. A call that runs out of
+//! memory changes nothing, unless its line says otherwise.
 #![tactic(auto)]
 
 pub mod held;

@@ -1,4 +1,3 @@
-//! Shelves on ordered maps.
 ghost use Rattle.std.specs.Prelude.{◌≡◌, ◌++◌, List, IfOk, OnOk, OnErr};
 ghost use Rattle.std.proofs.Common.{◌∙◌};
 ghost use Rattle.bufr_entries.specs.Entries.{kept};

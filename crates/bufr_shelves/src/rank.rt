@@ -1,4 +1,3 @@
-//! Ranks of entries in one slot.
 ghost use Rattle.std.specs.Prelude.{◌≡◌};
 ghost use Rattle.std.specs.declared.cmp.Ordering.TheVariants.{Equal};
 

@@ -1,4 +1,3 @@
-//! The trait of shelves.
 ghost use Rattle.std.specs.Prelude.{◌≡◌, ◌++◌, ◌∷◌, [], List, length, IfOk, OnOk, OnErr};
 ghost use Rattle.std.specs.Option.{option_map};
 ghost use Rattle.bufr_entries.specs.Entries.{kept, changes, entry_at, entry_after};

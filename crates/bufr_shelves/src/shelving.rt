@@ -1,4 +1,3 @@
-//! Entries on a new shelf.
 ghost use Rattle.std.specs.Prelude.{◌≡◌, List, IfOk};
 ghost use Rattle.bufr_entries.specs.Keeping.{SameMembers};
 ghost use Rattle.bufr_entries.specs.Entries.{kept};

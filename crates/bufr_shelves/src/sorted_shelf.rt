@@ -1,4 +1,3 @@
-//! Shelves on sorted vectors.
 ghost use Rattle.std.specs.Prelude.{◌≡◌, ◌++◌, List, IfOk, OnOk, OnErr};
 ghost use Rattle.std.proofs.Common.{◌∙◌};
 ghost use Rattle.bufr_entries.specs.Entries.{kept};
@@ -22,9 +21,8 @@ mod merge;
 mod pair;
 mod sorted;
 
-/// A shelf on two sorted vectors, for joins and for entries that come nearly in order. `put`
-/// searches by halves and moves eight octets for each later entry; `join` goes once over both
-/// shelves.
+/// A shelf on two sorted vectors, for joins and for entries nearly in order. `put` moves eight
+/// octets for each later entry; `join` goes once over both shelves.
 #[derive(Drop)]
 pub struct SortedShelf {
     alloc: Global,

@@ -10,7 +10,6 @@ mod gathered;
 mod large;
 mod marks;
 
-/// A function, since comparisons in a test make its proof long.
 fn same<T: PartialEq + Debug + Drop>(rt: &impl Abort, found: T, wanted: T) {
     assert_eq!(rt; found, wanted);
 }
@@ -99,7 +98,6 @@ fn behind<'a, S: Shelf>(rt: &impl Abort, shelf: &'a S, held: Held<'a>) -> Option
     next
 }
 
-/// The shelf has exactly these entries, in this order.
 fn assert_holds<S: Shelf>(rt: &impl Abort, shelf: &S, expected: &[Kept]) {
     same(rt, shelf.len(), expected.len());
     let mut next = shelf.first();

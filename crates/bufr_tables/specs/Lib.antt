@@ -13,3 +13,5 @@ pub mod Samples
 pub mod Sheets
 pub mod TableFiles
 pub mod Titles
+pub use Rattle.bufr_base.specs.Answers
+pub use Rattle.bufr_base.specs.declared.failure.Failure

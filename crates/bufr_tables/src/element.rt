@@ -1,5 +1,3 @@
-//! Rows of Table B.
-
 /// A kind of values.
 #[derive(Clone, Copy, Debug, PartialEq, Eq)]
 pub enum Kind {

@@ -75,7 +75,6 @@ fn used_field(row: &ByteRecord, i: usize) -> &[u8]
     without_spaces(field)
 }
 
-/// Trims all fields of a record.
 pub(crate) fn used_fields(alloc: Global, row: &ByteRecord) -> Result<Vec<&[u8]>, OutOfMemory>
     ensures { IfOk result (λ v. map (λ s. s.now) v.items ≡ used_fields (fields_of row.now)) }
 {

@@ -17,6 +17,7 @@ mod table_faults;
 mod tables;
 mod worked_values;
 
+pub use bufr_base::{Failure, OutOfMemory};
 pub use element::{Element, Kind};
 pub use fxy::{Fxy, GREATEST_F, GREATEST_X, GREATEST_Y};
 pub use table_b::TableB;

@@ -82,7 +82,6 @@ pub(crate) fn small_unsigned_of(text: &[u8]) -> Option<u32>
     Some(value as u32)
 }
 
-/// Reads a descriptor with the given F.
 pub(crate) fn descriptor_of(f: u8, text: &[u8]) -> Option<Fxy>
     ensures { result ≡ descriptor_of f text.now }
 {

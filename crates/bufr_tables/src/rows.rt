@@ -1,5 +1,3 @@
-//! Reads rows from their cells.
-
 ghost use Rattle.std.specs.Prelude.{◌≡◌, map, take};
 ghost use Rattle.bufr_tables.specs.Rows.{kind_of, element_row, member_row};
 

@@ -1,6 +1,4 @@
-//! Table B.
-
-ghost use Rattle.std.specs.Prelude.{◌≡◌, ◌↔◌, IsTrue, [], false, option_copied};
+ghost use Rattle.std.specs.Prelude.{◌≡◌, ◌↔◌, IsTrue, [], false, option_copied, OnErr};
 ghost use Rattle.bufr_tables.specs.declared.element.Kind.TheVariants as kinds;
 ghost use Rattle.bufr_base.specs.Answers.{Gives};
 ghost use Rattle.bufr_tables.specs.Elements.{same_kind};
@@ -36,7 +34,6 @@ impl Model for TableB {
 }
 
 impl TableB {
-    /// Makes an empty table.
     pub(crate) fn new(alloc: Global) -> TableB
         ensures { result ≡ [] }
     {
@@ -48,7 +45,8 @@ impl TableB {
     /// Adds an element. An equal row changes nothing; a different one is the fault `Conflict`.
     pub(crate) fn add(&mut self, fxy: Fxy, element: Element) -> Result<(), Failure<TableFault>>
         requires { same_kind element.kind kinds.Count ≡ false }
-        ensures { Gives (λ _. self.new) result (with_element self.old (fxy, element)) }
+        ensures exact { Gives (λ _. self.new) result (with_element self.old (fxy, element)) }
+        ensures err { OnErr result (self.new ≡ self.old) }
     {
         if let Some(old) = self.rows.get(&fxy) {
             if *old == element {

@@ -1,5 +1,3 @@
-//! Table D.
-
 ghost use Rattle.std.specs.Prelude.{◌≡◌, ◌↔◌, IsTrue, option_map};
 ghost use Rattle.bufr_tables.specs.Entries.{at, Rising};
 

@@ -1,5 +1,3 @@
-//! Faults of table files.
-
 ghost use Rattle.std.specs.Prelude.{◌≡◌, Some};
 ghost use Rattle.bufr_tables.specs.Titles.{title};
 
@@ -27,7 +25,6 @@ pub enum Column {
 }
 
 impl Column {
-    /// Returns its title.
     pub(crate) fn title(self) -> &'static str
         ensures { result.now ≡ title self }
     {

@@ -1,5 +1,3 @@
-//! Tables B and D together.
-
 ghost use Rattle.std.specs.Prelude.{◌≡◌, ◌↔◌, IsTrue, option_copied, option_map};
 ghost use Rattle.bufr_tables.specs.Entries.{element, sequence, AreElements, Rising};
 

@@ -1,5 +1,3 @@
-//! Worked values of the definitions.
-
 ghost use Rattle.std.specs.Prelude.{◌≡◌, ◌∷◌, [], Some, None, true, false, pos, negsuc, codes, map};
 ghost use Rattle.std.specs.Prelude.{is_some};
 ghost use Rattle.bufr_tables.specs.declared.element.Kind.TheVariants as kinds;

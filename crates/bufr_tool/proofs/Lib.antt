@@ -1,3 +1,3 @@
--- What the contracts of the commands and of the command line are proved from.
+-- The lemmas of the command line's proofs.
 mod OnLiterals
 mod CommandFacts

@@ -1,4 +1,4 @@
--- The command line of the program, by the words of `clap`.
+-- The command line of the program, in the words of `clap` (this project's own).
 use Rattle.std.specs.Prelude.{ℕ, Bool, true, List, [], ◌∷◌, codes, Option, Some, unwrap_or}
 use Rattle.std.specs.Prelude.{if◌then◌else◌}
 use Rattle.std.specs.Option.{option_map_or}
@@ -13,13 +13,12 @@ use Rattle.bufr_tool.specs.declared.lines.Command.TheVariants.{Show, Check, Enco
 
 -- ---- the commands
 
--- the option of a file: a letter and the file's path, which has to be there
+-- the option of a file: a letter and the file's path, which the line must have
 abbrev pub path_option : List ℕ → ℕ → Rule
 path_option id letter = record
     (new_rule id) { short = Some letter; action = Some Set; value_names = 1; required = true }
 
--- the path of the file that is read, or those of several, by what is done with a word: one has to be
--- there
+-- the path of the input, or the paths of several; the line must have one
 abbrev pub input_argument : ArgAction → Rule
 input_argument action = record
     (new_rule (codes "input")) { action = Some action; value_names = 1; required = true }
@@ -53,8 +52,8 @@ encoding_command = record (new_shape (codes "encode")) {
       ∷ input_argument Set ∷ [];
 }
 
--- the program's name and settings: the words come without the name, a version is told, and one of
--- the commands has to be there
+-- the program's name and settings: the words come without the name, `--version` prints a version,
+-- and the line must have a command
 abbrev pub program : App
 program = on_top (λ s. record s
     { has_version = true; no_binary_name = true; subcommand_required = true })
@@ -67,7 +66,7 @@ commands_without_archive = with_subcommand
     (reading_command (codes "check")))
     encoding_command
 
--- all its commands
+-- all commands of the program
 abbrev pub commands : App
 commands = with_subcommand (with_subcommand commands_without_archive (collecting_command (codes "add")))
     (collecting_command (codes "merge"))
@@ -78,15 +77,15 @@ commands = with_subcommand (with_subcommand commands_without_archive (collecting
 abbrev pub Named : Type 0
 Named = Option (List ℕ × List Row)
 
--- the value that an argument has there; none is the empty text
+-- the value of an argument; the empty text if it has none
 abbrev pub value_in : List ℕ → Named → List ℕ
 value_in id named = option_map_or (λ found. unwrap_or (first_of id found.1) []) named []
 
--- all values that it has there, in order
+-- all values of an argument, in order
 abbrev pub values_in : List ℕ → Named → List (List ℕ)
 values_in id named = option_map_or (λ found. unwrap_or (all_of id found.1) []) named []
 
--- whether a flag is up there
+-- whether a flag is up
 abbrev pub flag_in : List ℕ → Named → Bool
 flag_in id named = bytes_eq (value_in id named) (codes "true")
 
@@ -97,37 +96,37 @@ command_named name = if bytes_eq name (codes "check") then Check
     else if bytes_eq name (codes "add") then Add
     else if bytes_eq name (codes "merge") then Merge else Show
 
--- the command that is named
+-- the command that the words name
 abbrev pub command_in : Named → Command
 command_in named = command_named (option_map_or (λ found. found.0) named [])
 
--- the same of words, by the parse that `clap` defines for them
+-- the value of an argument in words, by the parse that `clap` defines for them
 abbrev pub value_of : List ℕ → List (List ℕ) → List ℕ
 value_of id words = value_in id (subcommand_of commands words)
 
--- all values of an argument
+-- all values of an argument in words
 abbrev pub values_of : List ℕ → List (List ℕ) → List (List ℕ)
 values_of id words = values_in id (subcommand_of commands words)
 
--- whether a flag stands there
+-- whether a flag is up in words
 abbrev pub flag_of : List ℕ → List (List ℕ) → Bool
 flag_of id words = flag_in id (subcommand_of commands words)
 
--- what the words ask for
+-- the command that the words ask for
 abbrev pub command_of : List (List ℕ) → Command
 command_of words = command_in (subcommand_of commands words)
 
--- a line of a command, written out: its options stand in any order
+-- the words of a line of a command; its options come in any order
 abbrev pub line_words : List ℕ → List (List ℕ)
 line_words name = name ∷ codes "-d" ∷ codes "sequences.csv" ∷ codes "bulletin" ∷ codes "-b" ∷ codes
     "elements.csv" ∷ []
 
--- a line of `encode` with the flag, written out
+-- the words of a line of `encode` with the flag
 abbrev pub compressed_words : List (List ℕ)
 compressed_words = codes "encode" ∷ codes "-b" ∷ codes "elements.csv" ∷ codes "--compressed" ∷ codes
     "-d" ∷ codes "sequences.csv" ∷ codes "bulletin" ∷ []
 
--- a line of a command that writes an archive, written out
+-- the words of a line of a command that writes an archive
 abbrev pub collecting_words : List ℕ → List (List ℕ)
 collecting_words name = name ∷ codes "-b" ∷ codes "elements.csv" ∷ codes "first" ∷ codes "-d"
     ∷ codes "sequences.csv" ∷ codes "-o" ∷ codes "archive" ∷ codes "second" ∷ []

@@ -25,10 +25,9 @@ use std::rt::Files;
 const LONGEST_LINE: usize = 160;
 
 /// Carries out the command that words ask for, without the program's name, and returns the exit
-/// status: 0 if all is well or the words ask for help or the version, 1 if a message is refused, 2 on
-/// a fault of the line, a file, a table, a listing, an archive or memory. The output goes to `out`, a
-/// fault as one line to `err`; the option parser has the words for a fault of the line. A failed
-/// write to `err` is passed over. No words ask for help.
+/// status: 0 if all is well, or for help or the version; 1 if a message is refused; 2 on a fault of
+/// the line, a file, a table, a listing, an archive or memory. The output goes to `out`, a fault as
+/// one line to `err`. No words ask for help.
 pub fn run_command<R: Files, O: Write + Drop, E: Write + Drop>(
     rt: &R,
     alloc: Global,
@@ -47,8 +46,7 @@ pub fn run_command<R: Files, O: Write + Drop, E: Write + Drop>(
     }
 }
 
-/// Opens the tables and the first input of a line, and runs its command, which opens each further
-/// input at its first read. Returns the exit status.
+/// Opens the tables and the first input of a line, runs its command, and returns the exit status.
 fn run_line<'a, R: Files, O: Write + Drop, E: Write + Drop>(
     rt: &'a R,
     alloc: Global,

@@ -81,7 +81,6 @@ fn line_of<'a>(alloc: Global, matches: &ArgMatches<'a>) -> Result<Line<'a>, OutO
     })
 }
 
-/// Returns the command.
 fn asked_command<'a>(matches: &ArgMatches<'a>) -> lines::Command
     ensures { result ≡ command_in (subcommand_rows_of matches.now) }
 {
@@ -104,7 +103,6 @@ fn value<'a>(matches: &ArgMatches<'a>, id: &str) -> &'a str
     }
 }
 
-/// Returns all values of an argument, in order.
 fn values<'a>(
     alloc: Global,
     matches: &ArgMatches<'a>,
@@ -129,7 +127,6 @@ fn is_up<'a>(matches: &ArgMatches<'a>, id: &str) -> bool
     value(matches, id) == "true"
 }
 
-/// Describes the program with all its commands.
 fn bufr<'a>(alloc: Global) -> Result<Command<'a>, OutOfMemory>
     ensures { IfOk result (λ c. app_of c ≡ commands) }
 {
@@ -153,7 +150,6 @@ fn without_archive<'a>(alloc: Global) -> Result<Command<'a>, OutOfMemory>
     with_command(that_read(alloc), encoding(alloc))
 }
 
-/// Describes the program with the commands that read messages.
 fn that_read<'a>(alloc: Global) -> Result<Command<'a>, OutOfMemory>
     ensures { IfOk result (λ c. app_of c ≡ with_subcommand
         (with_subcommand program (reading_command (codes "show")))
@@ -177,7 +173,6 @@ fn program<'a>(alloc: Global) -> Result<Command<'a>, OutOfMemory>
         .bin_name("bufr")
 }
 
-/// Adds a command to a program.
 fn with_command<'a>(
     before: Result<Command<'a>, OutOfMemory>,
     command: Result<Command<'a>, OutOfMemory>,
@@ -258,7 +253,6 @@ fn under_tables<'a>(
         .arg(path(alloc, "d", 'd', "TABLE_D", d))
 }
 
-/// Describes the option of a file.
 fn path<'a>(alloc: Global, id: &'a str, short: char, name: &'a str, help: &'a str) -> Arg<'a>
     ensures rule { rule_of result ≡ path_option id.now short }
     ensures local { result.global ≡ false }
@@ -271,7 +265,6 @@ fn path<'a>(alloc: Global, id: &'a str, short: char, name: &'a str, help: &'a st
         .action(ArgAction::Set)
 }
 
-/// Describes a flag.
 fn switch<'a>(alloc: Global, id: &'a str, help: &'a str) -> Arg<'a>
     ensures rule { rule_of result ≡ flag id.now }
     ensures local { result.global ≡ false }
@@ -282,7 +275,6 @@ fn switch<'a>(alloc: Global, id: &'a str, help: &'a str) -> Arg<'a>
         .action(ArgAction::SetTrue)
 }
 
-/// Describes the argument of the inputs.
 fn input<'a>(alloc: Global, name: &'a str, help: &'a str, action: ArgAction) -> Arg<'a>
     ensures rule { rule_of result ≡ input_argument action }
     ensures local { result.global ≡ false }

@@ -1,4 +1,4 @@
-//! Laws of the command line: each function has one as its contract, and does nothing.
+//! Laws of the command line.
 
 ghost use Rattle.std.specs.Prelude.{◌≡◌, ◌∷◌, true, false, [], codes};
 ghost use Rattle.clap.specs.Words.{takes};

@@ -1,5 +1,3 @@
-//! What a command line asks for.
-
 /// A command of the program.
 #[derive(Clone, Copy, Debug, Drop, PartialEq, Eq)]
 pub enum Command {

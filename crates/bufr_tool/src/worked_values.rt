@@ -1,5 +1,3 @@
-//! Worked values of the last lines.
-
 ghost use Rattle.std.specs.Prelude.{◌≡◌, ◌++◌, ◌∷◌, [], codes};
 ghost use Rattle.bufr_engines.specs.Samples.{counted};
 ghost use Rattle.bufr_tool.specs.ArchiveLines.{added_line, merged_line};

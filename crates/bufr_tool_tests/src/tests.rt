@@ -1,9 +1,11 @@
-//! What the engines and the commands answer and write. Octets and texts are typed from the rules of
+//! What the engines and the commands return and write. Octets and texts are typed from the rules of
 //! the formats.
 
 mod collecting;
+mod commands;
 mod devices;
 mod failing_devices;
+mod growth;
 mod samples;
 mod streams;
 mod table_files;
@@ -18,19 +20,17 @@ use std::alloc::Global;
 use std::fmt::Debug;
 use std::process::Abort;
 
-/// Stops the test where the two differ. It is a function, since a comparison written out in a test
-/// makes the proof of that test more than twice as long.
+/// A function, since comparisons in a test make its proof long.
 fn same<T: PartialEq + Debug + Drop>(rt: &impl Abort, found: T, wanted: T) {
     assert_eq!(rt; found, wanted);
 }
 
-/// The same, and it tells the run.
 fn same_in<T: PartialEq + Debug + Drop>(rt: &impl Abort, found: T, wanted: T, run: Run<'_>) {
     let (name, place) = (run.name, run.place);
     assert_eq!(rt; found, wanted, "{name} at {place}");
 }
 
-/// An engine; that of `encode` compresses or not.
+/// An engine; `encode` may compress.
 #[derive(Clone, Copy)]
 enum Engine {
     Show,
@@ -38,28 +38,28 @@ enum Engine {
     Encode(bool),
 }
 
-/// What an engine is run on.
+/// A run of an engine.
 #[derive(Clone, Copy)]
 struct Run<'a> {
     engine: Engine,
-    /// The name of the run and its number among those of this name.
+    /// Its name, and its number among the runs of this name.
     name: &'a str,
     place: usize,
-    /// How many reads are allowed.
+    /// The reads allowed.
     reads: u32,
     octets: &'a [u8],
-    /// The reader gives the octets up to here apart, where this is not 0, and so many at most a
-    /// read, and then fails or ends.
+    /// The reader gives the octets before `cut` apart, if it is not 0, at most `most` a read, and
+    /// then fails or ends.
     cut: usize,
     most: usize,
     breaks: bool,
-    /// The writer takes so many octets, so many at most at a time.
+    /// The writer takes `room` octets, at most `width` at a time.
     room: usize,
     width: usize,
 }
 
 impl<'a> Run<'a> {
-    /// An engine on octets, with devices that serve.
+    /// Makes a run over devices that work.
     fn new(name: &'a str, engine: Engine, octets: &'a [u8]) -> Self {
         Run {
             engine,
@@ -76,21 +76,21 @@ impl<'a> Run<'a> {
     }
 }
 
-/// What the devices of a run have seen.
+/// The record of a run's devices.
 #[derive(Drop)]
 struct Seen {
-    /// How often was read, and the most octets that a read asked for.
+    /// The number of reads, and the most octets that a read asked for.
     reads: u64,
     asked: usize,
-    /// How many pieces were taken whole, and how long the longest is.
+    /// The number of pieces taken whole, and the longest of them.
     pieces: u32,
     longest: usize,
 }
 
-/// The frames, those refused and the octets skipped of an answer.
+/// The frames, the refused frames and the octets skipped.
 type Counted = Result<(u128, u128, u128), ToolFault>;
 
-/// A run has this answer, of frames, those refused and octets skipped, and it writes this.
+/// Compares the result and the output of a run.
 fn assert_run(rt: &impl Abort, alloc: Global, run: Run<'_>, wanted: Counted, text: &[u8]) -> Seen {
     let tables = tables(rt, alloc);
     let mut reader = Reader::new(run.octets, run.cut, run.most, run.breaks);
@@ -176,7 +176,7 @@ const FAULTS: [(ToolFault, &str); 14] = [
     ),
 ];
 
-/// And the most reads that a command allows.
+/// Also the most reads that a command allows.
 #[test]
 fn lines_of_faults_and_most_reads(rt: HostRuntime) {
     for (fault, text) in FAULTS {

@@ -1,5 +1,3 @@
-//! Depots over both shelves.
-
 use crate::tests::refusals::repeated;
 use crate::tests::same;
 use crate::tests::samples::{
@@ -121,7 +119,6 @@ fn assert_refused<S: Shelf>(
     }
 }
 
-/// Does a step, and repeats it after a refusal.
 fn does<S: Shelf>(rt: &impl Abort, alloc: Global, depot: &mut Depot<S>, row: &Row) {
     let (done, slot, messages, new, _, after) = row;
     let step = step_of(rt, alloc, done, *slot);
@@ -191,7 +188,6 @@ fn run<S: Shelf>(rt: &impl Abort, alloc: Global, depot: &mut Depot<S>, steps: &[
     assert_told(rt, alloc, depot, &answers)
 }
 
-/// Runs steps, and again after a refused step.
 fn runs<S: Shelf>(rt: &impl Abort, alloc: Global, tables: &Tables, steps: &[Step]) {
     let mut depot: Depot<S> = depot_of(rt, alloc, tables, 2);
     if !run(rt, alloc, &mut depot, steps) {

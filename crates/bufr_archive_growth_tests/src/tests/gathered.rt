@@ -1,5 +1,3 @@
-//! Gathered reports and entries.
-
 use crate::tests::refusals::repeated;
 use crate::tests::same;
 use crate::tests::samples::{

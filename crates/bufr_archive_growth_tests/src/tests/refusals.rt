@@ -22,7 +22,6 @@ impl<F> Refusal for Failure<F> {
     }
 }
 
-/// Stops the test at any other fault.
 pub(super) fn assert_refused<E: Refusal + Debug + Drop>(rt: &impl Abort, fault: E) {
     assert!(rt; fault.is_refusal(), "{fault:?}");
 }

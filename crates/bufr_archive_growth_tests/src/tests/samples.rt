@@ -1,5 +1,3 @@
-//! Tables and messages.
-
 use crate::tests::refusals::repeated;
 use crate::tests::same;
 use bufr_archive::{Archive, Shelf};

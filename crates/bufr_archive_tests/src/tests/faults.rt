@@ -1,4 +1,3 @@
-//! The texts of faults.
 use super::same;
 use bufr_archive::{AddFault, NotAnArchive, RanOut, StepFault, WriteFault};
 use bufr_message::Refused;

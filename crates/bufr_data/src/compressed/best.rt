@@ -128,7 +128,6 @@ fn number_at(subset: &Subset, place: usize) -> u64
     }
 }
 
-/// Appends a column of numbers that differ.
 fn put_numbers(width: u32, numbers: &[u64], sink: &mut BitSink) -> Result<(), OutOfMemory>
     requires narrow { width ≤ most_increment_bits }
     requires forms { list_all (λ n. nat_lt n (2 ^ width)) numbers.now ≡ true }

@@ -58,23 +58,25 @@ impl<'v> ColumnFields<'v> {
     pub(crate) fn next_asked<A: Asks>(
         &mut self,
         alloc: Global,
+        asked: &A,
     ) -> Result<Option<Field>, OutOfMemory>
-        ensures { IfOk result (λ found. HandsOutAsked A.is_asked self.old found self.new) }
+        ensures { IfOk result (λ found.
+            HandsOutAsked (A.is_asked asked.now) self.old found self.new) }
     {
-        while self.pass_first::<A>() {}
+        while self.pass_first(asked) {}
         self.next(alloc)
     }
 
     /// Skips the next field if it is not chosen.
-    fn pass_first<A: Asks>(&mut self) -> bool
-        ensures passed { OnTrue result (PassesFirst A.is_asked self.old self.new) }
+    fn pass_first<A: Asks>(&mut self, asked: &A) -> bool
+        ensures passed { OnTrue result (PassesFirst (A.is_asked asked.now) self.old self.new) }
         ensures unmoved { OnFalse result (self.new ≡ self.old) }
-        ensures asked { OnFalse result (FirstIsAsked A.is_asked self.old) }
+        ensures asked { OnFalse result (FirstIsAsked (A.is_asked asked.now) self.old) }
     {
         let Some((place, others)) = self.places.split_first() else {
             return false;
         };
-        if A::asks(place.fxy) {
+        if asked.asks(place.fxy) {
             return false;
         }
         self.places = others;

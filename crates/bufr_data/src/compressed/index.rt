@@ -229,7 +229,6 @@ fn next_place(
     }
 }
 
-/// Checks the limit on values.
 fn within_limit(n: u16, i: u64) -> Result<(), DataFault>
     requires { i ≤ most_items + 1 }
     ensures { result ≡ reading.within_limit n i (Ok tt) }

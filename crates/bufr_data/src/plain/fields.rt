@@ -56,15 +56,17 @@ impl<'v> PlainFields<'v> {
     pub(crate) fn next_asked<A: Asks>(
         &mut self,
         alloc: Global,
+        asked: &A,
     ) -> Result<Option<Field>, OutOfMemory>
-        ensures { IfOk result (λ found. HandsOutAsked A.is_asked self.old found self.new) }
+        ensures { IfOk result (λ found.
+            HandsOutAsked (A.is_asked asked.now) self.old found self.new) }
     {
-        if !self.done && self.walk.tells_no_more::<A>() {
+        if !self.done && self.walk.tells_no_more(asked) {
             self.done = true;
             return Ok(None);
         }
         while let Some(field) = self.next(alloc)? {
-            if A::asks(field.fxy) {
+            if asked.asks(field.fxy) {
                 return Ok(Some(field));
             }
         }

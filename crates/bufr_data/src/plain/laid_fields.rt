@@ -71,10 +71,15 @@ impl<'v> LaidFields<'v> {
     /// After `OutOfMemory` no field is left.
     // A call would move each field through memory.
     #[inline(always)]
-    pub fn next_asked<A: Asks>(&mut self, alloc: Global) -> Result<Option<Field>, OutOfMemory>
-        ensures { IfOk result (λ found. HandsOutAsked A.is_asked self.old found self.new) }
+    pub fn next_asked<A: Asks>(
+        &mut self,
+        alloc: Global,
+        asked: &A,
+    ) -> Result<Option<Field>, OutOfMemory>
+        ensures { IfOk result (λ found.
+            HandsOutAsked (A.is_asked asked.now) self.old found self.new) }
     {
-        self.pass_unasked::<A>();
+        self.pass_unasked(asked);
         self.next(alloc)
     }
 
@@ -82,12 +87,12 @@ impl<'v> LaidFields<'v> {
     /// take, and at the end.
     // A call would move each field through memory.
     #[inline(always)]
-    pub fn next_asked_number<A: Asks>(&mut self) -> Option<NumberField>
+    pub fn next_asked_number<A: Asks>(&mut self, asked: &A) -> Option<NumberField>
         ensures found { IfSome result (λ number.
-            HandsOutAsked A.is_asked self.old (Some (as_field number)) self.new) }
-        ensures others { IfNone result (PassesUnasked A.is_asked self.old self.new) }
+            HandsOutAsked (A.is_asked asked.now) self.old (Some (as_field number)) self.new) }
+        ensures others { IfNone result (PassesUnasked (A.is_asked asked.now) self.old self.new) }
     {
-        self.pass_unasked::<A>();
+        self.pass_unasked(asked);
         let Some((field, others)) = self.fields.split_first() else {
             return None;
         };
@@ -101,13 +106,12 @@ impl<'v> LaidFields<'v> {
         })
     }
 
-    /// Skips to the next chosen field.
     #[inline(always)]
-    fn pass_unasked<A: Asks>(&mut self)
-        ensures passed { PassesUnasked A.is_asked self.old self.new }
-        ensures asked { FirstIsAsked A.is_asked self.new }
+    fn pass_unasked<A: Asks>(&mut self, asked: &A)
+        ensures passed { PassesUnasked (A.is_asked asked.now) self.old self.new }
+        ensures asked { FirstIsAsked (A.is_asked asked.now) self.new }
     {
-        let (fields, bits) = first_asked::<A>(self.fields, &self.reader);
+        let (fields, bits) = first_asked(asked, self.fields, &self.reader);
         move_on(&mut self.reader, bits);
         self.fields = fields;
     }
@@ -157,10 +161,15 @@ fn move_on(reader: &mut BitReader, bits: u128)
 }
 
 /// Finds the first chosen field, and the bits before it.
-fn first_asked<'f, A: Asks>(fields: &'f [LaidField], reader: &BitReader) -> (&'f [LaidField], u128)
+fn first_asked<'f, A: Asks>(
+    asked: &A,
+    fields: &'f [LaidField],
+    reader: &BitReader,
+) -> (&'f [LaidField], u128)
     requires { StandLaid fields.now reader.now }
-    ensures passed { PassesLaid A.is_asked fields.now result.0.now reader.now result.1 }
-    ensures asked { FirstIsAsked A.is_asked
+    ensures passed { PassesLaid (A.is_asked asked.now) fields.now result.0.now reader.now
+        result.1 }
+    ensures asked { FirstIsAsked (A.is_asked asked.now)
         (fields_laid result.0.now (moved_on reader.now result.1)) }
 {
     // The bits left bound the sum.
@@ -168,7 +177,7 @@ fn first_asked<'f, A: Asks>(fields: &'f [LaidField], reader: &BitReader) -> (&'f
     let mut bits = 0u128;
     let mut left = fields;
     while let Some((field, others)) = left.split_first() {
-        if A::asks(field.fxy) {
+        if asked.asks(field.fxy) {
             return (left, bits);
         }
         bits += standing_bits(field.spec);

@@ -10,35 +10,25 @@ use bufr_tables::Fxy;
 use std::alloc::Global;
 use std::process::Abort;
 
-struct Blocks;
+/// The fields with one descriptor, as 16 bits.
+struct Alone(u16);
 
-impl Asks for Blocks {
-    ghost is_asked = { λ d. d == 257 };
+impl Asks for Alone {
+    ghost is_asked = { λ alone d. d == alone.0 };
 
-    fn asks(fxy: Fxy) -> bool {
-        fxy.bits() == 257
+    fn asks(&self, fxy: Fxy) -> bool {
+        fxy.bits() == self.0
     }
 }
 
-struct Temperatures;
+/// Block numbers, 0 01 001.
+const BLOCKS: Alone = Alone(0x0101);
 
-impl Asks for Temperatures {
-    ghost is_asked = { λ d. d == 3173 };
+/// Temperatures, 0 12 101.
+const TEMPERATURES: Alone = Alone(0x0C65);
 
-    fn asks(fxy: Fxy) -> bool {
-        fxy.bits() == 3173
-    }
-}
-
-struct Names;
-
-impl Asks for Names {
-    ghost is_asked = { λ d. d == 267 };
-
-    fn asks(fxy: Fxy) -> bool {
-        fxy.bits() == 267
-    }
-}
+/// Names of stations, 0 01 011.
+const NAMES: Alone = Alone(0x010B);
 
 /// A block, a temperature of 63 bits, a name of 64 bits, two blocks, a station number, a block, and
 /// a temperature.
@@ -75,67 +65,80 @@ const MIXED: Descriptors = &[
 ];
 
 /// Compares the numbers of the chosen fields, which are all that is left.
-fn hands_out<A: Asks>(rt: &impl Abort, alloc: Global, mut fields: Fields<'_>, wanted: &[u64]) {
+fn hands_out<A: Asks>(
+    rt: &impl Abort,
+    alloc: Global,
+    asked: &A,
+    mut fields: Fields<'_>,
+    wanted: &[u64],
+) {
     for number in wanted {
-        let found = fields.next_asked::<A>(alloc).expect(rt, "room");
+        let found = fields.next_asked(alloc, asked).expect(rt, "room");
         same(rt, number_of(&found.expect(rt, "a field")), Some(*number));
     }
-    same(rt, fields.next_asked::<A>(alloc).expect(rt, "room"), None);
+    same(rt, fields.next_asked(alloc, asked).expect(rt, "room"), None);
     same(rt, fields.next(alloc).expect(rt, "room"), None);
 }
 
-/// Compares the chosen fields of a layout.
 fn hands_out_laid<A: Asks>(
     rt: &impl Abort,
     alloc: Global,
+    asked: &A,
     mut fields: LaidFields<'_>,
     wanted: &[u64],
 ) {
     for number in wanted {
-        let found = fields.next_asked::<A>(alloc).expect(rt, "room");
+        let found = fields.next_asked(alloc, asked).expect(rt, "room");
         same(rt, number_of(&found.expect(rt, "a field")), Some(*number));
     }
-    same(rt, fields.next_asked::<A>(alloc).expect(rt, "room"), None);
+    same(rt, fields.next_asked(alloc, asked).expect(rt, "room"), None);
 }
 
 /// Compares the chosen fields of a layout, handed out as numbers; only 127 is missing.
-fn hands_out_numbers<A: Asks>(rt: &impl Abort, mut fields: LaidFields<'_>, wanted: &[u64]) {
+fn hands_out_numbers<A: Asks>(
+    rt: &impl Abort,
+    asked: &A,
+    mut fields: LaidFields<'_>,
+    wanted: &[u64],
+) {
     for number in wanted {
-        let found = fields.next_asked_number::<A>().expect(rt, "a number");
+        let found = fields.next_asked_number(asked).expect(rt, "a number");
         same(rt, found.number, *number);
         same(rt, found.is_missing(), *number == 127);
     }
-    same(rt, fields.next_asked_number::<A>(), None);
+    same(rt, fields.next_asked_number(asked), None);
 }
 
 /// Compares the numbers of the last subset of an index, with a layout or without.
 fn has_asked<A: Asks>(
     rt: &impl Abort,
     alloc: Global,
+    asked: &A,
     index: &SubsetIndex,
     laid: bool,
     wanted: &[u64],
 ) {
     assert!(rt; 0 < index.count());
     let last = index.count() - 1;
-    hands_out::<A>(
+    hands_out(
         rt,
         alloc,
+        asked,
         index.fields(alloc, last).expect(rt, "room"),
         wanted,
     );
     match index.fields(alloc, last).expect(rt, "room").laid() {
         Ok(fields) => {
             same(rt, laid, true);
-            hands_out_laid::<A>(rt, alloc, fields, wanted);
+            hands_out_laid(rt, alloc, asked, fields, wanted);
         }
         Err(fields) => {
             same(rt, laid, false);
-            hands_out::<A>(rt, alloc, fields, wanted);
+            hands_out(rt, alloc, asked, fields, wanted);
         }
     }
     if let Ok(fields) = index.fields(alloc, last).expect(rt, "room").laid() {
-        hands_out_numbers::<A>(rt, fields, wanted);
+        hands_out_numbers(rt, asked, fields, wanted);
     }
 }
 
@@ -144,6 +147,7 @@ fn has_asked<A: Asks>(
 fn serves<A: Asks>(
     rt: &impl Abort,
     alloc: Global,
+    asked: &A,
     list: Descriptors,
     compressed: bool,
     count: u16,
@@ -156,7 +160,7 @@ fn serves<A: Asks>(
         let index = template
             .index(alloc, compressed, &mut reader, count)
             .expect(rt, "an index");
-        has_asked::<A>(rt, alloc, &index, !compressed && message > 0, wanted);
+        has_asked(rt, alloc, asked, &index, !compressed && message > 0, wanted);
     }
 }
 
@@ -164,13 +168,22 @@ fn serves<A: Asks>(
 fn blocks_between_wide_fields(rt: HostRuntime) {
     let alloc = rt.alloc();
     let wanted = [10, 11, 12, 127];
-    serves::<Blocks>(&rt, alloc, BETWEEN, false, 1, BETWEEN_OCTETS, &wanted);
+    serves(
+        &rt,
+        alloc,
+        &BLOCKS,
+        BETWEEN,
+        false,
+        1,
+        BETWEEN_OCTETS,
+        &wanted,
+    );
     // none is chosen: 16 bits and ten, 27315 and 384; then each with six zero bits after it
     let list: Descriptors = &[(0, 12, 101), (0, 1, 2)];
     let plain = [0x6A, 0xB3, 0x60, 0x00];
-    serves::<Blocks>(&rt, alloc, list, false, 1, &plain, &[]);
+    serves(&rt, alloc, &BLOCKS, list, false, 1, &plain, &[]);
     let columns = [0x6A, 0xB3, 0x01, 0x80, 0x00];
-    serves::<Blocks>(&rt, alloc, list, true, 1, &columns, &[]);
+    serves(&rt, alloc, &BLOCKS, list, true, 1, &columns, &[]);
 }
 
 #[test]
@@ -181,13 +194,31 @@ fn temperatures_alone_are_asked_for(rt: HostRuntime) {
         0x5A, 0xAC, 0xD0, 0x48, 0x00, 0x01, 0x6F, 0x7F, 0xFF, 0xC0, 0x00, 0x28, 0x48, 0x60, 0x00,
         0x40, 0xC0, 0x00, 0x00,
     ];
-    serves::<Temperatures>(&rt, alloc, MIXED, false, 2, &plain, &[1, 2, 0]);
+    serves(
+        &rt,
+        alloc,
+        &TEMPERATURES,
+        MIXED,
+        false,
+        2,
+        &plain,
+        &[1, 2, 0],
+    );
     // the same fields, each a minimum, NBINC, and both increments or texts if there are any
     let columns = [
         0x42, 0x16, 0xAB, 0x30, 0x84, 0x00, 0x00, 0x24, 0x12, 0x04, 0x24, 0x30, 0x00, 0x50, 0x2F,
         0x00, 0x00, 0x0E, 0x11, 0x00,
     ];
-    serves::<Temperatures>(&rt, alloc, MIXED, true, 2, &columns, &[27316, 5, 9]);
+    serves(
+        &rt,
+        alloc,
+        &TEMPERATURES,
+        MIXED,
+        true,
+        2,
+        &columns,
+        &[27316, 5, 9],
+    );
 }
 
 /// A text is no number: it is left, and handed out as a field.
@@ -203,8 +234,8 @@ fn texts_are_no_numbers(rt: HostRuntime) {
         assert!(&rt; 0 < index.count());
         if let Ok(mut fields) = index.fields(alloc, 0).expect(&rt, "room").laid() {
             same(&rt, message, 1);
-            same(&rt, fields.next_asked_number::<Names>(), None);
-            let found = fields.next_asked::<Names>(alloc).expect(&rt, "room");
+            same(&rt, fields.next_asked_number(&NAMES), None);
+            let found = fields.next_asked(alloc, &NAMES).expect(&rt, "room");
             same(&rt, text_of(&found.expect(&rt, "a field")), b"SHIP1   ");
         }
     }
@@ -223,7 +254,7 @@ fn serves_first(rt: &impl Abort, alloc: Global, count: u16, laid: bool, wanted: 
     let index = template
         .index(alloc, false, &mut reader, count)
         .expect(rt, "an index");
-    has_asked::<Blocks>(rt, alloc, &index, laid, &wanted[1..]);
+    has_asked(rt, alloc, &BLOCKS, &index, laid, &wanted[1..]);
     assert!(rt; 0 < index.count());
     let last = index.count() - 1;
     let mut fields = index.fields(alloc, last).expect(rt, "room");

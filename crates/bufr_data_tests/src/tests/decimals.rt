@@ -36,7 +36,6 @@ const OTHERS: &[(i32, &str)] = &[
     (-601, "0"),
 ];
 
-/// Compares the decimal of these units with its text.
 fn printed_and_read(rt: &impl Abort, alloc: Global, units: i128, scale: i32, text: &str) {
     let decimal = Decimal::new(units, scale).expect(rt, "a decimal");
     let mut printed = Vec::new(alloc);

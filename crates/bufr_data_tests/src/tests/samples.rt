@@ -1,5 +1,3 @@
-//! Tables, templates and subsets for several tests.
-
 use super::same;
 use bufr_base::Items;
 use bufr_bits::{BitReader, BitSink};

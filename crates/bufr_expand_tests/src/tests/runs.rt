@@ -31,7 +31,6 @@ fn parts(run: Option<Run>) -> Option<(u64, u64, u128)> {
     }
 }
 
-/// Checks that a walk passes these turns.
 fn assert_passes(rt: &impl Abort, walk: &mut Walk<'_>, row: &Row<'_>)
     requires { waits walk.old ≡ false }
 {

@@ -1,5 +1,3 @@
-//! Tables, templates and steps for several tests.
-
 ghost use Rattle.std.specs.Prelude.{◌≡◌, ◌<◌, ◌^◌, false, Ok};
 ghost use Rattle.bufr_expand.specs.Walks.{waits};
 ghost use Rattle.bufr_expand_tests.specs.StepAnswers.{asked_width};
@@ -117,7 +115,6 @@ fn asked(answer: &Result<Step, WalkFault>) -> Option<u32>
     }
 }
 
-/// Takes a step and gives a count its number.
 pub(crate) fn step(walk: &mut Walk<'_>, told: u64) -> Result<Step, WalkFault>
     requires { waits walk.old ≡ false }
     ensures { waits walk.new ≡ false }
@@ -132,7 +129,6 @@ pub(crate) fn step(walk: &mut Walk<'_>, told: u64) -> Result<Step, WalkFault>
     }
 }
 
-/// Checks that the next steps are these fields.
 pub(crate) fn assert_steps(rt: &impl Abort, walk: &mut Walk<'_>, told: u64, wanted: &[Field])
     requires { waits walk.old ≡ false }
     ensures { waits walk.new ≡ false }

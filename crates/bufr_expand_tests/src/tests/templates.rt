@@ -1,5 +1,3 @@
-//! Tests of templates.
-
 use super::same;
 use super::samples::{Field, assert_end, assert_steps, template_of};
 use bufr_expand::Walk;

@@ -13,9 +13,9 @@ use std::process::Abort;
 struct Temperatures;
 
 impl Asks for Temperatures {
-    ghost is_asked = { λ d. d == 3173 };
+    ghost is_asked = { λ _ d. d == 3173 };
 
-    fn asks(fxy: Fxy) -> bool {
+    fn asks(&self, fxy: Fxy) -> bool {
         fxy.bits() == 3173
     }
 }
@@ -25,7 +25,7 @@ fn assert_tells(rt: &impl Abort, walk: &mut Walk<'_>, wanted: &[bool])
     requires { waits walk.old ≡ false }
 {
     for told in wanted {
-        same(rt, walk.tells_no_more::<Temperatures>(), *told);
+        same(rt, walk.tells_no_more(&Temperatures), *told);
         let _step = step(walk, 1);
     }
 }

@@ -1,5 +1,3 @@
-//! The data of subsets.
-
 use crate::tests::refusals::repeated;
 use crate::tests::same;
 use crate::tests::samples::tables;

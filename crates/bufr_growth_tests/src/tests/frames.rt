@@ -1,5 +1,3 @@
-//! Frames of a stream.
-
 ghost use Rattle.std.specs.Prelude.{◌+◌, ◌<◌, ◌^◌, length};
 
 use crate::tests::refusals::repeated;
@@ -14,7 +12,6 @@ const HEADING: &[u8] = b"heading BUFR";
 
 type Frame<'a> = (u64, &'a [u8]);
 
-/// The frames are the message, at these places.
 fn assert_found(rt: &impl Abort, found: &[Found], places: &[u64]) {
     same(rt, found.len(), places.len());
     for (frame, place) in found.iter().zip(places) {
@@ -82,7 +79,6 @@ fn take(rt: &impl Abort, framer: &mut Framer, piece: &[u8], wanted: Option<Frame
     same(rt, taken.rest.len(), 0);
 }
 
-/// Takes a stream in piece by piece.
 fn take_one_by_one(rt: &impl Abort, alloc: Global) {
     let pieces = [
         (&SEQUENCES[..40], None),

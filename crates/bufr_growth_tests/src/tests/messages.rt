@@ -1,5 +1,3 @@
-//! Messages, reports and listings.
-
 use crate::tests::refusals::{assert_refused, repeated};
 use crate::tests::same;
 use crate::tests::samples::{
@@ -7,8 +5,10 @@ use crate::tests::samples::{
     SEQUENCES, TEXTS_LISTED, UNEQUAL_COUNTS, room, tables,
 };
 use bufr_bits::IntoWrite;
-use bufr_message::listing::{ListingWriteFault, text_of, write};
-use bufr_message::{Decoded, Message, Report, canonical, decode, encode, reports};
+use bufr_message::listing::{ListingWriteFault, read, text_of, write};
+use bufr_message::{
+    Decoded, Message, Report, View, canonical, canonical_of_read, decode, encode, reports, view,
+};
 use bufr_tables::Tables;
 use std::alloc::Global;
 use std::process::Abort;
@@ -84,6 +84,64 @@ fn all_parted(rt: &impl Abort, alloc: Global) {
 #[test]
 fn reports_of_subsets(rt: HostRuntime) {
     all_parted(&rt, rt.alloc());
+}
+
+/// The report of this number of a view has this canonical message.
+fn assert_taken_out(
+    rt: &impl Abort,
+    alloc: Global,
+    tables: &Tables,
+    found: &View<'_>,
+    number: usize,
+    own: &[u8],
+) {
+    assert!(rt; 1 <= number && number <= found.count());
+    let report = repeated!(rt, found.report(alloc, number));
+    assert_canonical(rt, alloc, tables, &report, own);
+    let read = repeated!(rt, canonical_of_read(alloc, &report));
+    same(rt, read.expect(rt, "octets").as_slice(), own);
+}
+
+/// A view of a message has these reports, the last of which is taken out first.
+fn view_of(rt: &impl Abort, alloc: Global, tables: &Tables, octets: &[u8], wanted: &[&[u8]]) {
+    let found = repeated!(rt, view(alloc, tables, octets));
+    same(rt, found.count(), wanted.len());
+    for index in 0..wanted.len() {
+        let number = wanted.len() - index;
+        let own = wanted.get(number - 1).expect(rt, "a message");
+        assert_taken_out(rt, alloc, tables, &found, number, own);
+    }
+}
+
+fn all_viewed(rt: &impl Abort, alloc: Global) {
+    let tables = tables(rt, alloc);
+    for (octets, wanted) in REPORTS {
+        view_of(rt, alloc, &tables, *octets, *wanted);
+    }
+}
+
+#[test]
+fn messages_viewed(rt: HostRuntime) {
+    all_viewed(&rt, rt.alloc());
+}
+
+/// A listing of two messages is read, and each encodes to its octets.
+fn read_both(rt: &impl Abort, alloc: Global) {
+    let tables = tables(rt, alloc);
+    let mut listing = room(rt, alloc, 1000);
+    for _ in 0..2 {
+        listing.extend_from_slice(TEXTS_LISTED).expect(rt, "room");
+    }
+    let found = repeated!(rt, read(alloc, &tables, &listing));
+    same(rt, found.len(), 2);
+    for message in found.iter() {
+        assert_written(rt, alloc, &tables, message, COMPRESSED_TEXTS);
+    }
+}
+
+#[test]
+fn listings_read(rt: HostRuntime) {
+    read_both(&rt, rt.alloc());
 }
 
 /// Writes a message's listing to a fresh writer with room.

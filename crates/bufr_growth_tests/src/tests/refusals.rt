@@ -29,7 +29,6 @@ impl Refusal for ListingWriteFault {
     }
 }
 
-/// Stops the test at any other fault.
 pub(super) fn assert_refused<E: Refusal + Debug + Drop>(rt: &impl Abort, fault: E) {
     assert!(rt; fault.is_refusal(), "{fault:?}");
 }

@@ -1,5 +1,3 @@
-//! Tables and messages.
-
 use crate::tests::refusals::repeated;
 use bufr_tables::{TableB, TableD, Tables};
 use std::alloc::Global;

@@ -38,7 +38,6 @@ fn thousand_subsets(rt: &impl Abort, alloc: Global) -> String {
     format!(in alloc; "{HEADING}{subsets}end\n").expect(rt, "an answer")
 }
 
-/// Joins the parts of a message's listing.
 fn joined(rt: &impl Abort, alloc: Global, message: &Message) -> Vec<u8> {
     let sections = LentSections::of_message(message);
     let mut text = heading_text(alloc, &sections).expect(rt, "an answer");

@@ -1,5 +1,3 @@
-//! Tables and listings for the tests.
-
 use bufr_listing_reader::read;
 use bufr_sections::Message;
 use bufr_tables::{TableB, TableD, Tables};
@@ -29,7 +27,6 @@ FXY1,FXY2
 301012,004005
 ";
 
-/// Returns the first message of a listing.
 pub(super) fn first_message(rt: &impl Abort, alloc: Global, text: &str) -> Message {
     let b = TableB::parse(alloc, ELEMENTS.as_bytes()).expect(rt, "an answer");
     let d = TableD::parse(alloc, SEQUENCES.as_bytes()).expect(rt, "an answer");

@@ -31,11 +31,16 @@ const ONE_FRONT: &str = "42554652 000031 04 | S1 | 000009 00 0001 80 0C65 | 0000
 /// The start of a message of 255 times 150 temperatures: 76,551 octets.
 const FIELDS_FRONT: &str = "42554652 012B07 04 | S1 | 00000D 00 0001 80 4296 41FF 0C65 | 012AD8 00";
 
+/// The start of a message of a delayed replication of count 255: 562 octets.
+const COUNT_255_FRONT: &str =
+    "42554652 000232 04 | S1 | 00000D 00 0001 80 4100 1F01 0C65 | 000203 00 FF";
+
 /// A message's start and numbers, its number of reports, and the start and numbers of their
 /// canonical messages.
 const LONG: &[(&str, Numbers, usize, &str, u16)] = &[
     (THOUSAND_FRONT, (20_000, 1000), 1000, ONE_FRONT, 1),
     (FIELDS_FRONT, (0, 38_250), 1, FIELDS_FRONT, 38_250),
+    (COUNT_255_FRONT, (27_000, 255), 1, COUNT_255_FRONT, 255),
 ];
 
 /// The reports have such canonical messages, each with a first number one greater.

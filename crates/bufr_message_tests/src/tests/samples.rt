@@ -1,5 +1,3 @@
-//! Tables and octets for the tests.
-
 use bufr_tables::{TableB, TableD, Tables};
 use std::alloc::Global;
 use std::process::Abort;
@@ -15,6 +13,10 @@ FXY,ElementName_en,BUFR_Unit,BUFR_Scale,BUFR_ReferenceValue,BUFR_DataWidth_Bits
 004003,day,d,0,0,6
 004004,hour,h,0,0,5
 004005,minute,min,0,0,6
+005002,latitude,deg,2,-9000,15
+006002,longitude,deg,2,-18000,16
+007001,height of station,m,0,-400,15
+010004,pressure,Pa,-1,0,14
 012101,temperature,K,2,0,16
 031000,short delayed descriptor replication factor,Numeric,0,0,1
 031001,delayed descriptor replication factor,Numeric,0,0,8
@@ -29,6 +31,7 @@ FXY1,FXY2
 301011,004003
 301012,004004
 301012,004005
+301250,301250
 ";
 
 pub(crate) fn tables(rt: &impl Abort, alloc: Global) -> Tables {
@@ -100,6 +103,19 @@ pub(crate) const NO_SUBSETS: &str =
 pub(crate) const OPERATORS: &str = "\
 42554652 00003E 04 | S1 | 000013 00 0001 80 8182 8281 0C65 8100 8200 0C65 |
 000009 00 F4241AACC0 | END";
+
+/// One bit more: the second 201 takes the place of the first.
+pub(crate) const REPLACED_WIDTH: &str =
+    "42554652 000036 04 | S1 | 00000D 00 0001 80 8182 8181 0C65 | 000007 00 355980 | END";
+
+/// Scale, reference value and width raised together.
+pub(crate) const RAISED_TOGETHER: &str =
+    "42554652 000034 04 | S1 | 00000B 00 0001 80 8701 0C65 | 000007 00 42AFE0 | END";
+
+/// Raw numbers 8999, 0, 0, 10132 and 0 under reference values and a negative scale.
+pub(crate) const VALUES: &str = "\
+42554652 000041 04 | S1 | 000011 00 0001 80 0502 0602 0701 0A04 0A04 |
+00000E 00 464E0000000279400000 | END";
 
 pub(crate) const TEXT_WIDTH_AND_ESCAPES: &str =
     "42554652 000035 04 | S1 | 00000B 00 0001 80 8804 010B | 000008 00 41225C0A | END";

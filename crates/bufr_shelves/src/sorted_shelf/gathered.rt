@@ -1,4 +1,3 @@
-//! Shelves of gathered entries.
 ghost use Rattle.std.specs.Prelude.{◌≡◌, ◌++◌, ◌∷◌, [], IfOk, OnOk};
 ghost use Rattle.bufr_entries.specs.Entries.{kept};
 ghost use Rattle.bufr_entries.specs.Pages.{seen};
@@ -32,7 +31,6 @@ fn put_all(alloc: Global, shelf: &mut SortedShelf, left: &mut PagesLeft) -> Resu
     Ok(())
 }
 
-/// Puts a copy of an entry on a shelf.
 fn put_copy(alloc: Global, shelf: &mut SortedShelf, look: Look) -> Result<(), OutOfMemory>
     ensures { OnOk result (kept shelf.new ≡ kept (kept shelf.old ++ seen look.entry ∷ [])) }
 {

@@ -1,4 +1,3 @@
-//! Pairs of a sorted vector.
 ghost use Rattle.std.specs.Prelude.{◌≡◌, IfOk};
 
 use crate::rank::Exact;

@@ -1,4 +1,3 @@
-//! Entries gathered in any order.
 use super::*;
 
 fn gather(

@@ -1,4 +1,3 @@
-//! Marks of each kind of key.
 use super::*;
 
 /// A station: a WMO block and number, a WIGOS name, or a mobile name.

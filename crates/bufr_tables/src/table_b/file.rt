@@ -1,5 +1,3 @@
-//! Reads Table B.
-
 ghost use Rattle.std.specs.Prelude.{[], map};
 ghost use Rattle.csv.specs.Records.{fields_of};
 ghost use Rattle.bufr_base.specs.Answers.{Gives};

@@ -1,5 +1,3 @@
-//! Reads Table D.
-
 ghost use Rattle.std.specs.Prelude.{map};
 ghost use Rattle.bufr_base.specs.Answers.{Gives, result_map};
 ghost use Rattle.bufr_tables.specs.Rows.{member_row, with_member, no_sequences, all_sequences};

@@ -1,5 +1,3 @@
-//! Worked values of the definitions.
-
 ghost use Rattle.std.specs.Prelude.{◌≡◌, ◌∷◌, ◌++◌, [], Some, None, Ok, Err, true, false, pos};
 ghost use Rattle.std.specs.Prelude.{negsuc, codes, map, is_some};
 ghost use Rattle.std.specs.List.{list_all};

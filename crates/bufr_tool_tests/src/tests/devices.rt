@@ -1,13 +1,12 @@
-//! A reader and a writer that give, take and fail as a test says.
+//! A reader and a writer that give, take and fail as a test asks.
 
 ghost use Rattle.std.specs.Prelude.{◌≡◌, Some, None, false};
 
 use bufr_bits::{Failed, Sink, Source};
 use std::alloc::Global;
 
-/// A reader that gives so many octets a read, first the front of its octets up to a place, then the
-/// others; where `breaks` is told, it fails at its end. It remembers the most that a read asked
-/// for.
+/// A reader that gives at most `most` octets a read, first those before a place, then the others;
+/// if it `breaks`, it fails at its end. It keeps the most that a read asked for.
 #[derive(Drop)]
 pub(super) struct Reader<'a> {
     octets: &'a [u8],
@@ -64,8 +63,8 @@ impl Source for Reader<'_> {
     }
 }
 
-/// A writer that takes so many octets, some at a time, and then fails, at the flush too. It counts
-/// the pieces that it takes whole, and remembers how long the longest is.
+/// A writer that takes some octets, a few at a time, and then fails, at the flush too. It counts
+/// the pieces that it takes whole, and keeps the length of the longest.
 #[derive(Drop)]
 pub(super) struct Writer {
     pub(super) taken: Vec<u8>,
@@ -80,8 +79,15 @@ impl Writer {
     pub(super) fn new(alloc: Global, room: usize, most: usize) -> Self
         ensures { result.failed ≡ false }
     {
+        Writer::over(Vec::new(alloc), room, most)
+    }
+
+    /// Makes a writer that puts what it takes behind a list.
+    pub(super) fn over(taken: Vec<u8>, room: usize, most: usize) -> Self
+        ensures { result.failed ≡ false }
+    {
         Writer {
-            taken: Vec::new(alloc),
+            taken,
             room,
             most,
             pieces: 0,

@@ -1,16 +1,17 @@
-//! One read or one write fails at each place in turn, for each engine.
+//! A read or a write that fails at each place in turn, for each engine.
 
 use super::samples::{
     CHECKED, COMPRESSED_PAIR, COMPRESSED_PAIR_LISTING, ELEMENTS_ONLY, HEADING, LISTING,
-    MANY_SUBSETS, Part, SEQUENCES, SEQUENCES_LISTING, SUBSET, TWO_FRAMES, joined,
+    MANY_SUBSETS, PAIR_COMPRESSED, PAIR_LISTING, Part, SEQUENCES, SEQUENCES_LISTING, SUBSET,
+    TWO_FRAMES, joined,
 };
 use super::{Engine, Run, Seen, assert_run, same};
 use bufr_tool::{Input, ToolFault};
 use std::alloc::Global;
 use std::process::Abort;
 
-/// A read fails after a front of the stream of two frames, in pieces of so many octets: exactly the
-/// lines of the first message are written once it is read.
+/// A read fails within the stream of two frames: the engine has written exactly the lines of the
+/// first message once it has read it.
 fn assert_front(rt: &impl Abort, alloc: Global, octets: &[u8], engine: Engine, most: usize) {
     let place = octets.len();
     let text = match engine {
@@ -26,8 +27,8 @@ fn assert_front(rt: &impl Abort, alloc: Global, octets: &[u8], engine: Engine, m
     let _ = assert_run(rt, alloc, run, failed, text);
 }
 
-/// After so many octets a read fails: the first message stands from 18 to 80, and is printed as
-/// soon as its last octet is read; the second comes after a stray `BUFR`, so with the end alone.
+/// A read fails after each number of octets. The first message is at 18 to 80, and its lines come
+/// with its last octet. The second comes after a stray `BUFR`, so with the end alone.
 #[test]
 fn failing_reader_at_each_place(rt: HostRuntime) {
     let alloc = rt.alloc();
@@ -41,8 +42,23 @@ fn failing_reader_at_each_place(rt: HostRuntime) {
     }
 }
 
-/// A writer that has room for so many octets of a text fails once it has taken them, at the flush
-/// where it has taken all of them.
+/// A read of a listing fails after each octet, and at its end: nothing is written.
+#[test]
+fn failing_listing_at_each_place(rt: HostRuntime) {
+    for length in 0..=LISTING.len() {
+        let front = LISTING.get(..length).expect(&rt, "a front");
+        for most in [1usize, 7, 1000] {
+            let mut run = Run::new("listing", Engine::Encode(most == 7), front);
+            run.place = length;
+            run.most = most;
+            run.breaks = true;
+            let failed = Err(ToolFault::ReadFailed(Input::Number(1)));
+            let _ = assert_run(&rt, rt.alloc(), run, failed, b"");
+        }
+    }
+}
+
+/// A writer fails after `room` octets of a text, at the flush if it took all of them.
 fn assert_room(rt: &impl Abort, alloc: Global, run: Run<'_>, text: &[u8]) -> Seen {
     let room = run.room;
     let front = text.get(..room).expect(rt, "a front");
@@ -52,7 +68,7 @@ fn assert_room(rt: &impl Abort, alloc: Global, run: Run<'_>, text: &[u8]) -> See
     assert_run(rt, alloc, run, failed, front)
 }
 
-/// The writer fails after each number of octets, and serves where it has room for one more than all.
+/// The writer fails after each number of octets, and works if it has room for one more than all.
 fn assert_each_room(
     rt: &impl Abort,
     alloc: Global,
@@ -70,8 +86,7 @@ fn assert_each_room(
     let _ = assert_run(rt, alloc, run, Ok(counts), text);
 }
 
-/// An engine, its input, how many octets are read and taken at a time, and what is counted and
-/// written.
+/// An engine, its input, the octets of a read and of a write, the counts and the output.
 type Row = (
     Engine,
     &'static [Part<'static>],
@@ -81,9 +96,9 @@ type Row = (
     &'static [Part<'static>],
 );
 
-/// A listing octet by octet, its lines in parts; the lines of `check`, whose stream is read in
-/// pieces; two messages that are encoded.
-const ROWS: [Row; 6] = [
+/// A listing octet by octet, its lines in parts; the lines of `check` of a stream in pieces; two
+/// messages to encode, and one that is compressed.
+const ROWS: [Row; 7] = [
     (
         Engine::Show,
         &[(ELEMENTS_ONLY, 1)],
@@ -132,6 +147,14 @@ const ROWS: [Row; 6] = [
         (2, 0, 0),
         &[(ELEMENTS_ONLY, 1), (SEQUENCES, 1)],
     ),
+    (
+        Engine::Encode(true),
+        &[(PAIR_LISTING, 1)],
+        1000,
+        1,
+        (1, 0, 0),
+        &[(PAIR_COMPRESSED, 1)],
+    ),
 ];
 
 #[test]
@@ -146,8 +169,8 @@ fn failing_writers(rt: HostRuntime) {
     }
 }
 
-/// Rooms of a writer that fails within the first part of the listing, between the parts, within the
-/// second, or with the last octet; how many pieces it takes whole, and how long the longest is.
+/// The rooms of a writer that fails within the first part of the listing, between the parts, within
+/// the second, or with the last octet; the pieces that it takes whole, and the longest.
 const ROOMS: [(usize, u32, usize); 4] = [
     (1000, 0, 0),
     (65_552, 1, 65_552),
@@ -155,9 +178,8 @@ const ROOMS: [(usize, u32, usize); 4] = [
     (68_105, 1, 65_552),
 ];
 
-/// A long listing, of 102 + 17 * 4000 + 4 octets, is written in two parts: the first ends with the
-/// subset whose lines make it 65,536 octets long or longer, which is the 3,850th: 102 + 17 * 3850
-/// are 65,552.
+/// A long listing, of 102 + 17 * 4000 + 4 octets, goes out in two parts: the first ends with the
+/// 3,850th subset, whose lines make it longer than 65,535 octets: 102 + 17 * 3850 are 65,552.
 #[test]
 fn long_listing_in_two_parts(rt: HostRuntime) {
     let alloc = rt.alloc();
@@ -173,7 +195,6 @@ fn long_listing_in_two_parts(rt: HostRuntime) {
     }
 }
 
-/// A short listing is written at once.
 #[test]
 fn short_listing_at_once(rt: HostRuntime) {
     let run = Run::new("short listing", Engine::Show, ELEMENTS_ONLY);

@@ -107,7 +107,7 @@ subset\n\
 012101 missing\n\
 end\n";
 
-/// A plain listing of two subsets, of which the second has another temperature.
+/// A plain listing of two subsets, the second with another temperature.
 pub(super) const PAIR_LISTING: &[u8] = b"message\n\
 section1 98 0 0 0 2 0 37 0\n\
 time 2024 1 15 12 0 0\n\
@@ -133,7 +133,7 @@ subset\n\
 012101 273.16\n\
 end\n";
 
-/// What it is where it is compressed: 68 octets.
+/// Its compressed message: 68 octets.
 pub(super) const PAIR_COMPRESSED: &[u8] = b"BUFR\x00\x00\x44\x04\
 \x00\x00\x16\x00\x00\x62\x00\x00\x00\x00\x00\x02\x00\x25\x00\x07\xE8\x01\x0F\x0C\x00\x00\
 \x00\x00\x0F\x00\x00\x02\xC0\xC1\x01\xC1\x0B\xC1\x0C\x0C\x65\
@@ -166,10 +166,10 @@ time 2024 1 15 12 0 0\n\
 flags observed compressed\n\
 descriptors 001001\n";
 
-/// Those of a subset: 17 octets.
+/// The lines of a subset: 17 octets.
 pub(super) const SUBSET: &[u8] = b"subset\n001001 10\n";
 
-/// Octets that come so often, one behind another.
+/// Octets, and how often they come, one after another.
 pub(super) type Part<'a> = (&'a [u8], u32);
 
 /// A bulletin's heading, the message, a stray `BUFR`, and the message again: 146 octets.
@@ -180,10 +180,9 @@ pub(super) const TWO_FRAMES: &[Part<'static>] = &[
     (SEQUENCES, 1),
 ];
 
-/// What checking them writes.
+/// The output of `check` for them.
 pub(super) const CHECKED: &[u8] = b"18 62 ok 1 0\n84 62 ok 1 0\nframes 2 refused 0 skipped 22\n";
 
-/// The tables of the tests.
 pub(super) fn tables(rt: &impl Abort, alloc: Global) -> Tables {
     Tables::new(
         TableB::parse(alloc, TABLE_B).expect(rt, "an answer"),
@@ -191,7 +190,7 @@ pub(super) fn tables(rt: &impl Abort, alloc: Global) -> Tables {
     )
 }
 
-/// These parts one behind another.
+/// Joins parts.
 pub(super) fn joined(rt: &impl Abort, alloc: Global, parts: &[Part<'_>]) -> Vec<u8> {
     let mut octets = Vec::new(alloc);
     for (part, times) in parts {

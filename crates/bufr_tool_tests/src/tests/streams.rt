@@ -9,7 +9,7 @@ use bufr_tool::{Input, ToolFault};
 use std::alloc::Global;
 use std::process::Abort;
 
-/// 16 MB of `BUFR` are skipped. Each read asks for 65,536 octets.
+/// The engine skips 16 MB of `BUFR`. Each read asks for 65,536 octets.
 #[test]
 fn bufr_without_end(rt: HostRuntime) {
     let alloc = rt.alloc();
@@ -21,7 +21,7 @@ fn bufr_without_end(rt: HostRuntime) {
     same(&rt, (seen.asked, seen.reads), (65_536, 257));
 }
 
-/// Whether compression is asked for, a listing, and what it is encoded to.
+/// Whether to compress, a listing, and its octets.
 const LISTINGS: [(bool, &[u8], &[u8]); 2] = [
     (false, LISTING, ELEMENTS_ONLY),
     (true, PAIR_LISTING, PAIR_COMPRESSED),
@@ -37,7 +37,7 @@ fn listings_encoded(rt: HostRuntime) {
     }
 }
 
-/// Answers: no end, a failed read, a listing without its end, no frame.
+/// Results: no end, a failed read, a listing without its end, no frame.
 const ENDLESS: Counted = Err(ToolFault::EndlessInput(Input::Number(1)));
 
 const READ_FAILED: Counted = Err(ToolFault::ReadFailed(Input::Number(1)));
@@ -46,7 +46,6 @@ const BAD_LINE: Counted = Err(ToolFault::Listing(ListingFault::BadLine(1)));
 
 const NONE: Counted = Ok((0, 0, 0));
 
-/// So many octets.
 const TWO_THOUSAND: &[Part<'static>] = &[(b"B", 2000)];
 
 const HUNDRED: &[Part<'static>] = &[(b"B", 100)];
@@ -57,10 +56,10 @@ const THREE: &[Part<'static>] = &[(b"BBB", 1)];
 
 const TWO: &[Part<'static>] = &[(b"BB", 1)];
 
-/// Octets come one a read, so many reads are allowed, and the reader then ends or fails: what is
-/// answered and written. Each source that never ends is told after as many reads as were allowed, and
-/// no more; a source that ends just in time is read; what was told before too many reads stays.
-const DRIPPED: [(Engine, u32, &[Part<'static>], bool, Counted, &[u8]); 23] = [
+/// An engine, the reads allowed, octets that come one a read, whether the reader then fails, the
+/// result and the output. The engine returns an endless source after exactly the reads allowed,
+/// reads a source that ends just in time, and keeps what it wrote before.
+const DRIPPED: [(Engine, u32, &[Part<'static>], bool, Counted, &[u8]); 29] = [
     (Engine::Show, 4, HUNDRED, false, ENDLESS, b""),
     (Engine::Show, 4, FOUR, false, ENDLESS, b""),
     (Engine::Show, 4, THREE, false, NONE, b""),
@@ -73,6 +72,12 @@ const DRIPPED: [(Engine, u32, &[Part<'static>], bool, Counted, &[u8]); 23] = [
     (Engine::Encode(false), 4, &[], false, NONE, b""),
     (Engine::Encode(false), 4, TWO, true, READ_FAILED, b""),
     (Engine::Encode(false), 4, &[], true, READ_FAILED, b""),
+    (Engine::Encode(false), 0, &[], false, ENDLESS, b""),
+    (Engine::Encode(false), 0, TWO_THOUSAND, false, ENDLESS, b""),
+    (Engine::Encode(false), 1, TWO_THOUSAND, false, ENDLESS, b""),
+    (Engine::Encode(true), 0, TWO_THOUSAND, false, ENDLESS, b""),
+    (Engine::Encode(true), 1, TWO_THOUSAND, false, ENDLESS, b""),
+    (Engine::Encode(true), 1, &[], false, NONE, b""),
     (Engine::Show, 0, TWO_THOUSAND, false, ENDLESS, b""),
     (Engine::Show, 1, TWO_THOUSAND, false, ENDLESS, b""),
     (Engine::Show, 4, TWO_THOUSAND, false, ENDLESS, b""),
@@ -107,7 +112,6 @@ const DRIPPED: [(Engine, u32, &[Part<'static>], bool, Counted, &[u8]); 23] = [
     ),
 ];
 
-/// Octets that come one a read are answered so, in so many reads.
 fn assert_dripped(
     rt: &impl Abort,
     alloc: Global,
@@ -137,7 +141,7 @@ fn endless_and_failing_readers(rt: HostRuntime) {
     }
 }
 
-/// The stream gives the same lines wherever it is cut into two pieces.
+/// The stream gives the same lines wherever a test cuts it into two pieces.
 #[test]
 fn two_frames_and_a_stray_in_any_pieces(rt: HostRuntime) {
     let octets = joined(&rt, rt.alloc(), TWO_FRAMES);

@@ -8,8 +8,8 @@ use bufr_tool::{Input, ToolFault, load_tables};
 use std::alloc::Global;
 use std::process::Abort;
 
-/// Loading two texts in so many reads, so many octets a read, whose readers then end or fail, is
-/// told as this. Answers how often each was read, and the most octets that a read asked for.
+/// Loads two texts in `reads` reads from readers that then end or fail, and compares the result.
+/// Returns the reads of each, and the most octets that a read asked for.
 fn assert_loaded(
     rt: &impl Abort,
     alloc: Global,
@@ -25,7 +25,6 @@ fn assert_loaded(
     [(b.reads, b.asked), (d.reads, d.asked)]
 }
 
-/// Tables are loaded by reads that ask for 65,536 octets.
 #[test]
 fn tables_loaded(rt: HostRuntime) {
     let (b, d) = ((TABLE_B, false), (TABLE_D, false));
@@ -33,7 +32,7 @@ fn tables_loaded(rt: HostRuntime) {
     same(&rt, (b_asked, d_asked), (65_536, 65_536));
 }
 
-/// Texts of Table B and Table D, and why they can't be loaded.
+/// Texts of Table B and Table D, and their fault.
 const LOADED: [(&[u8], &[u8], Option<ToolFault>); 2] = [
     (
         TABLE_B,
@@ -47,7 +46,7 @@ const LOADED: [(&[u8], &[u8], Option<ToolFault>); 2] = [
     ),
 ];
 
-/// Why they can't be loaded from readers that fail or never end.
+/// The faults of readers that fail or never end.
 const B_FAILED: Option<ToolFault> = Some(ToolFault::ReadFailed(Input::TableB));
 
 const D_FAILED: Option<ToolFault> = Some(ToolFault::ReadFailed(Input::TableD));
@@ -57,8 +56,8 @@ const B_ENDLESS: Option<ToolFault> = Some(ToolFault::EndlessInput(Input::TableB)
 /// Ten thousand reads of five octets.
 const MANY: (u32, usize) = (10_000, 5);
 
-/// A table's reader that fails at any place is told, whatever it had given; that of Table D only
-/// where Table B was read.
+/// A reader of a table fails at each place, whatever it gave before; that of Table D only after
+/// Table B.
 #[test]
 fn faults_of_tables(rt: HostRuntime) {
     let alloc = rt.alloc();
@@ -84,8 +83,8 @@ fn faults_of_tables(rt: HostRuntime) {
     }
 }
 
-/// Tables that never end are told of the first after as many reads as were allowed, and the other
-/// is not read.
+/// The first endless table is the fault after exactly the reads allowed, and the engine does not
+/// read the other.
 #[test]
 fn endless_tables(rt: HostRuntime) {
     let lines = [b'\n'; 2000];

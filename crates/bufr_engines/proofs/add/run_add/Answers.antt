@@ -1,5 +1,4 @@
--- The clauses of `run_add`: entry by entry the text of the archive after all streams were added, and
--- the counts.
+-- Entry by entry, the loop hands on the text of the archive that the streams make.
 use Rattle.std.proofs.Common.{◌<◌, ℕ, List, Ok, Err, length, map, refl, ap, subst, ◌∙◌, arith}
 use Rattle.std.proofs.lemmas.List.{length-map}
 use Rattle.bufr_bits.specs.Devices.{Writing}
@@ -17,7 +16,6 @@ use Rattle.bufr_engines.proofs.HandOnFacts.{joined_text, handed_first, handed_ne
 use Rattle.bufr_engines.proofs.HandOnFacts.{handed_all}
 use Rattle.bufr_engines.proofs.add.run_add.Goals as goal
 
--- at first the octets of no entry were handed on
 pub loop-octets-init : goal.loop-octets-init
 loop-octets-init g c =
     let writer : Writing = g.W.Sink.writing c.args.writer.now in
@@ -27,7 +25,6 @@ loop-octets-init g c =
     omega (arith, c.len-reports.ensures, c.len-reports.type_inv, is) in
     handed_first writer part c.lent-left.result c.requires.works refl c.clear.ensures.items few
 
--- those of one entry more were written or gathered
 pub loop-octets-preserved : goal.loop-octets-preserved
 loop-octets-preserved g c =
     handed_next (g.W.Sink.writing c.args.writer.now) (g.W.Sink.writing c.loop-octets.writer)
@@ -36,7 +33,6 @@ loop-octets-preserved g c =
     c.loop-octets.invariant c.in-Some.ensures.taken c.in_ok-hand_on.ensures.hands
     c.in_ok-hand_on.ensures.short
 
--- where the writer fails, what it took is a front of the text
 pub returns-in_err-hand_on-clause-adds : goal.returns-in_err-hand_on-clause-adds
 returns-in_err-hand_on-clause-adds g c =
     let olds = map g.S.Source.reading c.args.readers.now in
@@ -62,7 +58,6 @@ returns-in_err-hand_on-clause-adds g c =
     c.loop-octets.left c.next.new.self c.in-Some.octets.now e c.loop-octets.invariant
     c.in-Some.ensures.taken c.in_err-hand_on.ensures.hands))
 
--- so it is where it fails at the last part
 pub returns-in_err-write_out-clause-adds : goal.returns-in_err-write_out-clause-adds
 returns-in_err-write_out-clause-adds g c =
     let olds = map g.S.Source.reading c.args.readers.now in
@@ -88,7 +83,6 @@ returns-in_err-write_out-clause-adds g c =
     (subst (λ (xs : List ℕ). WritesAfter part.written xs mid now (Err e)) c.deref.ensures.value
     c.in_err-write_out.ensures)))
 
--- where all is written, it is the text of what all streams tell, and the counts are theirs
 pub returns-clause-adds : goal.returns-clause-adds
 returns-clause-adds g c =
     let olds = map g.S.Source.reading c.args.readers.now in

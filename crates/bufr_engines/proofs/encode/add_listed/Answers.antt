@@ -1,4 +1,4 @@
--- The clause of `add_listed`: message by message, until none is left or a fault stands in the way.
+-- Message by message, until none is left, the listing has a fault or a message has no encoding.
 use Rattle.std.proofs.Common.{◌∙◌}
 use Rattle.bufr_base.specs.Answers.{result_map}
 use Rattle.bufr_engines.specs.Encoding.{EncodesListing}
@@ -7,7 +7,6 @@ use Rattle.bufr_io.specs.PassingLaws.{passed}
 use Rattle.bufr_engines.proofs.EncodingFacts.{reading_stopped, encoding_stopped}
 use Rattle.bufr_engines.proofs.encode.add_listed.Goals as goal
 
--- nothing was read before the first message
 pub loop-messages-init : goal.loop-messages-init
 loop-messages-init c = record {
   so_far = none_encoded _ _ _ _ _ c.requires.none c.of-messages.ensures.listed
@@ -15,7 +14,6 @@ loop-messages-init c = record {
   kept = c.requires.kept;
 }
 
--- the next message was encoded, and is counted
 pub loop-messages-preserved : goal.loop-messages-preserved
 loop-messages-preserved c =
     let h = rw c.in-Some.is at c.in_ok-message.ensures in
@@ -28,13 +26,11 @@ loop-messages-preserved c =
       kept = c.add_octets.ensures.same ∙ c.loop-messages.invariant.kept;
     }
 
--- where none is left, all are encoded
 pub returns : goal.returns
 returns c =
     let h = rw c.in_default.is at c.in_ok-message.ensures in
     all_encoded _ _ _ _ _ _ c.loop-messages.invariant.so_far h.0
 
--- reading stopped at a fault of the listing
 pub returns-in_err-message : goal.returns-in_err-message
 returns-in_err-message c =
     passed (λ r. EncodesListing c.args.tables.now c.args.compressed c.args.text.now
@@ -44,7 +40,6 @@ returns-in_err-message c =
     c.next_of.new.messages c.loop-messages.octets.items c.loop-messages.count
     c.in_err-message.field-0.0 c.loop-messages.invariant.so_far c.in_err-message.ensures)
 
--- a message has no encoding
 pub returns-in-Err : goal.returns-in-Err
 returns-in-Err c =
     let h = rw c.in-Some.is at c.in_ok-message.ensures in

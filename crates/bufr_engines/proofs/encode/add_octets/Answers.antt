@@ -1,8 +1,7 @@
--- The clauses of `add_octets`: the encoding of the message, behind the others.
+-- The encoding of the message comes after the others.
 use Rattle.std.proofs.Common.{ℕ, List, ◌++◌, ◌∙◌, ap}
 use Rattle.bufr_engines.proofs.encode.add_octets.Goals as goal
 
--- it was added
 pub returns-clause-ok : goal.returns-clause-ok
 returns-clause-ok c = (
   c.in_ok-more.more.items,

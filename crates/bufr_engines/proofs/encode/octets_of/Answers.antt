@@ -1,9 +1,8 @@
--- The clause of `octets_of`, where a fault stands in the way.
+-- The fault of `add_listed` is the fault of all.
 use Rattle.bufr_engines.specs.Encoding.{EncodesListing}
 use Rattle.bufr_io.specs.PassingLaws.{passed}
 use Rattle.bufr_engines.proofs.encode.octets_of.Goals as goal
 
--- the fault is told
 pub returns-in_err-count : goal.returns-in_err-count
 returns-in_err-count c =
     passed (λ r. EncodesListing c.args.tables.now c.args.compressed c.args.text.now r)

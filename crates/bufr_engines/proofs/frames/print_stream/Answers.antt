@@ -1,4 +1,4 @@
--- The clause `prints` of `print_stream`: the stream was taken in to its end, or that ended early.
+-- The printer takes in the stream to its end, or ends early.
 use Rattle.std.proofs.Common.{Err, arith}
 use Rattle.bufr_io.specs.declared.fault.ToolFault.TheVariants as faults
 use Rattle.bufr_engines.specs.StreamEngines.{Prints}
@@ -7,7 +7,6 @@ use Rattle.bufr_engines.proofs.StreamFacts.{since_none}
 use Rattle.bufr_engines.proofs.EngineFacts.{prints_early, prints_made, prints_nothing, prints_whole}
 use Rattle.bufr_engines.proofs.frames.print_stream.Goals as goal
 
--- where there is no memory for the room to read into, nothing was read or written
 pub returns-in_err-room-clause-prints : goal.returns-in_err-room-clause-prints
 returns-in_err-room-clause-prints g c =
     passed
@@ -17,16 +16,13 @@ returns-in_err-room-clause-prints g c =
     c.from_residual.result faults.OutOfMemory c.from_residual.ensures.1
     (prints_nothing _ _ c.args.reads _ _ c.requires.fresh c.requires.works)
 
--- at first no frame was printed
 pub take_stream-requires-clause-none_taken : goal.take_stream-requires-clause-none_taken
 take_stream-requires-clause-none_taken g c =
     let e = c.new-printer.ensures in since_none _ _ e.frames e.refused e.octets e.written e.held c.requires.works
 
--- and no line is held
 pub take_stream-requires-clause-none_held : goal.take_stream-requires-clause-none_held
 take_stream-requires-clause-none_held g c = c.new-printer.ensures.held
 
--- where the stream was not taken in to its end, it was not printed to its end
 pub returns-in_err-fed-clause-prints : goal.returns-in_err-fed-clause-prints
 returns-in_err-fed-clause-prints g c =
     let e = c.new-printer.ensures in
@@ -45,12 +41,10 @@ returns-in_err-fed-clause-prints g c =
     (g.W.Sink.writing c.args.writer.now) c.take_stream.new.taker
     (g.W.Sink.writing c.take_stream.new.out) c.in_err-fed.field-0.0 c.in_err-fed.ensures.takes))
 
--- fewer than 2 ^ 48 octets were read
 pub print_tally-requires-clause-long : goal.print_tally-requires-clause-long
 print_tally-requires-clause-long g c =
     let t = c.in_ok-fed.ensures.takes in omega (arith, t.5, t.6, c.requires.few)
 
--- all frames of the stream were printed
 pub print_tally-requires-clause-ended : goal.print_tally-requires-clause-ended
 print_tally-requires-clause-ended g c =
     let t = c.in_ok-fed.ensures.takes in (
@@ -61,7 +55,6 @@ print_tally-requires-clause-ended g c =
       record { printed = t.4.printed; long = t.5 },
     )
 
--- and what stands after them, or a front of all
 pub returns-clause-prints : goal.returns-clause-prints
 returns-clause-prints g c =
     let e = c.new-printer.ensures in

@@ -1,4 +1,4 @@
--- The clause of `print_tally`: the counts of the whole stream, and the text behind its frames.
+-- The counts are of the whole stream, and the last text comes after its frames.
 use Rattle.std.proofs.Common.{◌≡◌, arith, ◌∙◌, ap, refl, sym}
 use Rattle.bufr_frame.specs.Streams.{cut}
 use Rattle.bufr_engines.specs.declared.printer.Printer.{Printer}
@@ -11,7 +11,6 @@ use Rattle.bufr_engines.proofs.StreamFacts.{end_tally, end_done, end_fails, end_
 use Rattle.bufr_engines.proofs.frames.print_tally.Goals as goal
 use Rattle.bufr_engines.proofs.frames.print_tally.Goals.{in-Shown, in-Checked}
 
--- the frames have no more octets than the stream
 pub overflow_sub-skipped : goal.overflow_sub-skipped
 overflow_sub-skipped g c =
     let s = c.requires.ended in
@@ -20,7 +19,6 @@ overflow_sub-skipped g c =
     let e = cut_short s.3 in
     omega arith
 
--- where there is no memory for the last line, those of frames are held
 pub stop-requires : goal.stop-requires
 stop-requires g c =
     let s = c.requires.ended in
@@ -35,7 +33,6 @@ stop-requires g c =
       );
     }
 
--- and then written
 pub returns-in_default : goal.returns-in_default
 returns-in_default g c printing tables first stream h =
     let p = c.args.printer.now in
@@ -45,7 +42,6 @@ returns-in_default g c printing tables first stream h =
     (end_halted printing tables first _ p now c.args.fed stream h c.requires.long
     c.in_default.ensures.err refl))
 
--- the octets that are written for all frames and those that are held can be counted
 pub write_out-requires-clause-fits : goal.write_out-requires-clause-fits
 write_out-requires-clause-fits g c =
     let s = c.requires.ended in
@@ -56,7 +52,6 @@ write_out-requires-clause-fits g c =
     let e = c.requires.long in
     omega arith
 
--- where writing the last text fails, a front of what is printed of the stream was written
 pub returns-in_err-write_out : goal.returns-in_err-write_out
 returns-in_err-write_out g c printing tables first stream h =
     let p = c.args.printer.now in
@@ -75,7 +70,6 @@ returns-in_err-write_out g c printing tables first stream h =
     (end_fails printing tables first _ _ c.args.printer.now c.args.fed stream c.deref.result.now _ _
     h tally (c.deref.ensures.value ∙ c.in-Ok.ensures.ok) c.in_err-write_out.ensures)
 
--- with the last text all that is printed of the stream was written, and this is its tally
 pub returns : goal.returns
 returns g c printing tables first stream h =
     let p = c.args.printer.now in

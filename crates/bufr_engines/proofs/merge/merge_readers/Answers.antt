@@ -1,4 +1,4 @@
--- The clauses of `merge_readers`: reader by reader, until one is no archive or cannot be read.
+-- Reader by reader, until one is no archive or a read fails.
 use Rattle.std.proofs.Common.{◌<◌, length, map, arith, slice_set, Result, Vec, Global, ap, ◌∙◌}
 use Rattle.std.proofs.lemmas.List.{map-set}
 use Rattle.bufr_base.specs.Answers.{result_map}
@@ -12,7 +12,6 @@ use Rattle.bufr_engines.proofs.CollectFacts.{merged_first, merged_next, bounded_
 use Rattle.bufr_engines.proofs.StackFacts.{none_under, one_under, put_above_is}
 use Rattle.bufr_engines.proofs.merge.merge_readers.Goals as goal
 
--- at first no reader was read, and nothing is merged
 pub loop-index-init : goal.loop-index-init
 loop-index-init g c = (
   none_under c.args.tables.now c.new-texts.result.items c.new-texts.ensures.items,
@@ -20,11 +19,9 @@ loop-index-init g c = (
       (ap (together c.args.tables.now) c.new-texts.ensures.items),
 )
 
--- the texts so far are under the tables
 pub settle-requires : goal.settle-requires
 settle-requires g c = c.loop-index.invariant.0
 
--- the next reader was not read before
 pub read_archive-requires-clause-fresh : goal.read_archive-requires-clause-fresh
 read_archive-requires-clause-fresh g c =
     let inv = c.loop-index.invariant.1 in
@@ -33,7 +30,6 @@ read_archive-requires-clause-fresh g c =
     (reach_item g.S.Source.reading _ c.loop-index.readers inv.texts c.loop-index.index
     c.index-readers-index.result inv.through inside)
 
--- the archive of one reader more is merged
 pub loop-index-preserved : goal.loop-index-preserved
 loop-index-preserved g c =
     let inv = c.loop-index.invariant.1 in
@@ -60,7 +56,6 @@ loop-index-preserved g c =
           ∙ ap (λ (a : ArchiveView). merged a archive) c.in-Ok.ensures.ok),
     )
 
--- each reader was read at most so often, the one that cannot be read or is no archive too
 pub returns-in_err-archive-clause-bounded : goal.returns-in_err-archive-clause-bounded
 returns-in_err-archive-clause-bounded g c =
     bounded_next c.args.reads (map g.S.Source.reading c.loop-index.readers) _ c.loop-index.index
@@ -68,7 +63,6 @@ returns-in_err-archive-clause-bounded g c =
     (map-set g.S.Source.reading c.loop-index.readers c.loop-index.index c.read_archive.new.reader)
     c.in_err-archive.ensures.bounded
 
--- and so it is where no memory is had to merge
 pub returns-in_default-push-clause-bounded : goal.returns-in_default-push-clause-bounded
 returns-in_default-push-clause-bounded g c =
     bounded_next c.args.reads (map g.S.Source.reading c.loop-index.readers) _ c.loop-index.index
@@ -76,7 +70,6 @@ returns-in_default-push-clause-bounded g c =
     (map-set g.S.Source.reading c.loop-index.readers c.loop-index.index c.read_archive.new.reader)
     c.in_ok-archive.ensures.bounded
 
--- where a reader cannot be read or is no archive, its fault is told
 pub returns-in_err-archive-clause-merges : goal.returns-in_err-archive-clause-merges
 returns-in_err-archive-clause-merges g c =
     let inv = c.loop-index.invariant.1 in
@@ -99,10 +92,8 @@ returns-in_err-archive-clause-merges g c =
     (map-set g.S.Source.reading c.loop-index.readers c.loop-index.index c.read_archive.new.reader)
     c.in_err-archive.ensures.reads)
 
--- all readers were read out
 pub returns-clause-bounded : goal.returns-clause-bounded
 returns-clause-bounded g c = c.loop-index.invariant.1.bounded
 
--- the texts of all are under the tables
 pub returns-clause-under : goal.returns-clause-under
 returns-clause-under g c = c.loop-index.invariant.0

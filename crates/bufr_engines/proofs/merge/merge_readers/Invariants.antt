@@ -1,10 +1,9 @@
--- The loop of `merge_readers`: the readers read out so far, and what was merged of them.
 use Rattle.std.proofs.Common.{map}
 use Rattle.bufr_engines.specs.Stacks.{together, AreUnderTables}
 use Rattle.bufr_engines.proofs.CollectFacts.{MergedThrough}
 use Rattle.bufr_engines.proofs.merge.merge_readers.Given as goal
 
--- the archives of the readers so far were merged
+-- the stack holds the archives of the readers so far
 abbrev pub invariant-loop-index : goal.invariant-loop-index
 invariant-loop-index g l =
     AreUnderTables l.tables l.texts.items

@@ -1,4 +1,4 @@
--- The clause `merges` of `run_merge`: the text of the merged archive, and the counts.
+-- The text and the counts of the merged archive, or its first octets.
 use Rattle.std.proofs.Common.{length, map, sym, subst, Ok, Err}
 use Rattle.std.proofs.lemmas.List.{length-map}
 use Rattle.bufr_gather.specs.Archives.{ArchiveView}
@@ -9,7 +9,6 @@ use Rattle.bufr_io.specs.PassingLaws.{passed}
 use Rattle.bufr_engines.proofs.CollectFacts.{merges_ok, merges_fails}
 use Rattle.bufr_engines.proofs.merge.run_merge.Goals as goal
 
--- where the text is not written whole, a front of it was, or nothing
 pub returns-in_err-reports-clause-merges : goal.returns-in_err-reports-clause-merges
 returns-in_err-reports-clause-merges g c =
     let olds = map g.S.Source.reading c.args.readers.now in
@@ -25,7 +24,6 @@ returns-in_err-reports-clause-merges g c =
     (subst (λ (a : ArchiveView). WritesArchive a writer now (Err e)) c.in_ok-lowest.ensures.all
     c.in_err-reports.ensures))
 
--- where all is read, merged and written, it is the text of the reports of all archives
 pub returns-clause-merges : goal.returns-clause-merges
 returns-clause-merges g c =
     let olds = map g.S.Source.reading c.args.readers.now in

@@ -1,4 +1,4 @@
--- The clause of `write_both`: the octets of the entries of both are the text of both merged.
+-- The octets of the entries of both are the text of both merged.
 use Rattle.std.proofs.Common.{◌≡◌, ℕ, List, length, ap, subst, ◌∙◌, arith}
 use Rattle.std.proofs.lemmas.List.{length-map}
 use Rattle.bufr_bits.specs.Devices.{Writing}
@@ -11,12 +11,10 @@ use Rattle.bufr_io.specs.PassingLaws.{passed}
 use Rattle.bufr_engines.proofs.HandOnFacts.{archive_fails, joined_text}
 use Rattle.bufr_engines.proofs.merge.write_both.Goals as goal
 
--- the entries can be counted
 pub write_merged-requires-clause-few : goal.write_merged-requires-clause-few
 write_merged-requires-clause-few g c =
     omega (arith, c.len-reports.ensures, c.len-reports.type_inv)
 
--- where the writer fails, what it took is a front of the text
 pub returns-in_err-write_merged : goal.returns-in_err-write_merged
 returns-in_err-write_merged g c =
     let old : Writing = g.W.Sink.writing c.args.writer.now in
@@ -29,7 +27,6 @@ returns-in_err-write_merged g c =
     c.from_residual-in_err-write_merged.ensures.1
     (archive_fails old now both _ e is c.in_err-write_merged.ensures)
 
--- where all was written, it is the text, and the reports were counted
 pub returns : goal.returns
 returns g c =
     let old : Writing = g.W.Sink.writing c.args.writer.now in

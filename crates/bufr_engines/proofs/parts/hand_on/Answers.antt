@@ -1,4 +1,4 @@
--- The clauses of `hand_on`: where the octets are written behind those that were gathered.
+-- The octets go to the writer after those gathered, or the part gathers them.
 use Rattle.std.proofs.Common.{◌≡◌, ℕ, ◌+◌, List, [], ◌++◌, length, sym, subst, arith}
 use Rattle.std.proofs.lemmas.List.{append-nil}
 use Rattle.bufr_bits.specs.Devices.{Writing}
@@ -9,7 +9,6 @@ use Rattle.bufr_io.specs.PassingLaws.{passed}
 use Rattle.bufr_engines.proofs.HandOnFacts.{after_out, gathers_none}
 use Rattle.bufr_engines.proofs.parts.hand_on.Goals as goal
 
--- the writer failed behind those that were gathered
 pub returns-in_err-write_after-2-clause-hands : goal.returns-in_err-write_after-2-clause-hands
 returns-in_err-write_after-2-clause-hands g c =
     let old : Writing = g.W.Sink.writing c.args.writer.now in
@@ -29,7 +28,6 @@ returns-in_err-write_after-2-clause-hands g c =
     (subst (λ (xs : List ℕ). WritesAll old mid xs) c.deref.ensures.value c.in_ok-write_after.ensures)
     counted (sym (append-nil (held ++ octets))) c.in_err-write_after-2.ensures)
 
--- both were written
 pub returns-clause-hands : goal.returns-clause-hands
 returns-clause-hands g c =
     let old : Writing = g.W.Sink.writing c.args.writer.now in

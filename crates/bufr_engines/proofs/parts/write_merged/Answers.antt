@@ -1,4 +1,4 @@
--- The clause of `write_merged`: entry after entry, and then what is left of them.
+-- Entry by entry, and then the last part.
 use Rattle.std.proofs.Common.{ℕ, List, subst}
 use Rattle.bufr_bits.specs.Devices.{Writing}
 use Rattle.bufr_io.specs.Engines.{WritesAfter}
@@ -7,13 +7,11 @@ use Rattle.bufr_io.specs.PassingLaws.{passed}
 use Rattle.bufr_engines.proofs.HandOnFacts.{handed_first, handed_next, handed_fails, handed_all}
 use Rattle.bufr_engines.proofs.parts.write_merged.Goals as goal
 
--- at first the octets of no entry were handed on
 pub loop-octets-init : goal.loop-octets-init
 loop-octets-init g c =
     handed_first (g.W.Sink.writing c.args.writer.now) c.args.part.now c.args.left.now
     c.requires.works c.requires.begins c.requires.empty c.requires.few
 
--- those of one entry more were written or gathered
 pub loop-octets-preserved : goal.loop-octets-preserved
 loop-octets-preserved g c =
     handed_next (g.W.Sink.writing c.args.writer.now) (g.W.Sink.writing c.loop-octets.writer)
@@ -22,7 +20,6 @@ loop-octets-preserved g c =
     c.loop-octets.invariant c.in-Some.ensures.taken c.in_ok-hand_on.ensures.hands
     c.in_ok-hand_on.ensures.short
 
--- where the writer fails, what it took is a front of them
 pub returns-in_err-hand_on : goal.returns-in_err-hand_on
 returns-in_err-hand_on g c =
     let old : Writing = g.W.Sink.writing c.args.writer.now in
@@ -34,7 +31,6 @@ returns-in_err-hand_on g c =
     c.args.left.now c.loop-octets.left c.next.new.self c.in-Some.octets.now e
     c.loop-octets.invariant c.in-Some.ensures.taken c.in_err-hand_on.ensures.hands)
 
--- the last part is written
 pub returns : goal.returns
 returns g c =
     let mid : Writing = g.W.Sink.writing c.loop-octets.writer in

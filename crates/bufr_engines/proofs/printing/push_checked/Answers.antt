@@ -1,9 +1,8 @@
--- The clause `ok` of `push_checked`: the line of a frame that spells a message, as it is added up.
+-- Piece by piece, the text grows by the line of the frame.
 use Rattle.std.proofs.Common.{ℕ, List, [], ◌∷◌, ◌++◌, ◌∙◌, ap, length, codes, decimal}
 use Rattle.bufr_engines.proofs.TextFacts.{checked_joined}
 use Rattle.bufr_engines.proofs.printing.push_checked.Goals as goal
 
--- the place, length, count of subsets and slack octets that are added are the line of the frame
 pub returns-clause-ok : goal.returns-clause-ok
 returns-clause-ok c =
     let text = c.args.text.now.items in

@@ -1,4 +1,4 @@
--- The clauses of `add_streams`: reader by reader, until one cannot be read.
+-- Reader by reader, until a read fails.
 use Rattle.std.proofs.Common.{◌<◌, ◌^◌, length, map, arith, slice_set}
 use Rattle.std.proofs.lemmas.List.{map-set}
 use Rattle.bufr_engines.specs.Adds.{AddsStreams}
@@ -9,11 +9,9 @@ use Rattle.bufr_io.specs.ReaderLaws.{reach_item, fresh_next}
 use Rattle.bufr_engines.proofs.CollectFacts.{added_first, added_next, bounded_next, added_ends}
 use Rattle.bufr_engines.proofs.streams.add_streams.Goals as goal
 
--- at first no reader was read, and nothing is added
 pub loop-index-init : goal.loop-index-init
 loop-index-init g c = added_first _ _ _ _ _ c.requires.fresh c.requires.empty
 
--- the next reader was not read before
 pub take_stream-requires-clause-fresh : goal.take_stream-requires-clause-fresh
 take_stream-requires-clause-fresh g c =
     let inv = c.loop-index.invariant in
@@ -22,7 +20,6 @@ take_stream-requires-clause-fresh g c =
     (reach_item g.S.Source.reading _ c.loop-index.readers inv.streams c.loop-index.index
     c.index-readers-index.result inv.through inside)
 
--- before it nothing of it was added
 pub take_stream-requires-clause-none_taken : goal.take_stream-requires-clause-none_taken
 take_stream-requires-clause-none_taken g c =
     let inv = c.loop-index.invariant in
@@ -32,7 +29,6 @@ take_stream-requires-clause-none_taken g c =
     let fit : c.loop-index.counts.frames < 2 ^ 127 = omega arith in
     since_none c.loop-index.builder c.loop-index.counts fit (refused_at_most _ _ _ _ inv.added)
 
--- the stream of one reader more is added
 pub loop-index-preserved : goal.loop-index-preserved
 loop-index-preserved g c =
     let inv = c.loop-index.invariant in
@@ -47,7 +43,6 @@ loop-index-preserved g c =
     (map-set g.S.Source.reading c.loop-index.readers c.loop-index.index c.take_stream.new.reader)
     c.in_ok-take_stream.ensures.bounded c.in_ok-take_stream.ensures.takes
 
--- each reader was read at most so often, the one that cannot be read too
 pub returns-in_err-take_stream-clause-bounded : goal.returns-in_err-take_stream-clause-bounded
 returns-in_err-take_stream-clause-bounded g c =
     bounded_next c.args.reads (map g.S.Source.reading c.loop-index.readers) _ c.loop-index.index
@@ -55,7 +50,6 @@ returns-in_err-take_stream-clause-bounded g c =
     (map-set g.S.Source.reading c.loop-index.readers c.loop-index.index c.take_stream.new.reader)
     c.in_err-take_stream.ensures.bounded
 
--- where a reader cannot be read, its fault is told
 pub returns-in_err-take_stream-clause-adds : goal.returns-in_err-take_stream-clause-adds
 returns-in_err-take_stream-clause-adds g c =
     let inv = c.loop-index.invariant in

@@ -1,33 +1,28 @@
--- The clauses of `merge_upper`: text by text, until none is left.
+-- Text by text from the uppermost on, until none is left.
 use Rattle.std.proofs.Common.{sym, ◌∙◌, arith}
 use Rattle.std.proofs.lemmas.List.{nil_from_length}
 use Rattle.bufr_engines.proofs.StackFacts.{left_first, left_more, left_none}
 use Rattle.bufr_engines.proofs.text_stack.merge_upper.Goals as goal
 
--- at first no text was taken
 pub loop-below-init : goal.loop-below-init
 loop-below-init c =
     left_first c.args.tables.now c.args.texts.items c.new-lowest.result c.new-upper.result
     c.requires c.new-lowest.ensures c.new-upper.ensures
 
--- all are under the tables
 pub merge-requires : goal.merge-requires
 merge-requires c =
     let inv = c.loop-below.invariant in inv.lowest_under ∙ sym inv.upper_under
 
--- one more was taken, and the one that was the lowest was merged with those above it
 pub loop-below-preserved : goal.loop-below-preserved
 loop-below-preserved c =
     left_more c.args.tables.now c.args.texts.items c.loop-below.texts.items
     c.pop.new.self.items c.loop-below.lowest c.loop-below.upper c.in-Some.below c.merge.new.self
     c.pop.result c.loop-below.invariant c.pop.ensures.items c.in-Some.is c.in_ok-merge.ensures.ok
 
--- the last two are under the tables
 pub returns-clause-same : goal.returns-clause-same
 returns-clause-same c =
     let inv = c.loop-below.invariant in inv.lowest_under ∙ sym inv.upper_under
 
--- and hold what all held
 pub returns-clause-all : goal.returns-clause-all
 returns-clause-all c =
     left_none c.args.tables.now c.args.texts.items c.loop-below.texts.items

@@ -1,12 +1,10 @@
--- The clause of `inputs_of`: path by path, none of whose files was read.
+-- Path by path, nobody has read the file.
 use Rattle.bufr_io.proofs.OpenFacts.{Unread, unread_more, fresh_all}
 use Rattle.bufr_io.proofs.files.inputs_of.Goals as goal
 
--- at first there is no input
 pub loop-path-init : goal.loop-path-init
 loop-path-init g c = rw c.new-inputs.ensures.items tt
 
--- one input more was not read either
 pub loop-path-preserved : goal.loop-path-preserved
 loop-path-preserved g c =
     let here : Unread c.in-Some.input = record {
@@ -17,7 +15,6 @@ loop-path-preserved g c =
     rw c.in-Ok.ensures.items
     (unread_more c.loop-path.inputs.items c.in-Some.input c.loop-path.invariant here)
 
--- inputs that were not read are fresh
 pub returns : goal.returns
 returns g c =
     fresh_all _ c.loop-path.inputs.items

@@ -1,9 +1,8 @@
--- For `read_all`: each piece is added to what was read.
+-- Each piece comes after the octets read before.
 use Rattle.std.proofs.lemmas.Result.{err_from_is_err_and}
 use Rattle.bufr_io.proofs.ReadingFacts.{no_more}
 use Rattle.bufr_io.proofs.input.read_all.Goals as goal
 
--- where no piece can be read, the fault of that is told
 pub returns-in_err-piece-clause-all : goal.returns-in_err-piece-clause-all
 returns-in_err-piece-clause-all g c =
     let p =
@@ -13,7 +12,6 @@ returns-in_err-piece-clause-all g c =
     (no_more _ _ (g.S.Source.reading c.args.reader.now) (g.S.Source.reading c.next.new.reader)
     c.next.new.self _ _ (c.in_err-piece.ensures.reads _ _ _ _ c.loop-octets.invariant.1))
 
--- one piece more
 pub loop-octets-preserved : goal.loop-octets-preserved
 loop-octets-preserved g c =
     let inv = c.loop-octets.invariant in

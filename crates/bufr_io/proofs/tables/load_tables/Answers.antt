@@ -1,11 +1,10 @@
--- The clause `loads` of `load_tables`, where one of the tables is not loaded.
+-- The fault of Table B comes first, then the fault of Table D.
 use Rattle.bufr_io.specs.Loads.{Loads}
 use Rattle.bufr_base.specs.Answers.{result_map}
 use Rattle.bufr_io.proofs.LoadFacts.{stops_at_b, stops_at_d}
 use Rattle.bufr_io.specs.PassingLaws.{passed}
 use Rattle.bufr_io.proofs.tables.load_tables.Goals as goal
 
--- Table B is not
 pub returns-in_err-elements-clause-loads : goal.returns-in_err-elements-clause-loads
 returns-in_err-elements-clause-loads g c =
     let b = g.B.Source.reading c.args.b.now in
@@ -15,7 +14,6 @@ returns-in_err-elements-clause-loads g c =
     c.from_residual.result c.in_err-elements.field-0.0 c.from_residual.ensures.1
     (stops_at_b c.args.reads b b' d c.in_err-elements.field-0.0 c.in_err-elements.ensures.loads)
 
--- Table D is not
 pub returns-in_err-sequences-clause-loads : goal.returns-in_err-sequences-clause-loads
 returns-in_err-sequences-clause-loads g c =
     let b = g.B.Source.reading c.args.b.now in

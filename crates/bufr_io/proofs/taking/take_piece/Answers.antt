@@ -1,4 +1,4 @@
--- The clause of `take_piece`: frame by frame, until `next_frame` hands out none.
+-- Frame by frame, until `next_frame` hands out none.
 use Rattle.std.proofs.Common.{◌≡◌, ◌++◌, ◌∷◌, [], List, None, arith, length-append}
 use Rattle.bufr_frame.specs.declared.frames.Found.{Found}
 use Rattle.bufr_frame.specs.Streams.{sure}
@@ -11,7 +11,6 @@ use Rattle.bufr_io.proofs.TakingFacts.{amid_stopped, err_of, ok_of, piece_ends}
 use Rattle.bufr_io.proofs.TakingFacts.{piece_short}
 use Rattle.bufr_io.proofs.taking.take_piece.Goals as goal
 
--- the octets taken in and those left of the piece can be counted
 pub next_frame-requires : goal.next_frame-requires
 next_frame-requires g c =
     let s = c.requires.so_far in
@@ -22,11 +21,9 @@ next_frame-requires g c =
     let room = c.requires.room in
     omega arith
 
--- where the piece begins
 pub loop-found-init : goal.loop-found-init
 loop-found-init g c first begin stream h = amid_first _ _ stream c.args.piece.now h
 
--- the frames so far are few
 pub halt-requires : goal.halt-requires
 halt-requires g c =
     let s = c.requires.so_far in
@@ -34,13 +31,11 @@ halt-requires g c =
     let short = piece_short _ s.2 c.args.piece.now _ s.3.handed.stands c.requires.room in
     (s.0, s.1, a.frames, a.taken, amid_few _ _ _ _ a.taking short)
 
--- where memory runs out at the next frame, it stopped behind them
 pub returns-in_default : goal.returns-in_default
 returns-in_default g c first begin stream h =
     let a = c.loop-found.invariant first begin stream h in
     amid_stopped _ _ _ _ a.frames c.halt.result a.taking (c.halt.ensures first begin a.frames a.taken)
 
--- they are few where no frame is handed out
 pub end_piece-requires : goal.end_piece-requires
 end_piece-requires g c =
     let s = c.requires.so_far in
@@ -48,7 +43,6 @@ end_piece-requires g c =
     let short = piece_short _ s.2 c.args.piece.now _ s.3.handed.stands c.requires.room in
     (s.0, s.1, a.frames, a.taken, amid_few _ _ _ _ a.taking short)
 
--- and then all sure frames of the stream with the piece were taken in
 pub returns-in_default-found : goal.returns-in_default-found
 returns-in_default-found g c first begin stream h =
     let e : c.in-Ok.field-0.found ≡ None = c.in_default-found.is in
@@ -69,7 +63,6 @@ returns-in_default-found g c first begin stream h =
     → g.T.TakesFrames.HasStopped f b c.end_piece.new.self c.end_piece.new.out fs fault).
     all first begin a.frames a.taken))
 
--- with the frame that was handed out they are few
 pub take_frame-requires : goal.take_frame-requires
 take_frame-requires g c =
     let s = c.requires.so_far in
@@ -79,7 +72,6 @@ take_frame-requires g c =
     c.in-Ok.ensures.rest c.in-Ok.ensures.frame c.in-Ok.ensures.next in
     (s.0, s.1, a.frames, a.taken, amid_few _ _ _ _ (handed _ a.frames a.taking) short)
 
--- it stopped at this one
 pub returns-in_err-take_frame : goal.returns-in_err-take_frame
 returns-in_err-take_frame g c first begin stream h =
     let a = c.loop-found.invariant first begin stream h in
@@ -95,7 +87,6 @@ returns-in_err-take_frame g c first begin stream h =
     (handed (stream ++ c.args.piece.now) a.frames a.taking)
     (c.in_err-take_frame.ensures.stopped first begin a.frames a.taken))
 
--- one frame more was handed out and taken in
 pub loop-found-preserved : goal.loop-found-preserved
 loop-found-preserved g c first begin stream h =
     let a = c.loop-found.invariant first begin stream h in
@@ -105,7 +96,6 @@ loop-found-preserved g c first begin stream h =
     c.in-Ok.ensures.rest c.in-Ok.ensures.frame c.in-Ok.ensures.next)
     (c.in_ok-take_frame.ensures.taken first begin a.frames a.taken)
 
--- the same of a frame with octets of its own
 pub loop-found-preserved-in_ok-take_frame : goal.loop-found-preserved-in_ok-take_frame
 loop-found-preserved-in_ok-take_frame g c first begin stream h =
     let a = c.loop-found.invariant first begin stream h in
@@ -115,7 +105,6 @@ loop-found-preserved-in_ok-take_frame g c first begin stream h =
     c.in-Ok.ensures.rest c.in-Ok.ensures.frame c.in-Ok.ensures.next)
     (c.in_ok-take_frame.ensures.taken first begin a.frames a.taken)
 
--- one frame more is counted, and there are no more than octets
 pub loop-found-smaller : goal.loop-found-smaller
 loop-found-smaller g c =
     let s = c.requires.so_far in
@@ -135,7 +124,6 @@ loop-found-smaller g c =
     let fed = s.3.handed.stands.fed in
     omega arith
 
--- the same of a frame with octets of its own
 pub loop-found-smaller-in_ok-take_frame : goal.loop-found-smaller-in_ok-take_frame
 loop-found-smaller-in_ok-take_frame g c =
     let s = c.requires.so_far in

@@ -1,4 +1,4 @@
--- The clause of `take_rest`: the frames that come with the end of a stream, after the sure ones.
+-- The frames that come with the end of a stream follow the sure ones.
 use Rattle.std.proofs.Common.{◌≤◌, ◌^◌, ◌+◌, ◌++◌, List, length, ap, sym, ◌∙◌, subst, arith, take, drop}
 use Rattle.std.proofs.lemmas.List.{take_all}
 use Rattle.bufr_frame.specs.declared.frames.Found.{Found}
@@ -10,19 +10,16 @@ use Rattle.bufr_io.specs.PassingLaws.{passed}
 use Rattle.bufr_io.proofs.TakingFacts.{parted_at, taken_to}
 use Rattle.bufr_io.proofs.taking.take_rest.Goals as goal
 
--- the sure frames are few
 pub halt-requires : goal.halt-requires
 halt-requires g c =
     let s = c.requires.so_far in
     let short : length s.2 ≤ 2 ^ 48 = omega (arith, s.3.handed.stands.fed, c.requires.long) in
     (s.0, s.1, sure s.2, s.3.taken, few_sure s.2 short)
 
--- where memory runs out before the others are handed out, it stopped behind them
 pub returns-in_default : goal.returns-in_default
 returns-in_default g c first begin stream h =
     rest_stopped _ stream c.halt.result (c.halt.ensures first begin (sure stream) h.taken)
 
--- with this frame they are few, for all of them are
 pub take_frame-requires : goal.take_frame-requires
 take_frame-requires g c =
     let s = c.requires.so_far in
@@ -45,7 +42,6 @@ take_frame-requires g c =
           (subst AreFew (sym whole) (few_cut s.2 short)),
     )
 
--- one frame more was taken in
 pub loop-frame-preserved : goal.loop-frame-preserved
 loop-frame-preserved g c first begin before h =
     let frames = c.deref-frame-items.result.now in
@@ -59,7 +55,6 @@ loop-frame-preserved g c first begin before h =
     (c.in_ok-take_frame.ensures.taken first begin (before ++ take i frames)
     (c.loop-frame.invariant first begin before h))
 
--- or it stopped at this one
 pub returns-in_err-take_frame : goal.returns-in_err-take_frame
 returns-in_err-take_frame g c first begin stream h =
     let frames = c.deref-frame-items.result.now in
@@ -86,7 +81,6 @@ returns-in_err-take_frame g c first begin stream h =
           (c.loop-frame.invariant first begin (sure stream) h.taken);
     })
 
--- the sure frames and those that are left are all
 pub returns : goal.returns
 returns g c first begin stream h =
     let found = c.in-Ok.ensures.found stream (length (sure stream)) h.handed.stands in

@@ -1,9 +1,8 @@
--- The loop of `take_rest`: the frames taken in so far.
 use Rattle.std.proofs.Common.{◌++◌, List, take}
 use Rattle.bufr_frame.specs.declared.frames.Found.{Found}
 use Rattle.bufr_io.proofs.taking.take_rest.Given as goal
 
--- whatever was taken in before, the frames up to this one were taken in after it
+-- after all frames before, the taker has the frames up to this one
 abbrev pub invariant-loop-frame : goal.invariant-loop-frame
 invariant-loop-frame g l =
     (first : g.row.T.Denot) (begin : g.row.O.Denot) (before : List Found)

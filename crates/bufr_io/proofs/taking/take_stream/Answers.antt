@@ -1,25 +1,22 @@
--- The clauses of `take_stream`: piece by piece, until none is left or it stops.
+-- Piece by piece, until none is left or the taker stops.
 use Rattle.std.proofs.Common.{◌++◌, ◌∙◌, arith, length-append}
 use Rattle.bufr_io.specs.Taking.{unread, at_piece, at_end, TakesStream}
 use Rattle.bufr_io.specs.PassingLaws.{passed}
 use Rattle.bufr_io.proofs.TakingFacts.{nothing_read, unread_bounded}
 use Rattle.bufr_io.proofs.taking.take_stream.Goals as goal
 
--- before the first read nothing was read or taken in
 pub loop-framer-init : goal.loop-framer-init
 loop-framer-init g c =
     rw c.new-pieces.ensures
     (nothing_read _ _ _ _ _ _ c.requires.fresh c.new-framer.ensures.starts c.requires.none_taken
     c.requires.none_held)
 
--- where no piece can be read, so many reads were made at the most
 pub returns-in_err-piece-clause-bounded : goal.returns-in_err-piece-clause-bounded
 returns-in_err-piece-clause-bounded g c =
     unread_bounded c.args.source c.args.reads (g.S.Source.reading c.args.reader.now)
     (g.S.Source.reading c.next.new.reader) c.next.new.self _ _
     (c.in_err-piece.ensures.reads _ _ _ _ c.loop-framer.invariant.so_far)
 
--- and the sure frames of what was read before were taken in
 pub returns-in_err-piece-clause-takes : goal.returns-in_err-piece-clause-takes
 returns-in_err-piece-clause-takes g c =
     let b = c.loop-framer.invariant in
@@ -36,12 +33,10 @@ returns-in_err-piece-clause-takes g c =
     (unread c.next.new.self b.read (c.in_err-piece.ensures.reads _ _ _ _ b.so_far)
     b.sure_taken.taken b.none)
 
--- of the octets that were read before the piece all sure frames were taken in
 pub take_piece-requires-clause-so_far : goal.take_piece-requires-clause-so_far
 take_piece-requires-clause-so_far g c =
     let b = c.loop-framer.invariant in (c.args.taker.now, c.args.out.now, b.read, b.sure_taken)
 
--- with the piece there are at most 2 ^ 48 octets
 pub take_piece-requires-clause-room : goal.take_piece-requires-clause-room
 take_piece-requires-clause-room g c =
     let b = c.loop-framer.invariant in
@@ -53,7 +48,6 @@ take_piece-requires-clause-room g c =
     let few = c.requires.few in
     omega arith
 
--- one piece more was read, and the frames that are sure with it were taken in
 pub loop-framer-preserved : goal.loop-framer-preserved
 loop-framer-preserved g c =
     let b = c.loop-framer.invariant in
@@ -66,7 +60,6 @@ loop-framer-preserved g c =
       none = e.1;
     }
 
--- where it stops within a piece, so many reads were made
 pub returns-in_err-take_piece-clause-bounded : goal.returns-in_err-take_piece-clause-bounded
 returns-in_err-take_piece-clause-bounded g c =
     let b = c.loop-framer.invariant in
@@ -75,7 +68,6 @@ returns-in_err-take_piece-clause-bounded g c =
     let allowed = more.0.allowed in
     omega arith
 
--- and it has some of the frames that are sure with it
 pub returns-in_err-take_piece-clause-takes : goal.returns-in_err-take_piece-clause-takes
 returns-in_err-take_piece-clause-takes g c =
     let b = c.loop-framer.invariant in
@@ -94,12 +86,10 @@ returns-in_err-take_piece-clause-takes g c =
     (at_piece (b.read ++ c.in-Some.piece.now) _ more.0.goes_on
     (c.in_err-take_piece.ensures c.args.taker.now c.args.out.now b.read b.sure_taken))
 
--- of the octets that were read all sure frames were taken in
 pub take_rest-requires-clause-so_far : goal.take_rest-requires-clause-so_far
 take_rest-requires-clause-so_far g c =
     let b = c.loop-framer.invariant in (c.args.taker.now, c.args.out.now, b.read, b.sure_taken)
 
--- they are at most 2 ^ 48
 pub take_rest-requires-clause-long : goal.take_rest-requires-clause-long
 take_rest-requires-clause-long g c =
     let b = c.loop-framer.invariant in
@@ -109,13 +99,11 @@ take_rest-requires-clause-long g c =
     let few = c.requires.few in
     omega arith
 
--- where it stops at the end, so many reads were made
 pub returns-in_err-take_rest-clause-bounded : goal.returns-in_err-take_rest-clause-bounded
 returns-in_err-take_rest-clause-bounded g c =
     let b = c.loop-framer.invariant in
     let ends = rw c.in_default.is at (c.in_ok-piece.ensures.reads _ _ _ _ b.so_far) in ends.3
 
--- and it has some of all frames
 pub returns-in_err-take_rest-clause-takes : goal.returns-in_err-take_rest-clause-takes
 returns-in_err-take_rest-clause-takes g c =
     let b = c.loop-framer.invariant in
@@ -134,13 +122,11 @@ returns-in_err-take_rest-clause-takes g c =
     (at_end b.read ends.0 ends.1 ends.2
     (c.in_err-take_rest.ensures c.args.taker.now c.args.out.now b.read b.sure_taken))
 
--- where no piece is left, so many reads were made
 pub returns-clause-bounded : goal.returns-clause-bounded
 returns-clause-bounded g c =
     let b = c.loop-framer.invariant in
     let ends = rw c.in_default.is at (c.in_ok-piece.ensures.reads _ _ _ _ b.so_far) in ends.3
 
--- and the stream is all that was read
 pub returns-clause-takes : goal.returns-clause-takes
 returns-clause-takes g c =
     let b = c.loop-framer.invariant in

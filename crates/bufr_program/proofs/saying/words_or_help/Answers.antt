@@ -1,4 +1,4 @@
--- The clause of `words_or_help`: some words are collected as they are.
+-- The words stay as they are if there are some.
 use Rattle.std.proofs.Common.{◌≡◌, ℕ, List, [], ◌∷◌, false, IfOk, map, string_bytes, rules, refl, sym}
 use Rattle.std.proofs.Common.{subst, length}
 use Rattle.std.specs.Bool.{◌==◌}
@@ -7,13 +7,11 @@ use Rattle.std.proofs.lemmas.Iterator.Consumers.{map_from_collect}
 use Rattle.bufr_program.specs.Words.{or_help}
 use Rattle.bufr_program.proofs.saying.words_or_help.Goals as goal
 
--- words that are not none stay
 some_stay : {A : Type 0} (f : A → List ℕ) (words : List A) → false ≡ (length words == 0)
     → or_help (map f words) ≡ map f words
 some_stay f [] some = absurd cc
 some_stay f (word ∷ words) some = refl
 
--- the words are collected
 pub returns : goal.returns
 returns c =
     let yields = map_from_collect _ c.collect.ensures.ran

@@ -1,10 +1,9 @@
--- The clause of `collecting`: the shape of the command, argument by argument.
+-- Argument by argument: the tables, the option of the archive, the inputs.
 use Rattle.std.proofs.Common.{ap, ap₂, ◌∙◌}
 use Rattle.std.proofs.lemmas.Result.{IfOk-weaker}
 use Rattle.clap.specs.Words.{App, with_rule}
 use Rattle.bufr_tool.proofs.command_line.collecting.Goals as goal
 
--- a command of this name under tables, with the option of the archive and the inputs
 pub returns : goal.returns
 returns c =
     let one = c.in_ok-arg.ensures.shape c.path.ensures.local

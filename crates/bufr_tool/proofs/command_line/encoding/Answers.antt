@@ -1,10 +1,9 @@
--- The clause of `encoding`: the shape of the command, argument by argument.
+-- Argument by argument: the tables, the flag, the input.
 use Rattle.std.proofs.Common.{ap, ap₂, ◌∙◌}
 use Rattle.std.proofs.lemmas.Result.{IfOk-weaker}
 use Rattle.clap.specs.Words.{App, with_rule}
 use Rattle.bufr_tool.proofs.command_line.encoding.Goals as goal
 
--- the command `encode` under tables, with the flag and the input
 pub returns : goal.returns
 returns c =
     let one = c.in_ok-arg.ensures.shape c.switch.ensures.local

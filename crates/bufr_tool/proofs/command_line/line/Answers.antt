@@ -1,4 +1,4 @@
--- The clauses of `line`: what `clap` answers to the words, under the commands of the program.
+-- Each part of the line is what `clap` returns for the words under the program's commands.
 use Rattle.std.proofs.Common.{◌≡◌, ◌∙◌, true, codes, ap, refl, subst, List, map}
 use Rattle.clap.specs.Words.{App, HasMatchesOf, Text, is_simple, takes, kind_of, subcommand_of}
 use Rattle.clap.specs.Words.{subcommand_rows_of}
@@ -10,57 +10,48 @@ use Rattle.clap.proofs.TakesLemmas.{passed_up}
 use Rattle.bufr_tool.specs.CommandLines.{Named, commands, command_in, value_in, values_in, flag_in}
 use Rattle.bufr_tool.proofs.command_line.line.Goals as goal
 
--- the words of the program's commands are read in the simple way
 simple : is_simple commands ≡ true
 unfolding clap_on_literals
 simple = refl
 
--- what is made of the matches is made of what the words name under the program's commands
 said : {A : Type 0} (made : Named → A) (answer : A) (a : App) (words : List Text)
     (matches : ArgMatches) → answer ≡ made (subcommand_rows_of matches) → a ≡ commands
     → HasMatchesOf a words matches → answer ≡ made (subcommand_of commands words)
 said made answer a words matches is named has =
     is ∙ ap made (subst (λ (a : App). HasMatchesOf a words matches) named has simple).1
 
--- the command is the one that the words name
 pub returns-clause-command : goal.returns-clause-command
 returns-clause-command g c =
     said command_in _ _ (map g.S.AsStr.text c.args.words.now) c.in_ok-matches.matches
     c.in_ok-line_of.ensures.command c.in_ok-bufr.ensures c.in_ok-matches.ensures.matches
 
--- the path of the file of Table B is the value of its option
 pub returns-clause-b : goal.returns-clause-b
 returns-clause-b g c =
     said (value_in (codes "b")) _ _ (map g.S.AsStr.text c.args.words.now) c.in_ok-matches.matches
     c.in_ok-line_of.ensures.b c.in_ok-bufr.ensures c.in_ok-matches.ensures.matches
 
--- so is that of the file of Table D
 pub returns-clause-d : goal.returns-clause-d
 returns-clause-d g c =
     said (value_in (codes "d")) _ _ (map g.S.AsStr.text c.args.words.now) c.in_ok-matches.matches
     c.in_ok-line_of.ensures.d c.in_ok-bufr.ensures c.in_ok-matches.ensures.matches
 
--- every message is to be compressed where the flag is up
 pub returns-clause-compressed : goal.returns-clause-compressed
 returns-clause-compressed g c =
     said (flag_in (codes "compressed")) _ _ (map g.S.AsStr.text c.args.words.now)
     c.in_ok-matches.matches c.in_ok-line_of.ensures.compressed c.in_ok-bufr.ensures
     c.in_ok-matches.ensures.matches
 
--- the path of the archive is the value of its option
 pub returns-clause-out : goal.returns-clause-out
 returns-clause-out g c =
     said (value_in (codes "out")) _ _ (map g.S.AsStr.text c.args.words.now) c.in_ok-matches.matches
     c.in_ok-line_of.ensures.out c.in_ok-bufr.ensures c.in_ok-matches.ensures.matches
 
--- the paths of the inputs are the values of their argument, in order
 pub returns-clause-inputs : goal.returns-clause-inputs
 returns-clause-inputs g c =
     said (values_in (codes "input")) _ _ (map g.S.AsStr.text c.args.words.now)
     c.in_ok-matches.matches c.in_ok-line_of.ensures.inputs c.in_ok-bufr.ensures
     c.in_ok-matches.ensures.matches
 
--- words that are taken are refused for want of memory alone
 pub returns-in_err-matches-clause-taken : goal.returns-in_err-matches-clause-taken
 returns-in_err-matches-clause-taken g c =
     passed_up c.from_residual-in_err-matches.result c.in_err-matches.field-0.0

@@ -1,10 +1,9 @@
--- The clause of `reading`: the shape of the command.
+-- A command under tables, and its input.
 use Rattle.std.proofs.Common.{ap, ap₂, ◌∙◌}
 use Rattle.std.proofs.lemmas.Result.{IfOk-weaker}
 use Rattle.clap.specs.Words.{App, with_rule}
 use Rattle.bufr_tool.proofs.command_line.reading.Goals as goal
 
--- a command of this name under tables, with the input
 pub returns : goal.returns
 returns c =
     IfOk-weaker c.arg.result _ _

@@ -1,8 +1,7 @@
--- The clause of `that_read`: the commands that read a file of messages, one behind the other.
+-- The program with `show` and `check`.
 use Rattle.std.proofs.Common.{refl}
 use Rattle.bufr_tool.proofs.command_line.that_read.Goals as goal
 
--- the program with `show` and `check`
 pub returns : goal.returns
 returns c =
     let one = c.with_command-with_show.ensures _ _ c.program.ensures c.reading.ensures refl in

@@ -1,11 +1,10 @@
--- The clause of `under_tables`: the options of both tables.
+-- The options of both tables.
 use Rattle.std.proofs.Common.{rules, ◌≡◌, ap₂, ◌∙◌, codes}
 use Rattle.std.proofs.lemmas.Result.{IfOk-weaker}
 use Rattle.clap.specs.Words.{app_of, new_app, rule_of, with_rule}
 use Rattle.bufr_tool.specs.CommandLines.{path_option}
 use Rattle.bufr_tool.proofs.command_line.under_tables.Goals as goal
 
--- a command of this name, with these options
 pub returns : goal.returns
 returns c =
     let b_is : rule_of c.path.result ≡ path_option (codes "b") 98 = search rules in

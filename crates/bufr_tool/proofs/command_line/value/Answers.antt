@@ -1,4 +1,4 @@
--- The clause of `value`: the value that an argument has in the rows of the named command.
+-- The value of an argument in the rows of the command that the line names.
 use Rattle.std.proofs.Common.{◌≡◌, [], ap, refl, ◌∙◌, Option, Some, None, option_map, unwrap_or}
 use Rattle.std.proofs.Common.{Bor}
 use Rattle.clap.specs.Words.{Text, first_of, subcommand_rows_of, rows_of, found_of}
@@ -6,13 +6,11 @@ use Rattle.clap.proofs.WalkLemmas.{first_value-rows}
 use Rattle.bufr_tool.proofs.CommandFacts.{in_rows}
 use Rattle.bufr_tool.proofs.command_line.value.Goals as goal
 
--- the octets of a text, or else of another, are those of the one that is taken
 text_or : (o : Option (Bor Text)) (fallback : Bor Text)
     → (unwrap_or o fallback).now ≡ unwrap_or (option_map (λ s. s.now) o) fallback.now
 text_or None fallback = refl
 text_or (Some s) fallback = refl
 
--- where a command was named, the answer is its value, or the empty text where it has none
 pub returns-in-Some : goal.returns-in-Some
 returns-in-Some c =
     ap (λ (b : Bor Text). b.now) c.unwrap_or.ensures

@@ -1,4 +1,4 @@
--- The clause of `values`: the values that an argument has in the rows of the named command.
+-- The values of an argument in the rows of the command that the line names.
 use Rattle.std.proofs.Common.{[], ap, ◌∙◌, List, Option, unwrap_or, map, Bor}
 use Rattle.std.proofs.lemmas.Result.{IfOk-weaker}
 use Rattle.clap.specs.Words.{Text, all_of, subcommand_rows_of, rows_of, found_of}
@@ -6,7 +6,6 @@ use Rattle.clap.proofs.WalkLemmas.{raw_values-rows}
 use Rattle.bufr_tool.proofs.CommandFacts.{in_rows}
 use Rattle.bufr_tool.proofs.command_line.values.Goals as goal
 
--- where the command that was named has values, these are the answer, in order
 pub returns-in-Some-get_strs : goal.returns-in-Some-get_strs
 returns-in-Some-get_strs c =
     let given =
@@ -18,7 +17,6 @@ returns-in-Some-get_strs c =
     IfOk-weaker c.from_slice.result _ _
     (λ found a. ap (map (λ (v : Bor Text). v.now)) a ∙ all) c.from_slice.ensures.items
 
--- where it has none, there are none
 pub returns-in-None-get_strs : goal.returns-in-None-get_strs
 returns-in-None-get_strs c =
     let given =

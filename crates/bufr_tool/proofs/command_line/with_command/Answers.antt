@@ -1,11 +1,10 @@
--- The clause of `with_command`: the command is added where there are both.
+-- The command comes after those of the program, if memory suffices for both.
 use Rattle.std.proofs.Common.{◌≡◌, IfOk, ap, ap₂, subst, ◌∙◌}
 use Rattle.std.proofs.lemmas.Result.{IfOk-weaker}
 use Rattle.clap.specs.Words.{Shape, app_of, shape_of, with_subcommand}
 use Rattle.bufr_tool.proofs.CommandFacts.{third_denied}
 use Rattle.bufr_tool.proofs.command_line.with_command.Goals as goal
 
--- the program's commands, and the one that was added
 pub returns : goal.returns
 returns c app shape before command plain =
     let one = subst (λ r. IfOk r (λ p. app_of p ≡ app)) c.in_ok-before.was before in

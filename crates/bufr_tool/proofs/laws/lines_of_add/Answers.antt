@@ -1,9 +1,8 @@
--- The clauses of `lines_of_add`: what `clap` makes of a line of `add`.
+-- By computing what `clap` makes of the line.
 use Rattle.std.proofs.Common.{refl}
 use Rattle.clap.proofs.OnLiterals.{clap_on_literals}
 use Rattle.bufr_tool.proofs.laws.lines_of_add.Goals as goal
 
--- the line is taken, and these are its command and the values of its arguments
 pub returns : goal.returns
 unfolding clap_on_literals
 returns c = record { taken = refl; command = refl; b = refl; d = refl; out = refl; inputs = refl }

@@ -1,10 +1,9 @@
--- The clause of `halt`: what is held was written, or the writer failed.
+-- If memory runs out the printer writes what it holds, or the writer fails.
 use Rattle.std.proofs.Common.{refl, arith}
 use Rattle.bufr_engines.specs.Output.{frames_text}
 use Rattle.bufr_engines.proofs.PrintingFacts.{halted}
 use Rattle.bufr_engines.proofs.frames.PrinterTakesFrames.halt.Goals as goal
 
--- memory ran out behind the frames
 pub stop-requires : goal.stop-requires
 stop-requires g c =
     let s = c.requires in
@@ -16,7 +15,6 @@ stop-requires g c =
       );
     }
 
--- and then what is held was written
 pub returns : goal.returns
 returns g c first begin frames h =
     let s = c.requires in

@@ -1,4 +1,4 @@
--- The clauses of `take_frame`: the frame was printed, or printing stopped at it.
+-- The printer prints one frame more, or stops at it.
 use Rattle.std.proofs.Common.{◌++◌, ◌∷◌, [], length, arith, length-append}
 use Rattle.std.proofs.lemmas.List.Sums.{sum_by_push}
 use Rattle.bufr_frame.specs.declared.frames.Found.{Found}
@@ -8,26 +8,21 @@ use Rattle.bufr_engines.proofs.PrintingFacts.{refused_at_most, printed_short, st
 use Rattle.bufr_engines.proofs.StreamFacts.{since_more}
 use Rattle.bufr_engines.proofs.frames.PrinterTakesFrames.take_frame.Goals as goal
 
--- the writer works
 pub print_frame-requires-clause-works : goal.print_frame-requires-clause-works
 print_frame-requires-clause-works g c = c.requires.3.printed.text.written.works
 
--- what is held has whole lines
 pub print_frame-requires-clause-lines : goal.print_frame-requires-clause-lines
 print_frame-requires-clause-lines g c = c.requires.3.printed.text.held_whole
 
--- one frame more can be counted
 pub print_frame-requires-clause-few : goal.print_frame-requires-clause-few
 print_frame-requires-clause-few g c =
     let s = c.requires in
     let frame = frame_at c.args.place c.args.octets.now in
     omega (arith, s.3.printed.frames_are, s.4.count, length-append s.2 (frame ∷ []))
 
--- no more frames are counted as refused than as printed
 pub print_frame-requires-clause-refused : goal.print_frame-requires-clause-refused
 print_frame-requires-clause-refused g c = refused_at_most _ _ _ _ _ _ c.requires.3.printed
 
--- the octets of the frames so far and of this one can be counted
 pub print_frame-requires-clause-octets : goal.print_frame-requires-clause-octets
 print_frame-requires-clause-octets g c =
     let s = c.requires in
@@ -39,18 +34,15 @@ print_frame-requires-clause-octets g c =
       sum_by_push (λ (f : Found). length f.bytes) s.2 frame,
     )
 
--- what is written and held is short
 pub print_frame-requires-clause-short : goal.print_frame-requires-clause-short
 print_frame-requires-clause-short g c = printed_short _ _ _ _ _ _ c.requires.3.printed
 
--- one frame more was printed
 pub returns-in-Ok-clause-taken : goal.returns-in-Ok-clause-taken
 returns-in-Ok-clause-taken g c first begin frames h =
     since_more first (g.W.Sink.writing begin) _ (g.W.Sink.writing c.print_frame.new.writer)
     c.args.self.now c.print_frame.new.self frames (frame_at c.args.place c.args.octets.now) _ h
     c.in-Ok.ensures.prints c.in-Ok.ensures.printing c.in-Ok.ensures.tables
 
--- printing stopped within the frames and this one
 pub stop-requires : goal.stop-requires
 stop-requires g c =
     let s = c.requires in
@@ -66,7 +58,6 @@ stop-requires g c =
       );
     }
 
--- and what is held was written
 pub returns-in-Err-clause-stopped : goal.returns-in-Err-clause-stopped
 returns-in-Err-clause-stopped g c first begin frames h =
     let frame = frame_at c.args.place c.args.octets.now in

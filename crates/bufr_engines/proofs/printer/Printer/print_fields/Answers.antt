@@ -1,4 +1,4 @@
--- The clauses of `print_fields`: field by field, until none is left.
+-- Field by field, until none is left.
 use Rattle.std.proofs.Common.{◌≡◌, Some, Ok, Err, refl, arith}
 use Rattle.bufr_listing.specs.Listings.{line, field_line}
 use Rattle.bufr_io.specs.declared.fault.ToolFault.TheVariants as faults
@@ -12,14 +12,12 @@ use Rattle.bufr_engines.proofs.PartFacts.{adds_halts, adds_held, adds_written, k
 use Rattle.bufr_io.specs.PassingLaws.{passed}
 use Rattle.bufr_engines.proofs.printer.Printer.print_fields.Goals as goal
 
--- at first none was handed out
 pub fields-init : goal.fields-init
 fields-init g c = record {
   amid = amid_fields _ _ _ c.requires.lines c.requires.works;
   keeps = record { printing = refl; tables = refl; frames = refl; refused = refl; octets = refl };
 }
 
--- one more was, and its line was added
 pub fields-preserved-in_ok-write_long-in-Ok-Some : goal.fields-preserved-in_ok-write_long-in-Ok-Some
 fields-preserved-in_ok-write_long-in-Ok-Some g c =
     let p = c.fields.self in
@@ -48,7 +46,6 @@ fields-preserved-in_ok-write_long-in-Ok-Some g c =
           });
     }
 
--- the same where it has octets of its own
 pub fields-preserved-in_ok-write_long-in-Ok-Some-2 : goal.fields-preserved-in_ok-write_long-in-Ok-Some-2
 fields-preserved-in_ok-write_long-in-Ok-Some-2 g c =
     let p = c.fields.self in
@@ -77,7 +74,6 @@ fields-preserved-in_ok-write_long-in-Ok-Some-2 g c =
           });
     }
 
--- and where it has none
 pub fields-preserved-in_ok-write_long-in-Ok-Some-3 : goal.fields-preserved-in_ok-write_long-in-Ok-Some-3
 fields-preserved-in_ok-write_long-in-Ok-Some-3 g c =
     let p = c.fields.self in
@@ -106,7 +102,6 @@ fields-preserved-in_ok-write_long-in-Ok-Some-3 g c =
           });
     }
 
--- what is held, with its line, has whole lines
 pub write_long-requires-clause-lines : goal.write_long-requires-clause-lines
 write_long-requires-clause-lines g c =
     let field = c.in-Ok-Some.field in
@@ -115,7 +110,6 @@ write_long-requires-clause-lines g c =
     c.in_ok-push_field-in-Ok-Some.ensures.ok now.held_whole (line_whole (field_line field))
     now.written.works).held_whole
 
--- what was written so far can be counted
 pub write_long-requires-clause-fits : goal.write_long-requires-clause-fits
 write_long-requires-clause-fits g c =
     omega (
@@ -124,18 +118,15 @@ write_long-requires-clause-fits g c =
       amid_few _ _ c.args.self.now c.fields.self _ _ c.fields.invariant.amid,
     )
 
--- where memory runs out at a field, the lines before it are written or held
 pub returns-in-Err-clause-prints : goal.returns-in-Err-clause-prints
 returns-in-Err-clause-prints g c =
     field_halted _ _ c.args.self.now c.fields.self _ _ c.fields.invariant.amid
 
--- few octets were written then
 pub returns-in-Err-clause-short : goal.returns-in-Err-clause-short
 returns-in-Err-clause-short g c =
     let few = amid_few _ _ c.args.self.now c.fields.self _ _ c.fields.invariant.amid in
     omega (arith, few)
 
--- and where there is none for its line
 pub returns-in_err-push_field-in-Ok-Some-clause-prints :
     goal.returns-in_err-push_field-in-Ok-Some-clause-prints
 returns-in_err-push_field-in-Ok-Some-clause-prints g c =
@@ -149,14 +140,12 @@ returns-in_err-push_field-in-Ok-Some-clause-prints g c =
     (adds_halts (fields_text c.args.fields) amid.text (fields_text c.fields.fields) p.held.items
     c.args.self.now now _ _ amid.parted amid.added c.in_err-push_field-in-Ok-Some.ensures.err)
 
--- few octets were written then
 pub returns-in_err-push_field-in-Ok-Some-clause-short :
     goal.returns-in_err-push_field-in-Ok-Some-clause-short
 returns-in_err-push_field-in-Ok-Some-clause-short g c =
     let few = amid_few _ _ c.args.self.now c.fields.self _ _ c.fields.invariant.amid in
     omega (arith, few)
 
--- where the writer fails at the lines that are held, so does printing all
 pub returns-in_err-write_long-in-Ok-Some-clause-prints :
     goal.returns-in_err-write_long-in-Ok-Some-clause-prints
 returns-in_err-write_long-in-Ok-Some-clause-prints g c =
@@ -180,14 +169,12 @@ returns-in_err-write_long-in-Ok-Some-clause-prints g c =
     (adds_written (line (field_line field)) p q c.write_long.new.self mid mid _ (Err e) held
     c.in_err-write_long-in-Ok-Some.ensures.writes))
 
--- few octets were written then
 pub returns-in_err-write_long-in-Ok-Some-clause-short :
     goal.returns-in_err-write_long-in-Ok-Some-clause-short
 returns-in_err-write_long-in-Ok-Some-clause-short g c =
     let few = amid_few _ _ c.args.self.now c.fields.self _ _ c.fields.invariant.amid in
     omega (arith, few, c.in_err-write_long-in-Ok-Some.ensures.short)
 
--- none is left, and few octets were written
 pub returns-in-Ok-None-clause-short : goal.returns-in-Ok-None-clause-short
 returns-in-Ok-None-clause-short g c =
     let few = amid_few _ _ c.args.self.now c.fields.self _ _ c.fields.invariant.amid in

@@ -1,10 +1,9 @@
--- The loop of `print_fields`: the fields handed out so far, whose lines are written or held.
 use Rattle.std.proofs.Common.{length}
 use Rattle.bufr_engines.specs.StreamEngines.{Keeps}
 use Rattle.bufr_engines.proofs.ListingFacts.{AmidFields}
 use Rattle.bufr_engines.proofs.printer.Printer.print_fields.Given as goal
 
--- the lines of the fields that were handed out were added, and those of the others are left
+-- the lines of the fields handed out are written or held
 abbrev pub invariant-fields : goal.invariant-fields
 invariant-fields g l = record {
   amid : AmidFields l.fn.fields l.fields l.fn.self l.self (g.W.Sink.writing l.fn.writer)
@@ -12,6 +11,5 @@ invariant-fields g l = record {
   keeps : Keeps l.fn.self l.self;
 }
 
--- each turn leaves one less
 abbrev pub decreases-fields : goal.decreases-fields
 decreases-fields g l = length l.fields

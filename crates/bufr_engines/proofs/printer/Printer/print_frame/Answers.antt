@@ -1,5 +1,5 @@
--- For `print_frame`: the frame as it was printed, counted, and then what is held is written where it
--- is long.
+-- The printer prints and counts the frame, and then writes the lines that it holds if they are
+-- long.
 use Rattle.std.proofs.Common.{◌++◌, ap, subst, sym, arith}
 use Rattle.bufr_io.specs.Taking.{frame_at}
 use Rattle.bufr_engines.specs.declared.printer.Printer.{Printer}
@@ -10,7 +10,6 @@ use Rattle.bufr_io.specs.PassingLaws.{passed}
 use Rattle.bufr_engines.proofs.PrintingFacts.{frame_ends}
 use Rattle.bufr_engines.proofs.printer.Printer.print_frame.Goals as goal
 
--- where printing it stopped, what was written and is held can be counted
 pub returns-in_err-refused-clause-prints : goal.returns-in_err-refused-clause-prints
 returns-in_err-refused-clause-prints g c =
     let p = c.args.self.now in
@@ -22,13 +21,11 @@ returns-in_err-refused-clause-prints g c =
     c.from_residual.result c.in_err-refused.field-0.0 c.from_residual.ensures.1
     (c.in_err-refused.ensures.stops, λ long. omega (arith, long, short, c.requires.short, c.requires.few))
 
--- the lines that are held are whole
 pub write_long-requires-clause-lines : goal.write_long-requires-clause-lines
 write_long-requires-clause-lines g c =
     subst (λ (q : Printer). AreWholeLines q.held.items) (sym c.count.ensures)
     c.in_ok-refused.ensures.prints.held_whole
 
--- what was printed of the frame as it was judged is its text
 pub returns-clause-prints : goal.returns-clause-prints
 returns-clause-prints g c =
     let p = c.args.self.now in

@@ -1,4 +1,4 @@
--- The clauses of `print_listing`: the heading, subset by subset, and the last line.
+-- The heading, subset by subset, and the last line.
 use Rattle.std.proofs.Common.{◌≡◌, ℕ, List, [], ◌++◌, length, ◌∙◌, ap, sym, arith, Ok, Err}
 use Rattle.std.proofs.Common.{append_assoc, length-append, refl}
 use Rattle.bufr_message.specs.declared.Message.{Message}
@@ -15,7 +15,6 @@ use Rattle.bufr_engines.proofs.PartFacts.{held_less, held_more, keeps_both}
 use Rattle.bufr_io.specs.PassingLaws.{passed}
 use Rattle.bufr_engines.proofs.printer.Printer.print_listing.Goals as goal
 
--- what is held, with the lines before the first subset, has whole lines
 pub write_long-requires-clause-lines : goal.write_long-requires-clause-lines
 write_long-requires-clause-lines g c =
     let p = c.args.self.now in
@@ -26,7 +25,6 @@ write_long-requires-clause-lines g c =
     (heading_added c.args.found.now.message p _ (g.W.Sink.writing c.args.writer.now) grown
     c.requires.lines c.requires.works).held_whole
 
--- where the writer fails at them, so does printing the listing
 pub returns-in_err-write_long-clause-prints : goal.returns-in_err-write_long-clause-prints
 returns-in_err-write_long-clause-prints g c =
     let m = c.args.found.now.message in
@@ -47,7 +45,6 @@ returns-in_err-write_long-clause-prints g c =
     (heading_added m p q.held.items first grown c.requires.lines c.requires.works)
     c.in_err-write_long.ensures.writes))
 
--- at first the lines before the first subset are written or held, behind those that were held
 pub loop-index-init : goal.loop-index-init
 loop-index-init g c =
     let m = c.args.found.now.message in
@@ -74,7 +71,6 @@ loop-index-init g c =
       short = omega (arith, e.short);
     }
 
--- of the lines with those of one subset more all but what is held then was written
 pub loop-index-preserved : goal.loop-index-preserved
 loop-index-preserved g c =
     let m = c.args.found.now.message in
@@ -109,7 +105,6 @@ loop-index-preserved g c =
           omega (arith, few, c.loop-index.invariant.short);
     }
 
--- what is held, with the first line of a subset, has whole lines
 pub print_fields-requires-clause-lines : goal.print_fields-requires-clause-lines
 print_fields-requires-clause-lines g c =
     let done = c.loop-index.invariant.done in
@@ -117,7 +112,6 @@ print_fields-requires-clause-lines g c =
     c.in_ok-push_subset_line.ensures.ok done.held_whole (line_whole subset_line)
     done.written.works).held_whole
 
--- there is room for the octets of the fields in the count
 pub print_fields-requires-clause-fits : goal.print_fields-requires-clause-fits
 print_fields-requires-clause-fits g c =
     let few = fields_few c.args.found.now.message c.requires.listed _ c.in_ok-fields.fields
@@ -135,7 +129,6 @@ print_fields-requires-clause-fits g c =
       length-append c.loop-index.self.held.items (line subset_line),
     )
 
--- where memory runs out at the lines before the first subset, nothing was written
 pub returns-in_err-heading-clause-prints : goal.returns-in_err-heading-clause-prints
 returns-in_err-heading-clause-prints g c =
     let text = listing c.args.found.now.message in
@@ -145,7 +138,6 @@ returns-in_err-heading-clause-prints g c =
     c.from_residual.ensures.1
     (adds_none text p p writer c.requires.lines c.requires.works refl refl)
 
--- nor where they can't be held
 pub returns-in_err-extend_from_slice-clause-prints :
     goal.returns-in_err-extend_from_slice-clause-prints
 returns-in_err-extend_from_slice-clause-prints g c =
@@ -159,7 +151,6 @@ returns-in_err-extend_from_slice-clause-prints g c =
     (adds_none text p now writer c.requires.lines c.requires.works
     c.in_err-extend_from_slice.ensures.items refl)
 
--- where memory runs out before the first field of a subset, the lines before it are written or held
 pub returns-in_err-fields-clause-prints : goal.returns-in_err-fields-clause-prints
 returns-in_err-fields-clause-prints g c =
     let m = c.args.found.now.message in
@@ -173,7 +164,6 @@ returns-in_err-fields-clause-prints g c =
     (adds_halts (listing m) (listed m i) (unlisted m i) p.held.items c.args.self.now p _ _
     (listing_parted m i (c.listings_are_joined_parts.ensures m)) c.loop-index.invariant.done refl)
 
--- few octets were written then
 pub returns-in_err-fields-clause-short : goal.returns-in_err-fields-clause-short
 returns-in_err-fields-clause-short g c =
     omega (
@@ -184,7 +174,6 @@ returns-in_err-fields-clause-short g c =
       c.count-index-end.ensures,
     )
 
--- and where there is none for the first line of a subset
 pub returns-in_err-push_subset_line-clause-prints :
     goal.returns-in_err-push_subset_line-clause-prints
 returns-in_err-push_subset_line-clause-prints g c =
@@ -201,7 +190,6 @@ returns-in_err-push_subset_line-clause-prints g c =
     (listing_parted m i (c.listings_are_joined_parts.ensures m)) c.loop-index.invariant.done
     c.in_err-push_subset_line.ensures.err)
 
--- few octets were written then
 pub returns-in_err-push_subset_line-clause-short :
     goal.returns-in_err-push_subset_line-clause-short
 returns-in_err-push_subset_line-clause-short g c =
@@ -213,7 +201,6 @@ returns-in_err-push_subset_line-clause-short g c =
       c.count-index-end.ensures,
     )
 
--- where printing the fields of a subset stops, so does printing the listing
 pub returns-in_err-print_fields-clause-prints : goal.returns-in_err-print_fields-clause-prints
 returns-in_err-print_fields-clause-prints g c =
     let m = c.args.found.now.message in
@@ -238,7 +225,6 @@ returns-in_err-print_fields-clause-prints g c =
     c.in_err-print_fields.field-0.0 c.in_ok-fields.ensures
     (c.listings_are_joined_parts.ensures m) done added)
 
--- few octets were written then
 pub returns-in_err-print_fields-clause-short : goal.returns-in_err-print_fields-clause-short
 returns-in_err-print_fields-clause-short g c =
     let few = fields_few c.args.found.now.message c.requires.listed _ c.in_ok-fields.fields
@@ -256,7 +242,6 @@ returns-in_err-print_fields-clause-short g c =
       length-append c.loop-index.self.held.items (line subset_line),
     )
 
--- where memory runs out as the last line is held, those before it are written or held
 pub returns-in_err-extend_from_slice-2-clause-prints :
     goal.returns-in_err-extend_from_slice-2-clause-prints
 returns-in_err-extend_from_slice-2-clause-prints g c =
@@ -274,7 +259,6 @@ returns-in_err-extend_from_slice-2-clause-prints g c =
     (listing_parted m i (c.listings_are_joined_parts.ensures m)) c.loop-index.invariant.done
     c.in_err-extend_from_slice-2.ensures.items)
 
--- few octets were written then
 pub returns-in_err-extend_from_slice-2-clause-short :
     goal.returns-in_err-extend_from_slice-2-clause-short
 returns-in_err-extend_from_slice-2-clause-short g c =
@@ -286,7 +270,6 @@ returns-in_err-extend_from_slice-2-clause-short g c =
       c.count-index-end.ensures,
     )
 
--- and when the last line is held
 pub returns-clause-short : goal.returns-clause-short
 returns-clause-short g c =
     omega (
@@ -297,7 +280,6 @@ returns-clause-short g c =
       c.count-index-end.ensures,
     )
 
--- the last line is held behind those before it
 pub returns-clause-prints : goal.returns-clause-prints
 returns-clause-prints g c =
     let m = c.args.found.now.message in

@@ -1,11 +1,10 @@
--- The loop of `print_listing`: the subsets so far, whose lines are written or held.
 use Rattle.std.proofs.Common.{◌+◌, ◌*◌, ◌^◌, ◌≤◌, ◌++◌, length}
 use Rattle.bufr_engines.specs.StreamEngines.{Keeps, WritesAllBut}
 use Rattle.bufr_engines.proofs.ListingFacts.{listed}
 use Rattle.bufr_engines.proofs.printer.Printer.print_listing.Given as goal
 
--- of what was held, the lines before the first subset and those of the subsets so far all but what
--- is held was written, and few octets for each subset
+-- the heading and the lines of the subsets so far are written or held, after those held before; few
+-- octets for each subset
 abbrev pub invariant-loop-index : goal.invariant-loop-index
 invariant-loop-index g l = record {
   done : WritesAllBut l.self.held.items

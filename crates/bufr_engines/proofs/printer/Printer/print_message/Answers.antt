@@ -1,4 +1,4 @@
--- For `print_message`: the line of `check`, which was held or for which there was no memory.
+-- The printer holds the line of `check`, or stays as it was if memory runs out.
 use Rattle.std.proofs.Common.{◌++◌, ap, sym, subst, ◌∙◌, Err, IfErr}
 use Rattle.bufr_io.specs.declared.fault.ToolFault.TheVariants as faults
 use Rattle.bufr_io.specs.Taking.{frame_at}
@@ -9,7 +9,6 @@ use Rattle.bufr_engines.proofs.PartFacts.{adds_held, adds_none}
 use Rattle.bufr_io.specs.PassingLaws.{passed}
 use Rattle.bufr_engines.proofs.printer.Printer.print_message.Goals as goal
 
--- where there is no memory for it, what is held is as it was
 pub returns-in_err-check_frame-in-Checked-clause-stops :
     goal.returns-in_err-check_frame-in-Checked-clause-stops
 returns-in_err-check_frame-in-Checked-clause-stops g c =
@@ -21,7 +20,6 @@ returns-in_err-check_frame-in-Checked-clause-stops g c =
     (adds_none text p c.check_frame.new.self writer c.requires.lines c.requires.works
     c.in_err-check_frame-in-Checked.ensures.err c.check_frame.ensures.written)
 
--- else it is held behind the others
 pub returns-in_ok-check_frame-in-Checked-clause-prints :
     goal.returns-in_ok-check_frame-in-Checked-clause-prints
 returns-in_ok-check_frame-in-Checked-clause-prints g c =

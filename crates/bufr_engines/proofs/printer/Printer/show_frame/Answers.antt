@@ -1,4 +1,4 @@
--- For `show_frame`: the listing of a message is short, and the line of a refusal is whole.
+-- The listing of a message is short, and the line of a refusal is whole.
 use Rattle.std.proofs.Common.{◌≡◌, ◌++◌, ◌∙◌, ap, sym, Result, Err}
 use Rattle.bufr_base.specs.AnswerLaws.{told_fault}
 use Rattle.bufr_message.specs.declared.Decoded.{Decoded}
@@ -12,13 +12,11 @@ use Rattle.bufr_engines.proofs.LineLengths.{listing_short}
 use Rattle.bufr_engines.proofs.PartFacts.{adds_held}
 use Rattle.bufr_engines.proofs.printer.Printer.show_frame.Goals as goal
 
--- the listing of a message that octets spell is short
 pub print_listing-requires-clause-listed : goal.print_listing-requires-clause-listed
 print_listing-requires-clause-listed g c =
     listing_short c.in-Ok.found.message
     (c.subsets_are_small.ensures _ _ _ _ c.in-Ok.ensures.found)
 
--- the line of a refused frame is held
 pub returns-in_ok-hold_refused-in-Err-Fault-clause-prints :
     goal.returns-in_ok-hold_refused-in-Err-Fault-clause-prints
 returns-in_ok-hold_refused-in-Err-Fault-clause-prints g c =

@@ -1,10 +1,9 @@
--- The clause of `stop`: what is held was written, or the writer failed.
+-- The printer writes what it holds, or the writer fails.
 use Rattle.std.proofs.Common.{subst, sym}
 use Rattle.bufr_engines.specs.StreamEngines.{Stops, StopsWithin}
 use Rattle.bufr_engines.proofs.PartFacts.{stops_then, stops_written}
 use Rattle.bufr_engines.proofs.printer.Printer.stop.Goals as goal
 
--- where memory ran out, and what was held is written
 pub returns-in-Ok : goal.returns-in-Ok
 returns-in-Ok g c first text h =
     let fault = c.in-OutOfMemory.is in
@@ -13,7 +12,6 @@ returns-in-Ok g c first text h =
     (subst (StopsWithin text first c.args.self.now (g.W.Sink.writing c.args.writer.now)) fault h)
     c.in-Ok.ensures.writes.0)
 
--- or the writer fails now
 pub returns-in-Err : goal.returns-in-Err
 returns-in-Err g c first text h =
     let fault = c.in-OutOfMemory.is in

@@ -1,4 +1,4 @@
--- The clauses of `take_frame`: a frame whose octets spell a message adds it, and another only counts.
+-- The archive adds the message of the frame, or counts a refusal.
 use Rattle.std.proofs.Common.{◌≡◌, ◌+◌, refl, arith}
 use Rattle.bufr_io.specs.Taking.{frame_at}
 use Rattle.bufr_engines.proofs.FrameFacts.{added_ok, added_none}
@@ -7,7 +7,6 @@ use Rattle.bufr_engines.proofs.streams.ArchiveBuilderTakesFramesCounts.take_fram
 use Rattle.bufr_engines.proofs.streams.ArchiveBuilderTakesFramesCounts.take_frame.Goals.{in-Ok}
 use Rattle.bufr_engines.proofs.streams.ArchiveBuilderTakesFramesCounts.take_frame.Goals.{in-Err-Refused}
 
--- after some frames this one was added and counted, whether it spells a message or not
 pub returns-clause-taken : goal.returns-clause-taken
 returns-clause-taken c first begin frames h =
     let old = c.args.self.now in

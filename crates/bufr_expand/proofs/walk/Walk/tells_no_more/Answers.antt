@@ -12,8 +12,8 @@ returns-in-Going g c =
     let w = c.args.self.now in
     let closed : length w.loops.items ≡ 0 =
     omega (arith, w.loops.ok.0, c.len.ensures, c.if-len-eq0.true) in
-    none_told g.A.Asks.is_asked w c.all.result c.in-Going.is
+    none_told (g.A.Asks.is_asked c.args.asked.now) w c.all.result c.in-Going.is
     (nil_from_length w.loops.items closed)
-    (all_from_yields_List (λ node. not (tells g.A.Asks.is_asked node)) _ _ c.all.result c.all.ensures.ran
+    (all_from_yields_List (λ node. not (tells (g.A.Asks.is_asked c.args.asked.now) node)) _ _ c.all.result c.all.ensures.ran
     (YieldsList-from_slice (take (w.stop - w.place) (drop w.place w.nodes.now)) cc)
     (λ x b q k. search (rules, tests)))

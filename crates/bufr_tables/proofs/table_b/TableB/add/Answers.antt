@@ -8,15 +8,15 @@ use Rattle.bufr_tables.specs.EntryLaws.{Rising-insert}
 use Rattle.bufr_tables.proofs.TableFacts.{NoCounts-insert}
 use Rattle.bufr_tables.proofs.table_b.TableB.add.Goals as goal
 
-pub returns-then-eq : goal.returns-then-eq
-returns-then-eq c =
+pub returns-then-eq-clause-exact : goal.returns-then-eq-clause-exact
+returns-then-eq-clause-exact c =
     rw (← c.self.view_is)
     (with_element-same c.self.inside.rows.entries c.args.fxy c.args.element c.in-Some.old.now
     (at-lookup c.args.fxy c.self.inside.rows.entries ∙ sym c.in-Some.ensures.value)
     (sym c.if-eq.ensures))
 
-pub returns-in-Some : goal.returns-in-Some
-returns-in-Some c =
+pub returns-in-Some-clause-exact : goal.returns-in-Some-clause-exact
+returns-in-Some-clause-exact c =
     rw (← c.self.view_is)
     (with_element-other c.self.inside.rows.entries c.args.fxy c.args.element c.in-Some.old.now
     (at-lookup c.args.fxy c.self.inside.rows.entries ∙ sym c.in-Some.ensures.value)
@@ -30,8 +30,8 @@ invariant_of-self-2 c =
           c.self.invariant.1,
     )
 
-pub returns : goal.returns
-returns c =
+pub returns-clause-exact : goal.returns-clause-exact
+returns-clause-exact c =
     rw (← c.self.view_is)
     (with_element-new c.self.inside.rows.entries c.args.fxy c.args.element
     (at-lookup c.args.fxy c.self.inside.rows.entries ∙ sym c.in_default.ensures.value)

@@ -6,15 +6,15 @@ use Rattle.bufr_data.proofs.compressed.fields.ColumnFields.next_asked.Goals as g
 
 pub loop-preserved : goal.loop-preserved
 loop-preserved g c =
-    one_passed g.A.Asks.is_asked c.args.self.now c.loop.self c.pass_first.new.self
+    one_passed (g.A.Asks.is_asked c.args.asked.now) c.args.self.now c.loop.self c.pass_first.new.self
     c.loop.invariant c.loop-test.ensures.passed
 
 pub returns : goal.returns
 returns g c =
     let same = sym c.loop-test.ensures.unmoved in
     IfOk-weaker c.next.result _ _
-    (λ found handed. asked_handed g.A.Asks.is_asked c.args.self.now c.pass_first.new.self
+    (λ found handed. asked_handed (g.A.Asks.is_asked c.args.asked.now) c.args.self.now c.pass_first.new.self
     c.next.new.self found
-    (subst (PassesUnasked g.A.Asks.is_asked c.args.self.now) same c.loop.invariant)
-    (subst (FirstIsAsked g.A.Asks.is_asked) same c.loop-test.ensures.asked) handed)
+    (subst (PassesUnasked (g.A.Asks.is_asked c.args.asked.now) c.args.self.now) same c.loop.invariant)
+    (subst (FirstIsAsked (g.A.Asks.is_asked c.args.asked.now)) same c.loop-test.ensures.asked) handed)
     c.next.ensures.first

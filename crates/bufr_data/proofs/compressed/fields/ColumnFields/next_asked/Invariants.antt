@@ -4,7 +4,7 @@ use Rattle.bufr_data.proofs.compressed.fields.ColumnFields.next_asked.Given as g
 
 -- no skipped field is chosen
 abbrev pub invariant-loop : goal.invariant-loop
-invariant-loop g l = PassesUnasked g.A.Asks.is_asked l.fn.self l.self
+invariant-loop g l = PassesUnasked (g.A.Asks.is_asked l.asked) l.fn.self l.self
 
 -- each turn leaves one field fewer
 abbrev pub decreases-loop : goal.decreases-loop

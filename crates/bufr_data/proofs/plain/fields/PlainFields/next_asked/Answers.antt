@@ -5,7 +5,7 @@ use Rattle.bufr_data.proofs.plain.fields.PlainFields.next_asked.Goals as goal
 
 pub returns-then-tells_no_more : goal.returns-then-tells_no_more
 returns-then-tells_no_more g c = (
-  none_ahead g.A.Asks.is_asked c.self.inside.done c.self.inside.walk c.self.inside.reader
+  none_ahead (g.A.Asks.is_asked c.args.asked.now) c.self.inside.done c.self.inside.walk c.self.inside.reader
       c.args.self.now c.if-not-self.true c.self.view_is c.if-tells_no_more.ensures,
   refl,
 )
@@ -13,11 +13,11 @@ returns-then-tells_no_more g c = (
 pub loop-field-preserved-else-asks : goal.loop-field-preserved-else-asks
 loop-field-preserved-else-asks g c =
     let first = rw c.in-Some.is at c.in_ok-field.ensures in
-    one_passed g.A.Asks.is_asked c.args.self.now c.loop-field.self c.next.new.self
+    one_passed (g.A.Asks.is_asked c.args.asked.now) c.args.self.now c.loop-field.self c.next.new.self
     c.loop-field.invariant (c.in-Some.field, sym c.asks.ensures ∙ c.if-asks.false, first)
 
 pub loop-field-preserved : goal.loop-field-preserved
 loop-field-preserved g c =
     let first = rw c.in-Some.is at c.in_ok-field.ensures in
-    one_passed g.A.Asks.is_asked c.args.self.now c.loop-field.self c.next.new.self
+    one_passed (g.A.Asks.is_asked c.args.asked.now) c.args.self.now c.loop-field.self c.next.new.self
     c.loop-field.invariant (c.in-Some.field, sym c.asks.ensures ∙ c.if-asks.false, first)

@@ -4,7 +4,7 @@ use Rattle.bufr_data.proofs.plain.fields.PlainFields.next_asked.Given as goal
 
 -- no skipped field is chosen
 abbrev pub invariant-loop-field : goal.invariant-loop-field
-invariant-loop-field g l = PassesUnasked g.A.Asks.is_asked l.fn.self l.self
+invariant-loop-field g l = PassesUnasked (g.A.Asks.is_asked l.asked) l.fn.self l.self
 
 -- each turn leaves one field fewer
 abbrev pub decreases-loop-field : goal.decreases-loop-field

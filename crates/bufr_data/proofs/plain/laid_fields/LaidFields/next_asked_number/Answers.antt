@@ -33,6 +33,6 @@ returns-clause-found g c =
     c.read_number.new.reader (Number c.in_ok-number.number) c.in-Some.ensures.cases.0
     c.self.invariant c.in_ok-number.ensures.found in
     rw c.by_parts.ensures
-    (asked_handed g.A.Asks.is_asked c.args.self.now c.pass_unasked.new.self
+    (asked_handed (g.A.Asks.is_asked c.args.asked.now) c.args.self.now c.pass_unasked.new.self
     (fields_laid c.in-Some.others.now c.read_number.new.reader) (Some (as_field number))
     c.pass_unasked.ensures.passed c.pass_unasked.ensures.asked (sym c.self.view_is ∙ h.is))

@@ -1,0 +1,5 @@
+mod ColumnFacts
+mod RowFacts
+mod TextFacts
+mod WordFacts
+mod AskedFacts

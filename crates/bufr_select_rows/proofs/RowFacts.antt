@@ -1,0 +1,112 @@
+-- The texts of records, by the number of their fields: the contracts of `push_row`, `push_header` and
+-- `push_alone`.
+use Rattle.std.proofs.Common.{◌≡◌, ℕ, ◌==◌, Bool, true, false, List, [], ◌∷◌, ◌++◌, length, map, refl}
+use Rattle.std.proofs.Common.{sym, ap, ◌∙◌, cond, ◌<◌, ◌≤◌, arith, drop, get_or, OnOk, Result, Ok, Err}
+use Rattle.std.proofs.lemmas.Bool.{eqb-true}
+use Rattle.std.proofs.lemmas.Bool.Decides.{nat_tests}
+use Rattle.std.proofs.Common.{append_assoc}
+use Rattle.std.proofs.Common.{take, ◌-◌}
+use Rattle.std.proofs.lemmas.List.{append-nil, take_all}
+use Rattle.csv.specs.Writing.{default_writer, field_text, fields_text, is_blank, needs_quotes}
+use Rattle.csv.specs.Writing.{quoted, row_text}
+
+-- a record without a field
+pub row_none : (f : List ℕ → List ℕ) → row_text default_writer [] ≡ 34 ∷ 34 ∷ 10 ∷ []
+unfolding is_blank
+row_none f = refl
+
+-- a test for zero
+some_test : (n : ℕ) → 0 < n → (n == 0) ≡ false
+some_test n some = grind (arith, nat_tests)
+
+none_test : (n : ℕ) → (n == 0) ≡ true → n ≡ 0
+none_test n none = eqb-true n 0 none
+
+-- one empty field
+pub row_empty : (field : List ℕ) → (length field == 0) ≡ true
+    → row_text default_writer (field ∷ []) ≡ 34 ∷ 34 ∷ 10 ∷ []
+unfolding is_blank fields_text
+row_empty [] none = refl
+row_empty (x ∷ field) none = absurd (omega (arith, none_test (length (x ∷ field)) none))
+
+-- the end of a record with these octets in its one field
+one_ended : (octets : List ℕ) (is : Bool) → (length octets == 0) ≡ is → is ≡ false
+    → (octets ++ []) ++ ((cond (length octets == 0) (34 ∷ 34 ∷ []) []) ++ 10 ∷ [])
+    ≡ octets ++ 10 ∷ []
+one_ended octets is same some =
+    ap (λ b. (octets ++ []) ++ ((cond b (34 ∷ 34 ∷ []) []) ++ 10 ∷ [])) (same ∙ some)
+    ∙ ap (λ (t : List ℕ). t ++ 10 ∷ []) (append-nil octets)
+
+-- a field with octets has a text with octets
+text_some : (quotes : Bool) (field : List ℕ) → (length field == 0) ≡ false
+    → (length (cond quotes (quoted default_writer field) field) == 0) ≡ false
+text_some true field some = some_test (length (quoted default_writer field)) (omega arith)
+text_some false field some = some
+
+-- one field that is not empty
+pub row_one : (field : List ℕ) → (length field == 0) ≡ false
+    → row_text default_writer (field ∷ []) ≡ field_text default_writer field ++ 10 ∷ []
+unfolding is_blank fields_text
+row_one field some =
+    one_ended (field_text default_writer field) _ refl
+    (text_some (needs_quotes default_writer field) field some)
+
+-- more fields than one
+pub rows_more : {A : Type 0} (f : A → List ℕ) (x : A) (others : List A) → (length others == 0) ≡ false
+    → row_text default_writer (map f (x ∷ others))
+    ≡ (field_text default_writer (f x) ++ fields_text default_writer (map f others)) ++ 10 ∷ []
+unfolding is_blank
+rows_more f x [] some = absurd cc
+rows_more f x (y ∷ others) some = refl
+
+-- ---- the steps of the functions
+
+-- a fact about what was added, made of another
+pub on_ok_then : {A E P Q : Type 0} (r : Result A E) → (P → Q) → OnOk r P → OnOk r Q
+on_ok_then (Ok x) f p = f p
+on_ok_then (Err x) f p = tt
+
+-- a list without elements
+pub rows_none : {A : Type 0} (f : A → List ℕ) (xs : List A) → length xs < 1
+    → 34 ∷ 34 ∷ 10 ∷ [] ≡ row_text default_writer (map f xs)
+rows_none f [] none = sym (row_none (λ t. t))
+rows_none f (x ∷ xs) none = absurd (omega (arith, none))
+
+-- a list by its first element
+by_first : {A : Type 0} (xs : List A) (x : A) → 1 ≤ length xs → x ≡ get_or xs 0 x
+    → xs ≡ x ∷ drop 1 xs
+by_first [] x some is = absurd (omega (arith, some))
+by_first (y ∷ xs) x some is = ap (λ z. z ∷ xs) (sym is)
+
+-- the others, as a slice
+tail_all : {A : Type 0} (xs : List A) → take (length xs - 1) (drop 1 xs) ≡ drop 1 xs
+tail_all [] = refl
+tail_all (x ∷ xs) = take_all (length (x ∷ xs) - 1) xs (omega arith)
+
+-- the pieces of a record of several fields
+pub row_pieces : {A : Type 0} (f : A → List ℕ) (xs : List A) (x : A) (old one two new shown : List ℕ)
+    → 1 ≤ length xs → x ≡ get_or xs 0 x
+    → (length (take (length xs - 1) (drop 1 xs)) == 0) ≡ false → shown ≡ f x
+    → one ≡ old ++ field_text default_writer shown
+    → two ≡ one ++ fields_text default_writer (map f (take (length xs - 1) (drop 1 xs)))
+    → new ≡ two ++ 10 ∷ [] → new ≡ old ++ row_text default_writer (map f xs)
+row_pieces f xs x old one two new shown some first more is one_is two_is new_is =
+    let others = take (length xs - 1) (drop 1 xs) in
+    let tail = fields_text default_writer (map f others) in
+    let all : xs ≡ x ∷ others =
+    by_first xs x some first ∙ ap (λ ys. x ∷ ys) (sym (tail_all xs)) in
+    new_is ∙ ap (λ (t : List ℕ). t ++ 10 ∷ []) (two_is ∙ ap (λ (t : List ℕ). t ++ tail) one_is)
+    ∙ ap (λ (t : List ℕ). t ++ 10 ∷ []) (append_assoc old (field_text default_writer shown) tail)
+    ∙ append_assoc old (field_text default_writer shown ++ tail) (10 ∷ [])
+    ∙ ap (λ (t : List ℕ). old ++ ((field_text default_writer t ++ tail) ++ 10 ∷ [])) is
+    ∙ ap (λ (t : List ℕ). old ++ t) (sym (rows_more f x others more))
+    ∙ ap (λ ys. old ++ row_text default_writer (map f ys)) (sym all)
+
+-- the pieces of a record of one field
+pub one_pieces : (field old one new : List ℕ) → (length field == 0) ≡ false
+    → one ≡ old ++ field_text default_writer field → new ≡ one ++ 10 ∷ []
+    → new ≡ old ++ row_text default_writer (field ∷ [])
+one_pieces field old one new some one_is new_is =
+    new_is ∙ ap (λ (t : List ℕ). t ++ 10 ∷ []) one_is
+    ∙ append_assoc old (field_text default_writer field) (10 ∷ [])
+    ∙ ap (λ (t : List ℕ). old ++ t) (sym (row_one field some))

@@ -1,0 +1,138 @@
+//! A cell of a row: what was picked of the fields for its column.
+
+ghost use Rattle.std.specs.Prelude.{◌≡◌, OnOk, if◌then◌else◌};
+ghost use Rattle.bufr_select_rows.specs.Cells.{begun, counted, fresh, noted, opened, put_before, shown};
+ghost use Rattle.bufr_select_rows.specs.Rows.{origin};
+
+use crate::column::Column;
+use crate::origin::Origin;
+use crate::text::Text;
+use bufr_base::OutOfMemory;
+use bufr_fields::Field;
+use std::alloc::Global;
+
+/// A cell of a row: a column, and what was picked for it of the fields so far.
+#[derive(Debug, Drop)]
+pub struct Cell {
+    /// The column.
+    pub column: Column,
+    /// The number of fields of the column up to the one that the cell shows; 0 after it.
+    pub ahead: u64,
+    /// The text of the cell if its span has no such field.
+    pub before: Text,
+    /// The text of the field in the span.
+    pub here: Text,
+}
+
+impl Cell {
+    /// Makes the cell of a column.
+    pub(crate) fn new(alloc: Global, column: Column) -> Cell
+        ensures { result ≡ fresh column }
+    {
+        Cell {
+            column,
+            ahead: 0,
+            before: Text::new(alloc),
+            here: Text::new(alloc),
+        }
+    }
+
+    /// Begins a subset.
+    pub(crate) fn begin(&mut self, from: &Origin<'_>) -> Result<(), OutOfMemory>
+        ensures { OnOk result (self.new ≡ begun (origin from.now) self.old.column) }
+    {
+        self.open();
+        let column = self.column;
+        match column {
+            Column::Told(fact) => self.before.put_number(from.number(fact)),
+            Column::First(_) | Column::Nth(_, _) => {
+                self.before.clear();
+                Ok(())
+            }
+        }
+    }
+
+    /// Opens a span.
+    pub(crate) fn open(&mut self)
+        ensures { self.new ≡ opened self.old }
+    {
+        self.here.clear();
+        let column = self.column;
+        self.ahead = match column {
+            Column::Told(_) | Column::First(_) => 1,
+            Column::Nth(_, number) => number,
+        };
+    }
+
+    /// Notes a field of a span, or one before all spans.
+    #[inline(always)]
+    pub(crate) fn note(&mut self, in_span: bool, field: &Field) -> Result<(), OutOfMemory>
+        ensures { OnOk result (self.new ≡ noted in_span field.now self.old) }
+    {
+        let column = self.column;
+        match column {
+            Column::Told(_) => Ok(()),
+            Column::First(fxy) => {
+                if in_span {
+                    self.count_if(field.fxy == fxy, field)
+                } else {
+                    self.put_if(field.fxy == fxy, field)
+                }
+            }
+            Column::Nth(fxy, _) => {
+                if in_span {
+                    self.count_if(field.fxy == fxy, field)
+                } else {
+                    Ok(())
+                }
+            }
+        }
+    }
+
+    /// Counts a field in a span if it is of the column.
+    #[inline(always)]
+    fn count_if(&mut self, is: bool, field: &Field) -> Result<(), OutOfMemory>
+        ensures { OnOk result (self.new ≡ (if is then counted field.now self.old else self.old)) }
+    {
+        if is { self.count(field) } else { Ok(()) }
+    }
+
+    /// Puts the value of a field before all spans if it is of the column.
+    #[inline(always)]
+    fn put_if(&mut self, is: bool, field: &Field) -> Result<(), OutOfMemory>
+        ensures { OnOk result (self.new ≡ (if is then put_before field.now self.old
+            else self.old)) }
+    {
+        if is {
+            self.before.put_value(field)
+        } else {
+            Ok(())
+        }
+    }
+
+    /// Counts a field of the column in a span, and shows it if it is the one.
+    fn count(&mut self, field: &Field) -> Result<(), OutOfMemory>
+        ensures { OnOk result (self.new ≡ counted field.now self.old) }
+    {
+        if self.ahead == 0 {
+            return Ok(());
+        }
+        self.ahead -= 1;
+        if self.ahead > 0 {
+            return Ok(());
+        }
+        self.here.put_value(field)
+    }
+
+    /// Returns the text of the cell.
+    #[inline(always)]
+    pub(crate) fn shown(&self) -> &[u8]
+        ensures { result.now ≡ shown self.now }
+    {
+        if self.ahead == 0 {
+            self.here.as_slice()
+        } else {
+            self.before.as_slice()
+        }
+    }
+}

@@ -1,0 +1,53 @@
+//! The cells of a row.
+
+ghost use Rattle.std.specs.Prelude.{◌≡◌, map, IfOk, OnOk};
+ghost use Rattle.bufr_select_rows.specs.Cells.{begun, fresh, noted, opened};
+ghost use Rattle.bufr_select_rows.specs.Rows.{origin};
+
+use crate::cell::Cell;
+use crate::column::Column;
+use crate::origin::Origin;
+use bufr_base::OutOfMemory;
+use bufr_fields::Field;
+use std::alloc::Global;
+
+/// Makes the cells of columns.
+pub fn cells_of(alloc: Global, columns: &[Column]) -> Result<Vec<Cell>, OutOfMemory>
+    ensures { IfOk result (λ cells. cells.items ≡ map fresh columns.now) }
+{
+    let mut cells = Vec::with_capacity(alloc, columns.len())?;
+    for column in columns {
+        cells.push(Cell::new(alloc, *column))?;
+    }
+    Ok(cells)
+}
+
+/// Begins a subset.
+pub fn begin_cells(cells: &mut [Cell], from: &Origin<'_>) -> Result<(), OutOfMemory>
+    ensures { OnOk result (cells.new
+        ≡ map (λ cell. begun (origin from.now) cell.column) cells.old) }
+{
+    for cell in cells.iter_mut() {
+        cell.begin(from)?;
+    }
+    Ok(())
+}
+
+/// Opens a span.
+pub fn open_cells(cells: &mut [Cell])
+    ensures { cells.new ≡ map opened cells.old }
+{
+    for cell in cells.iter_mut() {
+        cell.open();
+    }
+}
+
+/// Notes a field of a span, or one before all spans.
+pub fn note_field(cells: &mut [Cell], in_span: bool, field: &Field) -> Result<(), OutOfMemory>
+    ensures { OnOk result (cells.new ≡ map (noted in_span field.now) cells.old) }
+{
+    for cell in cells.iter_mut() {
+        cell.note(in_span, field)?;
+    }
+    Ok(())
+}

@@ -1,0 +1,22 @@
+//! The rows of subsets: columns, the values of fields as text, and lines of comma-separated values.
+#![tactic(auto)]
+
+mod asked;
+mod cell;
+mod cells;
+mod column;
+mod columns;
+mod origin;
+mod row;
+mod text;
+mod told;
+
+pub use asked::Asked;
+pub use cell::Cell;
+pub use cells::{begin_cells, cells_of, note_field, open_cells};
+pub use column::Column;
+pub use columns::{ColumnsFault, columns_of};
+pub use origin::Origin;
+pub use row::{push_header, push_row};
+pub use text::Text;
+pub use told::Told;
