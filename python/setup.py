@@ -15,7 +15,7 @@ class BuildWithFiles(build_py):
 
     def run(self):
         super().run()
-        for path in sorted([f"{TOP}/bufr", f"{TOP}/LICENSE", f"{TOP}/NOTICE", *glob.glob(f"{TOP}/dist/*/*"),
+        for path in sorted([f"{TOP}/bufr", f"{TOP}/bufr-select", f"{TOP}/LICENSE", f"{TOP}/NOTICE", *glob.glob(f"{TOP}/dist/*/*"),
                             *glob.glob(f"{TOP}/tables/*")]):
             to = os.path.join(self.build_lib, "bufr", "files", os.path.relpath(path, TOP))
             os.makedirs(os.path.dirname(to), exist_ok=True)

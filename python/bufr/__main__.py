@@ -1,13 +1,15 @@
-#!/usr/bin/env python3
+#!/usr/bin/env -S python3 -S
 """Runs a command of the package: the one by whose name a link leads here, as annotate or bufr-annotate, or else the one that
 the first word names:
 
     python3 -m bufr annotate LISTING"""
+import gc
 import os
 import sys
 
 COMMANDS = ("annotate", "by-version", "collect-slurm", "from-csv", "from-json", "geojson", "lint", "map", "report",
             "skeleton", "summary", "to-json")
+DRAWING = ("map", "report")
 
 if not __package__:
     # run as a file: the package is the folder that has it, and nothing is written there
@@ -24,8 +26,22 @@ def main():
         name = sys.argv.pop(1) if len(sys.argv) > 1 else ""
     if name not in COMMANDS:
         sys.exit(f"usage: python3 -m bufr COMMAND ..: a COMMAND is one of {', '.join(COMMANDS)}")
+    # what is loaded leaves nothing to collect
+    gc.disable()
     __import__("bufr." + name.replace("-", "_"))
-    sys.modules["bufr." + name.replace("-", "_")].command()
+    gc.enable()
+    try:
+        sys.modules["bufr." + name.replace("-", "_")].command()
+    except SystemExit as end:
+        if name in DRAWING:
+            raise
+        # the others need nothing of what Python does at its end, which takes long
+        try:
+            sys.stdout.flush()
+            sys.stderr.flush()
+        except OSError:
+            raise end from None
+        os._exit(end.code)
 
 
 if __name__ == "__main__":

@@ -5,11 +5,11 @@ octets, since it passes over lines with `#`.
 
 The status is 1 if a message was refused: standard error names each, and its line `# refused` is in the listing. Standard error
 also tells the octets of messages that are cut or broken."""
-import argparse
-import sys
 
 from . import tables as bufr_tables
+from .commands import entry, listing_out
 from .inputs import Listed
+from .parsers import add_input, parser_of
 
 
 def comment(text):
@@ -53,17 +53,13 @@ class NotesByVersion:
 
 
 def main():
-    parser = argparse.ArgumentParser(prog=bufr_tables.called("annotate"), description=__doc__,
-                                     formatter_class=argparse.RawDescriptionHelpFormatter)
-    bufr_tables.add_options(parser)
-    bufr_tables.add_table_options(parser)
-    parser.add_argument("--quiet", action="store_true", help="does not say how far it is")
-    parser.add_argument("file", nargs="?", default="-", metavar="FILE", help="a BUFR file or a listing (standard input: -)")
+    parser = parser_of("annotate", __doc__)
+    add_input(parser, "file", "a BUFR file or a listing (standard input: -)")
     arguments = parser.parse_args()
     tables = bufr_tables.TablesByVersion.chosen(arguments)
     listed = Listed(parser.prog, arguments.file, tables.paths, arguments.quiet)
     made, notes = NotesByVersion(tables), None
-    out = open(sys.stdout.fileno(), "w", encoding="latin-1", newline="\n", closefd=False)
+    out = listing_out()
     for line in listed:
         if line[:1].isdigit():
             notes = notes or made.of()
@@ -78,5 +74,4 @@ def main():
     return listed.status()
 
 
-def command():
-    bufr_tables.run(bufr_tables.called("annotate"), main)
+command = entry("annotate", main)

@@ -4,11 +4,13 @@ import os
 import re
 
 from . import streams as bufr_streams
-from . import tables as bufr_tables
-from .streams import Fed, Inputs, Output, Process, leave_out, note, program, say, tables_of
-from .tables import Fault
+from .commands import called
+from .errors import Ended, Fault
+from .processes import Process, end_all, program
+from .streams import Fed, Inputs, Output, leave_out, note, say, tables_of
+from .versions import VERSIONS, version_of
 
-NEWEST = bufr_tables.VERSIONS[-1]
+NEWEST = VERSIONS[-1]
 SECTION_1 = re.compile(rb"^section1(?: [0-9]+){6} ([0-9]+) ", re.M)
 
 
@@ -87,7 +89,7 @@ class Archives:
             if file == each.to:
                 each.send()
                 if each.is_gone:
-                    raise bufr_tables.Ended(2)
+                    raise Ended(2)
 
     def finish(self):
         if len(self.counts) > 1 and "{}" not in self.out:
@@ -120,7 +122,7 @@ def fail_after(written):
     """Ends the call after a program that said why it failed, and names the archives that are written."""
     for path in written:
         say("bufr", f"{path} was written before")
-    raise bufr_tables.Ended(2)
+    raise Ended(2)
 
 
 def print_last(text, out, version, refused=0):
@@ -142,7 +144,7 @@ def add(out, names):
         bufr_streams.pump(inputs, archives)
         return archives.finish()
     finally:
-        bufr_streams.end_all()
+        end_all()
         archives.drop()
 
 
@@ -195,7 +197,7 @@ def merge(out, names):
     try:
         bufr_streams.pump(versions.inputs, versions)
     finally:
-        bufr_streams.end_all()
+        end_all()
     totals = {}
     for number, counts in versions.counts.items():
         for version, count in counts.items():
@@ -234,7 +236,7 @@ def merged(version, out, paths, chosen, written):
         written.append(target.path)
         return text
     finally:
-        bufr_streams.end_all()
+        end_all()
         target.drop()
 
 
@@ -249,7 +251,7 @@ class Block:
         named = int(found[1]) if found else None
         self.named, self.version = named, None
         if named is not None and named <= 255:
-            self.version = bufr_tables.version_of(named) or 0
+            self.version = version_of(named) or 0
             self.line = line + text.count(b"\n", 0, found.start())
 
 
@@ -360,7 +362,7 @@ class Parted:
         for place, octets in zip(part.places(), part.frames()):
             why = f"master table version {part.named}" if part.version == 0 else \
                 f"edition {octets[7]}" if octets[7] not in (3, 4) else f"master table {octets[11]}" if octets[11] else "sections that do not fit"
-            say(bufr_tables.called("by-version"), f"{self.inputs.names[part.number]}: {why} at {place}: left out")
+            say(called("by-version"), f"{self.inputs.names[part.number]}: {why} at {place}: left out")
             self.left_out += 1
 
     def put(self):
@@ -383,7 +385,7 @@ def part_into(folder, names, progress=None):
         bufr_streams.pump(inputs, parted)
         parted.put()
     finally:
-        bufr_streams.end_all()
+        end_all()
         parted.drop()
     return parted
 
@@ -399,5 +401,5 @@ def run_each(words, names, progress=None):
                 here = [word.replace("{}", str(version)) for word in words]
                 status = max(status, abs(Process([*here, *tables_of(version), parted.path(version)], ()).wait()))
         finally:
-            bufr_streams.end_all()
+            end_all()
     return min(status, 2)

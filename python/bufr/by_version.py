@@ -17,14 +17,16 @@ import os
 import sys
 
 from . import streams as bufr_streams
-from . import tables as bufr_tables
-from .streams import Fed, Inputs, Output, leave_out, note, program, tables_of
-from .tables import Fault
+from .commands import called, run
+from .errors import Ended, Fault
+from .processes import end_all, halt_at_signals, program
+from .streams import Fed, Inputs, Output, leave_out, note, tables_of
+from .versions import VERSIONS
 
 COMMANDS = ("show", "check", "encode", "add", "merge")
 # How many octets of a program's answers are read at once; more if a line is longer.
 ANSWER = 1 << 18
-NEWEST = bufr_tables.VERSIONS[-1]
+NEWEST = VERSIONS[-1]
 # A frame that is refused under any tables. It is fed after each part, and the line of its refusal ends the answers to the part:
 # its place is greater than that of any message before it, so no other line is like it.
 MARK = b"BUFR\0\0\x0c\x057777"
@@ -191,14 +193,14 @@ class Answers:
             elif file == each.answers and not each.read():
                 # it ended too early, and said why
                 self.out.flush()
-                raise bufr_tables.Ended(2)
+                raise Ended(2)
 
     def finish(self):
         skipped = self.inputs.size - self.left_out
         for each in self.programs.values():
             text, status = each.finish()
             if status not in (0, 1):
-                raise bufr_tables.Ended(2)
+                raise Ended(2)
             if self.kind == "check":
                 # what it did not skip are marks and messages
                 skipped -= each.fed - int(text.split()[5])
@@ -217,7 +219,7 @@ def answer(name, names, kind, words, standard_input=None, progress=None):
         bufr_streams.pump(inputs, answers)
         return answers.finish()
     finally:
-        bufr_streams.end_all()
+        end_all()
 
 
 # ---- the command line of bufr
@@ -267,19 +269,16 @@ def run_bufr(words):
 # ---- the command line of by-version
 
 def run_by_version():
-    import argparse
     import shlex
     from . import archives as bufr_archives
+    from .parsers import add_inputs, parser_of
     from .progress import InputsProgress
-    parser = argparse.ArgumentParser(prog=bufr_tables.called("by-version"), description=__doc__,
-                                     formatter_class=argparse.RawDescriptionHelpFormatter)
-    bufr_tables.add_options(parser)
+    parser = parser_of("by-version", __doc__, has_tables=False)
     to = parser.add_mutually_exclusive_group(required=True)
     to.add_argument("--into", metavar="FOLDER", help="writes FOLDER/version_NN.bufr for each version")
     to.add_argument("--run", metavar="COMMAND", help="runs the command for each version, with -b TABLE_B -d TABLE_D FILE after "
                     "its words")
-    parser.add_argument("--quiet", action="store_true", help="does not say how far it is")
-    parser.add_argument("files", nargs="*", metavar="FILE", help="the streams; standard input if none is named")
+    add_inputs(parser, "the streams; standard input if none is named")
     arguments = parser.parse_args()
     names = arguments.files or ["-"]
     progress = InputsProgress(parser.prog, names, arguments.quiet)
@@ -301,10 +300,9 @@ def run_by_version():
 
 
 def main():
-    for number in bufr_streams.HALTING[1:]:
-        bufr_streams.signal.signal(number, lambda number, _: sys.exit(128 + number))
+    halt_at_signals()
     return run_bufr(sys.argv[1:]) if sys.argv[1:2] and sys.argv[1] in COMMANDS else run_by_version()
 
 
 def command():
-    bufr_tables.run("bufr" if sys.argv[1:2] and sys.argv[1] in COMMANDS else bufr_tables.called("by-version"), main)
+    run("bufr" if sys.argv[1:2] and sys.argv[1] in COMMANDS else called("by-version"), main)

@@ -15,21 +15,23 @@ on from there, and reads again each stream that has another size or time than be
 archive, OUT.log the names and counts of the streams of each step that added, and OUT.work is gone.
 
 With --wait the status is 1 if a message was refused."""
-import argparse
 import glob
 import os
 import re
 import shlex
 import subprocess
-import sys
 
-from . import streams as bufr_streams
-from . import tables as bufr_tables
+from . import processes
+from .commands import entry
+from .errors import Fault
+from .parsers import add_quiet, parser_of
 from .progress import Progress
+from .tables import chosen_paths
+from .versions import HERE, TOP
 
 # The most steps of an array job, if --steps names no other: fewer than a Slurm allows that is not told otherwise.
 MOST_STEPS = 1000
-PROGRAMS = [os.path.join(bufr_tables.HERE, "files", "bufr"), os.path.join(bufr_tables.TOP, "bufr")]
+PROGRAMS = [os.path.join(HERE, "files", "bufr"), os.path.join(TOP, "bufr")]
 
 STEP = """#!/bin/sh
 # One step: `step LEVEL INDEX`. Level 0 adds streams, the others merge the archives of the level below.
@@ -121,7 +123,7 @@ def program():
 
 def found(name):
     """The whole path of the program `bufr` or `bufr-ls`."""
-    path = bufr_streams.program(name)
+    path = processes.program(name)
     return os.path.abspath(path) if "/" in path else path
 
 
@@ -147,7 +149,7 @@ def of_this_call(work, name, text):
     if os.path.exists(path):
         with open(path, encoding="utf-8", errors="surrogateescape") as file:
             if file.read() != text:
-                raise bufr_tables.Fault(f"{work} is of another call: take another --folder, or remove it")
+                raise Fault(f"{work} is of another call: take another --folder, or remove it")
     else:
         put(path, text)
 
@@ -196,7 +198,7 @@ def submit(words, work, progress):
     try:
         process = subprocess.Popen(["sbatch", "--parsable", *words], stdout=subprocess.PIPE, text=True)
     except OSError as error:
-        raise bufr_tables.Fault(f"cannot run sbatch: {error.strerror}") from error
+        raise Fault(f"cannot run sbatch: {error.strerror}") from error
     with process:
         while True:
             try:
@@ -207,15 +209,12 @@ def submit(words, work, progress):
     number = said.strip().split(";")[0]
     # with --wait the status is that of the job
     if not number or (process.returncode and "--wait" not in words):
-        raise bufr_tables.Fault("Slurm took no job: see the line above")
+        raise Fault("Slurm took no job: see the line above")
     return number
 
 
 def main():
-    parser = argparse.ArgumentParser(prog=bufr_tables.called("collect-slurm"), description=__doc__,
-                                     formatter_class=argparse.RawDescriptionHelpFormatter)
-    bufr_tables.add_options(parser)
-    bufr_tables.add_table_options(parser)
+    parser = parser_of("collect-slurm", __doc__)
     parser.add_argument("-o", metavar="OUT", required=True, help="the archive that is written")
     parser.add_argument("--folder", metavar="FOLDER", help="where the steps work (OUT.work)")
     parser.add_argument("--fan", type=int, default=16, metavar="N", help="how many archives a step merges (16)")
@@ -223,27 +222,27 @@ def main():
                         help=f"how many steps add at most, each some of the streams ({MOST_STEPS})")
     parser.add_argument("--tries", type=int, default=3, metavar="N", help="how often a step is tried (3)")
     parser.add_argument("--wait", action="store_true", help="ends when the archive is there, or a step failed")
-    parser.add_argument("--quiet", action="store_true", help="does not say how many steps are done")
+    add_quiet(parser, "how many steps are done")
     parser.add_argument("--sbatch", default="", metavar="OPTIONS", help="options for sbatch, as '-p short'")
     parser.add_argument("streams", nargs="+", metavar="STREAM", help="the streams, where all machines see them")
     arguments = parser.parse_args()
     if arguments.fan < 2 or arguments.tries < 1 or arguments.steps < 1:
-        raise bufr_tables.Fault("--fan is at least 2, --steps and --tries at least 1")
+        raise Fault("--fan is at least 2, --steps and --tries at least 1")
     streams = [os.path.abspath(name) for name in arguments.streams]
     for name in streams:
         if "\n" in name or not os.path.isfile(name):
-            raise bufr_tables.Fault(f"{name!r} is no file")
+            raise Fault(f"{name!r} is no file")
     out = os.path.abspath(arguments.o)
     work = os.path.abspath(arguments.folder or f"{out}.work")
     streams_a_step, steps = levels(len(streams), arguments.fan, arguments.steps)
     if arguments.b or arguments.d or arguments.tables or os.environ.get("BUFR_TABLES"):
-        b_path, d_path = (os.path.abspath(path) for path in bufr_tables.chosen_paths(arguments))
+        b_path, d_path = (os.path.abspath(path) for path in chosen_paths(arguments))
         tables, mark = f"-b {shlex.quote(b_path)} -d {shlex.quote(d_path)}", ""
         run = shlex.quote(program())
     else:
         tables, mark = "", ".{}" if "{}" in out else ""
         names = (f"{name.upper().replace('-', '_')}={shlex.quote(found(name))}" for name in ("bufr", "bufr-ls"))
-        run = f"env {' '.join(names)} python3 -IS {shlex.quote(os.path.join(bufr_tables.HERE, '__main__.py'))} by-version"
+        run = f"env {' '.join(names)} python3 -IS {shlex.quote(os.path.join(HERE, '__main__.py'))} by-version"
     for folder in ("parts", "lines", "log", "new"):
         os.makedirs(os.path.join(work, folder), exist_ok=True)
     of_this_call(work, "call", f"-o {shlex.quote(out)} {tables} --fan {arguments.fan} --steps {arguments.steps}\n")
@@ -267,9 +266,8 @@ def main():
         progress.end()
         print(f"job {before}: {count} {'merges' if level else 'adds'}", flush=True)
     if arguments.wait and not (os.path.exists(f"{out}.log") and not os.path.exists(work)):
-        raise bufr_tables.Fault(f"a step failed: see {work}/log")
+        raise Fault(f"a step failed: see {work}/log")
     return int(arguments.wait and refused(f"{out}.log") > 0)
 
 
-def command():
-    bufr_tables.run(bufr_tables.called("collect-slurm"), main)
+command = entry("collect-slurm", main)

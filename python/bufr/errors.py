@@ -23,5 +23,17 @@ class Refused(BufrError):
         self.file, self.place, self.reason = file, place, reason
 
 
+class Fault(Exception):
+    """What is wrong with the call of a command, a table or a listing, in one line."""
+
+
+class Ended(Exception):
+    """The end of a command with a status, of which a line on standard error was said before."""
+
+    def __init__(self, status: int) -> None:
+        super().__init__(status)
+        self.status = status
+
+
 class Missing(BufrError, ImportError):
     """A package that a call needs, and that is not installed."""

@@ -1,13 +1,14 @@
 """Reads observations from a CSV file and writes BUFR: a message for each row. A mapping, in JSON or from Python 3.11 on in TOML,
 says what each field has: a column, with its unit, or a constant. It also has the template, and section 1. Values are converted
-exactly, and an empty cell is missing.
+exactly, and an empty cell is missing. The CSV file is in UTF-8 or Windows-1252.
 
 If a value does not fit, nothing is written. Standard error names each such cell with its row and column, what the field wants,
 and what was found; and each fault of the mapping. The status is 1 if a cell does not fit, 2 after a fault of the mapping.
 
 With --new it writes a mapping to fill in, which has a line for each field of the template. If a CSV file is named too, a field has
-the column with its descriptor or the name of its element, and the time the column `time`."""
-import argparse
+the column with its descriptor or the name of its element, and time and station have the columns `time` and `station`.
+
+Standard error names the columns that the mapping does not."""
 import csv
 import datetime
 import os
@@ -17,17 +18,18 @@ from decimal import Decimal
 
 from . import tables as bufr_tables
 from . import wanted
-from .errors import BufrError
+from .commands import entry
+from .csv_input import open_csv, wmo_number
+from .errors import Fault
 from .mapping import GREATEST, Mapping, PARTS, near, new_mapping, number_of, said, shown, wish
+from .parsers import add_quiet, parser_of
 from .progress import Progress
 from .skeleton import counts_of
-from .tables import Fault
 from .to_json import TIME
 from .writing import encode
 
 MOMENT = re.compile(r"(\d{4})-(\d\d)-(\d\d)[T ](\d\d):?(\d\d)(?::?(\d\d)(?:\.0+)?)?\s*(Z|[+-]\d\d:?\d\d)?", re.A)
 WIGOS = re.compile(r"(\d{1,2})-(\d{1,5})-(\d{1,5})-([0-9A-Za-z]{1,16})", re.A)
-STATION = re.compile(r"(\d\d)(\d\d\d)", re.A)
 TIME_FIELDS = tuple(f"00400{number}" for number in range(1, 7))
 DELIMITERS = (",", ";", "\t")
 
@@ -75,7 +77,7 @@ class Reader:
     def __init__(self, name, path, quiet, delimiter, names_row, first_row):
         self.path, self.names_row, self.first_row = path, names_row, first_row
         try:
-            self.file = open(0 if path == "-" else path, encoding="utf-8-sig", errors="replace", newline="", closefd=path != "-")
+            self.file = open_csv(path)
         except OSError as error:
             raise Fault(f"cannot open {path}: {error.strerror}") from error
         size = os.fstat(self.file.fileno()).st_size if os.path.isfile(path) else None
@@ -171,6 +173,13 @@ class Converter:
                     self.absent(name, column)
                     self.mapping.composed[name] = [], None
 
+    def unused(self):
+        """The columns that the mapping does not name."""
+        mapping = self.mapping
+        named = {source.column for source in [*mapping.sources.values(), *mapping.section1.values()]}
+        named.update(column for columns, _ in mapping.composed.values() for column in columns)
+        return [column for column in self.reader.header if column and column not in named]
+
     def absent(self, name, column):
         count = len(self.places.get(column, []))
         self.mapping.fault(f"{name}: {self.reader.path} has {f'{count} columns' if count else 'no column'} {column}"
@@ -226,7 +235,9 @@ class Converter:
         """What is wrong with a text that is no number."""
         if decimal == "," and number_of(text) is not None:
             return 'it has a point, and "decimal" is ","'
-        return f"""it is no number{', which "decimal": "," in the mapping allows' if number_of(text, ",") is not None else ''}"""
+        if number_of(text, ",") is not None:
+            return 'it has a comma: write "decimal": "," in the mapping'
+        return "it is no number"
 
     @staticmethod
     def stray_digits(exact, field):
@@ -255,13 +266,14 @@ class Converter:
         try:
             if name == "time":
                 return moment_of(text, form)
-            found = (WIGOS if name == "wigos" else STATION).fullmatch(text)
-            if not found:
+            found = WIGOS.fullmatch(text)
+            number = wmo_number(text)
+            if (found if name == "wigos" else number) is None:
                 raise Bad
-            return dict(zip(PARTS[name], found.groups()))
+            return dict(zip(PARTS[name], found.groups() if name == "wigos" else (number[:2], number[2:])))
         except Bad:
             what = {"time": f"a time as {form or '2024-01-15T12:00:00Z'}", "wigos": "a WIGOS identifier as 0-20000-0-10384",
-                    "station": "five digits, as 10384"}[name]
+                    "station": "a number IIiii, as 06610 or 6610"}[name]
             self.fault(" and ".join(columns), f"wanted {what}; found {text}")
             return None
 
@@ -398,8 +410,6 @@ def convert(parser, arguments):
         octets = encode(converter.messages(arguments.subsets), chosen.paths)
     except Wrong:
         octets = None
-    except BufrError as error:
-        raise Fault(str(error)) from None
     finally:
         reader.progress.end()
     for line in [f"{mapping.path}: {fault}" for fault in mapping.faults] + said_lines:
@@ -412,6 +422,9 @@ def convert(parser, arguments):
         return 2 if mapping.faults else 1
     if converter.rounded:
         sys.stderr.write(f"{parser.prog}: rounded {counted(converter.rounded, 'value')}\n")
+    left = [" ".join(column.split()) for column in converter.unused()]
+    if left and not arguments.quiet:
+        sys.stderr.write(f"{parser.prog}: {mapping.path}: columns in no field: {', '.join(left)}\n")
     put(arguments.o, octets)
     return 0
 
@@ -444,23 +457,23 @@ def begin(parser, arguments, words):
     header = Reader(parser.prog, words[0], True, None, 1, 2).header if words else []
     asked = "" if arguments.b else bufr_tables.chosen_version(arguments)
     text, taken = new_mapping(bufr_tables.Tables(*bufr_tables.chosen_paths(arguments)), int(asked or 46), descriptors,
-                              arguments.counts, header)
+                              arguments.counts, header, arguments.centre)
     try:
         with open(arguments.new, "x", encoding="utf-8") as file:
             file.write(text)
     except OSError as error:
         raise Fault(f"cannot write {arguments.new}: {error.strerror}") from error
+    by_name = [f"{column} ({word})" for column, word in taken.items() if word[:1].isdigit() and word not in column]
+    if by_name:
+        print(f"{arguments.new}: columns by the names of elements: {', '.join(by_name)}")
     left = [column for column in header if column not in taken]
     if left:
-        print(f"{arguments.new}: columns that no field has yet: {', '.join(left)}")
+        print(f"{arguments.new}: columns in no field yet: {', '.join(left)}")
     return 0
 
 
 def main():
-    parser = argparse.ArgumentParser(prog=bufr_tables.called("from-csv"), description=__doc__,
-                                     formatter_class=argparse.RawDescriptionHelpFormatter)
-    bufr_tables.add_options(parser)
-    bufr_tables.add_table_options(parser)
+    parser = parser_of("from-csv", __doc__)
     parser.add_argument("-o", metavar="FILE", help="the file that is written (standard output)")
     parser.add_argument("--round", action="store_true", help="rounds each value to the digits of its field, a half to the even "
                         "digit, and says how many were rounded")
@@ -468,9 +481,10 @@ def main():
                         "time and section 1; a subset for each")
     parser.add_argument("--new", metavar="MAPPING", help="writes a mapping to fill in")
     parser.add_argument("--template", metavar="'DESCRIPTOR ..'", help="of a new mapping: the descriptors of section 3")
+    parser.add_argument("--centre", type=int, metavar="N", help="of a new mapping: the originating centre")
     parser.add_argument("--counts", type=counts_of, default=[], metavar="N,N,..", help="of a new mapping: how often the bodies of "
                         "the delayed replications come, in the order of their factors; 0 after the last")
-    parser.add_argument("--quiet", action="store_true", help="does not say how far it is")
+    add_quiet(parser)
     parser.add_argument("mapping", nargs="?", metavar="MAPPING", help="the mapping; with --new the CSV file is here")
     parser.add_argument("csv", nargs="?", metavar="CSV", help="the CSV file (standard input: -)")
     arguments = parser.parse_intermixed_args()
@@ -478,8 +492,9 @@ def main():
         return begin(parser, arguments, [word for word in (arguments.mapping, arguments.csv) if word])
     if not arguments.mapping:
         parser.error("wanted a MAPPING and a CSV file")
+    if arguments.centre is not None:
+        parser.error("--centre goes with --new: a mapping has its centre")
     return convert(parser, arguments)
 
 
-def command():
-    bufr_tables.run(bufr_tables.called("from-csv"), main)
+command = entry("from-csv", main)

@@ -1,11 +1,13 @@
 """Reads JSON as bufr-to-json writes it, an object a line for each message or for each subset, and writes the listing, for `bufr
 encode`. Each octet of the listing that bufr-to-json read comes back, but for lines with `#`. Names, units, files and places are
 not read. Messages without a subset are not in what `bufr-to-json --lines` writes."""
-import argparse
 import json
 import sys
 
 from . import tables as bufr_tables
+from .commands import entry
+from .errors import Fault
+from .parsers import add_input, parser_of
 from .progress import InputsProgress
 from .to_json import NUMBER, SECTION_1, TIME
 
@@ -121,11 +123,8 @@ def parsed(line):
 
 
 def main():
-    parser = argparse.ArgumentParser(prog=bufr_tables.called("from-json"), description=__doc__,
-                                     formatter_class=argparse.RawDescriptionHelpFormatter)
-    bufr_tables.add_options(parser)
-    parser.add_argument("--quiet", action="store_true", help="does not say how far it is")
-    parser.add_argument("file", nargs="?", default="-", metavar="FILE", help="the JSON (standard input: -)")
+    parser = parser_of("from-json", __doc__, has_tables=False)
+    add_input(parser, "file", "the JSON (standard input: -)")
     arguments = parser.parse_args()
     listings = Listings(sys.stdout)
     progress, place = InputsProgress(parser.prog, [arguments.file], arguments.quiet), 0
@@ -135,7 +134,7 @@ def main():
                 try:
                     listings.take(parsed(line.encode("latin-1")))
                 except (ValueError, RecursionError) as error:
-                    raise bufr_tables.Fault(f"line {number}: {error}") from error
+                    raise Fault(f"line {number}: {error}") from error
             place += len(line) + 1
             progress.reached(0, place)
     finally:
@@ -144,5 +143,4 @@ def main():
     return 0
 
 
-def command():
-    bufr_tables.run(bufr_tables.called("from-json"), main)
+command = entry("from-json", main)

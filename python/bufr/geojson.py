@@ -20,10 +20,12 @@ from decimal import Decimal
 from types import SimpleNamespace
 
 from . import tables as bufr_tables
-from .contents import without_folders
+from .commands import entry
+from .errors import Fault
+from .given import without_folders
 from .inputs import Listed, NoMessage
 from .levels import Leading
-from .tables import Fault
+from .parsers import add_inputs, parser_of
 from .to_json import Fields, Messages
 
 # A field: its descriptor, its name and unit as JSON, its value (a Decimal, a text or None) and that as JSON.
@@ -252,18 +254,14 @@ def descriptor(text):
 
 
 def main():
-    parser = argparse.ArgumentParser(prog=bufr_tables.called("geojson"), description=__doc__,
-                                     formatter_class=argparse.RawDescriptionHelpFormatter)
-    bufr_tables.add_options(parser)
-    bufr_tables.add_table_options(parser)
+    parser = parser_of("geojson", __doc__)
     parser.add_argument("--lines", action="store_true", help="a feature a line, and no collection")
     kind = parser.add_mutually_exclusive_group()
     kind.add_argument("--values", action="store_true", help="a feature for each observed value")
     kind.add_argument("--each", type=descriptor, metavar="FXY", help="a feature for each field with this descriptor, which has the "
                       "elements from there up to the next one: name the first field of a level")
     parser.add_argument("--missing", action="store_true", help="also the elements of a report or a level that are missing, as null")
-    parser.add_argument("--quiet", action="store_true", help="does not say how far it is")
-    parser.add_argument("files", nargs="*", default=["-"], metavar="FILE", help="BUFR files or listings (standard input: -)")
+    add_inputs(parser, "BUFR files or listings (standard input: -)")
     arguments = parser.parse_intermixed_args()
     tables = bufr_tables.TablesByVersion.chosen(arguments)
     arguments.leading = Leading([arguments.each])
@@ -277,8 +275,7 @@ def main():
             sys.stderr.write(f"{parser.prog}: {fault}\n")
             status = max(status, 1 if isinstance(fault, NoMessage) else 2)
     features.end()
-    warning = arguments.leading.said(f"--each {arguments.each}", "a feature has")
-    if warning:
+    for warning in arguments.leading.said(f"--each {arguments.each}", "a feature has"):
         sys.stderr.write(f"{parser.prog}: {warning}\n")
     return status
 
@@ -299,5 +296,4 @@ def one(name, file, tables, features, arguments):
     return listed.status()
 
 
-def command():
-    bufr_tables.run(bufr_tables.called("geojson"), main)
+command = entry("geojson", main)

@@ -2,16 +2,18 @@
 each. Python 3 with its standard library alone."""
 import os
 import re
+import select
 import stat
-import subprocess
 import sys
-import threading
 from collections import deque
+from io import BytesIO
+from itertools import chain, islice
 
+from .errors import Ended, Fault
+from .processes import PIECE, Process, program
 from .progress import Progress
-from .skipped import NOTHING, Skipped
-from .streams import program
-from .tables import Ended, Fault, HERE, version_of
+from .skipped import NOTHING, TEXT, Skipped
+from .versions import HERE, version_of
 
 HEAD = 1 << 16
 # How a line of a listing begins, in the first lines of a file.
@@ -25,7 +27,7 @@ class NoMessage(Fault):
     """That a file has no message, and is no listing."""
 
     def __init__(self, path, why=NOTHING):
-        super().__init__(f"{path} has no message, and is no listing{'' if why == NOTHING else f': {why}'}")
+        super().__init__(f"{path} has no message, and is no listing{'' if why in (NOTHING, TEXT) else f': {why}'}")
 
 
 def is_listing(head):
@@ -33,30 +35,44 @@ def is_listing(head):
     return bool(LISTED.match(head)) or not CONTROLS.search(head)
 
 
-class Rows:
-    """The rows of `bufr-ls`, taken in beside what else is read. They are few octets for each message."""
+class Printing(Process):
+    """A program that reads an input, and the lines that it has printed. An input that can be read only once is fed to it. Nothing
+    here waits."""
 
-    def __init__(self, file):
-        self.rows, self.is_over, self.changed = deque(), False, threading.Condition()
-        self.file = file
-        threading.Thread(target=self.run, daemon=True).start()
+    def __init__(self, words, is_fed):
+        super().__init__(words, (0, 1) if is_fed else (1,))
+        self.pieces, self.front, self.is_over, self.unsent = deque(), [], False, b""
+        if is_fed:
+            os.set_blocking(self.pipes[0], False)
 
-    def run(self):
-        for number, line in enumerate(self.file):
-            if number:
-                with self.changed:
-                    self.rows.append(line)
-                    self.changed.notify()
-        with self.changed:
-            self.is_over = True
-            self.changed.notify()
+    def feed(self, octets):
+        """Takes the next octets of the input, or its end, once the last ones are sent."""
+        self.unsent = memoryview(octets)
+        if octets:
+            self.send()
+        else:
+            self.shut(0)
 
-    def next(self):
-        """The next row, or nothing at the end."""
-        with self.changed:
-            while not self.rows and not self.is_over:
-                self.changed.wait()
-            return self.rows.popleft() if self.rows else b""
+    def send(self):
+        try:
+            while self.unsent:
+                self.unsent = self.unsent[os.write(self.pipes[0], self.unsent):]
+        except BlockingIOError:
+            pass
+        except OSError:
+            # it takes no more
+            self.unsent = b""
+            self.shut(0)
+
+    def read(self):
+        """Takes in the whole lines that have come. A line that is cut is that of a program that was killed."""
+        piece = os.read(self.pipes[1], PIECE)
+        lines, end, rest = piece.rpartition(b"\n")
+        if end:
+            self.pieces.append(BytesIO(b"".join([*self.front, lines, end])))
+            self.front = []
+        self.front.append(rest)
+        self.is_over = not piece
 
 
 def decoded(line):
@@ -64,6 +80,16 @@ def decoded(line):
     if line.endswith(b"\n"):
         line = line[:-2] if line.endswith(b"\r\n") else line[:-1]
     return line.decode("latin-1")
+
+
+def finish(printing):
+    """Waits for the end of a program that prints no more. One that failed said why, unless it was killed."""
+    printing.shut(0)
+    status = printing.wait()
+    if status < 0:
+        raise Fault(f"{os.path.basename(printing.words[0])} was killed by signal {-status}")
+    if status > 1:
+        raise Ended(2)
 
 
 class Listed:
@@ -152,53 +178,79 @@ class Listed:
         if self.is_told:
             sys.stderr.write(f"{self.name}: {self.path}: refused {said}\n")
 
-    def start(self, words, feeds):
-        """Starts a program on the input. Returns its output."""
-        path = self.path
-        if not self.is_regular or path == "-":
-            path = "/dev/stdin"
+    def start(self, words):
+        """Starts a program on the input."""
+        path = self.path if self.is_regular and self.path != "-" else "/dev/stdin"
+        self.programs.append(Printing([*words, "--", path], not self.is_regular))
+        return self.programs[-1]
+
+    def pieces(self, program):
+        """The lines that a program prints, as they come."""
+        while program.pieces or not program.is_over:
+            if program.pieces:
+                yield program.pieces.popleft()
+            else:
+                self.wait(program)
+
+    def wait(self, wanted):
+        """Waits until a program has printed more. Meanwhile both get the input: one that takes no more of it prints until it does."""
+        acts = {wanted.pipes[1]: (select.POLLIN, wanted.read)}
+        full = [each for each in self.programs if each.unsent]
+        for each in full:
+            acts[each.pipes[0]] = select.POLLOUT, each.send
+            if not each.is_over:
+                acts[each.pipes[1]] = select.POLLIN, each.read
+        if not full and any(0 in each.pipes for each in self.programs):
+            acts[self.input] = select.POLLIN, self.take
+        poll = select.poll()
+        for file, (events, _) in acts.items():
+            poll.register(file, events)
+        for file, _ in poll.poll():
+            acts[file][1]()
+
+    def take(self):
+        """Hands what has come of the input to the programs."""
         try:
-            process = subprocess.Popen([*words, "--", path], stdin=None if self.is_regular else subprocess.PIPE,
-                                       stdout=subprocess.PIPE)
+            self.hand(os.read(self.input, HEAD))
         except OSError as error:
-            raise Fault(f"cannot run {words[0]}: {error.strerror}") from error
-        self.programs.append(process)
-        if process.stdin:
-            feeds.append(process.stdin)
-        return process.stdout
+            raise Fault(f"cannot read {self.path}: {error.strerror}") from error
+
+    def hand(self, piece):
+        self.skipped.take(piece)
+        for each in self.programs:
+            if 0 in each.pipes:
+                each.feed(piece)
 
     def shown(self):
         """The lines that `bufr show` prints of a BUFR file."""
         self.file = self.path
-        feeds = []
-        lister = [program("bufr-ls"), "-c", COLUMNS]
         if self.tables:
-            show = [program("bufr"), "show", "-b", self.tables[0], "-d", self.tables[1]]
+            words = [program("bufr"), "show", "-b", self.tables[0], "-d", self.tables[1]]
         else:
-            show = [sys.executable, "-IS", os.path.join(HERE, "__main__.py"), "by-version", "show"]
+            words = [sys.executable, "-IS", os.path.join(HERE, "__main__.py"), "by-version", "show"]
         self.skipped = Skipped(("/dev/stdin" if self.path == "-" else self.path) if self.is_regular else None)
-        rows = Rows(self.start(lister, feeds))
-        text = self.start(show, feeds)
-        if feeds:
-            threading.Thread(target=self.feed, args=(feeds,), daemon=True).start()
-        for line in text:
-            if line[0] > 57:
-                if line == b"message\n":
-                    self.place = self.next_place(rows)
-            elif line[0] == 35 and line.startswith(b"# refused "):
-                self.next_place(rows)
-                self.refuse(decoded(line)[10:])
-            yield line
+        lister, shower = self.start([program("bufr-ls"), "-c", COLUMNS]), self.start(words)
+        if not self.is_regular:
+            self.hand(self.head)
+        rows = islice(chain.from_iterable(self.pieces(lister)), 1, None)
+        for piece in self.pieces(shower):
+            for line in piece:
+                if line[0] > 57:
+                    if line == b"message\n":
+                        self.place = self.next_place(rows)
+                elif line[0] == 35 and line.startswith(b"# refused "):
+                    self.next_place(rows)
+                    self.refuse(decoded(line)[10:])
+                yield line
+        finish(shower)
         while self.next_place(rows) is not None:
             pass
+        finish(lister)
         self.end()
 
     def next_place(self, rows):
         """The place of the next message that has an answer. Those that no tables read have none; they are told, and refused."""
-        while True:
-            row = rows.next()
-            if not row:
-                return None
+        for row in rows:
             place, length, version = row[:-1].split(b",")
             self.messages += 1
             self.skipped.message(int(place), int(length))
@@ -207,33 +259,10 @@ class Listed:
                 return int(place)
             self.refused += 1
             self.reasons.append((int(place), f"no table here reads version {int(version)}"))
-
-    def feed(self, feeds):
-        """Hands what comes to the programs."""
-        piece = self.head
-        while piece:
-            self.skipped.take(piece)
-            for file in list(feeds):
-                try:
-                    file.write(piece)
-                    file.flush()
-                except OSError:
-                    feeds.remove(file)
-            piece = os.read(self.input, HEAD)
-        for file in feeds:
-            try:
-                file.close()
-            except OSError:
-                pass
+        return None
 
     def end(self):
-        """Waits for the programs. One that failed said why, unless it was killed."""
-        for process in self.programs:
-            status = process.wait()
-            if status < 0:
-                raise Fault(f"{os.path.basename(process.args[0])} was killed by signal {-status}")
-            if status > 1:
-                raise Ended(2)
+        """Tells what was skipped."""
         losses = self.skipped.end()
         if not self.messages:
             raise NoMessage(self.path, losses[0].why if losses else NOTHING)
@@ -242,19 +271,14 @@ class Listed:
 
     def close(self):
         self.progress.end()
-        for process in self.programs:
-            if process.poll() is None:
-                process.kill()
-            process.wait()
-            process.stdout.close()
-            if process.stdin:
-                try:
-                    process.stdin.close()
-                except OSError:
-                    pass
+        for each in self.programs:
+            each.end()
         self.programs = []
         if self.skipped:
             self.skipped.close()
+        if not self.is_listing and self.input > 2:
+            os.close(self.input)
+            self.input = -1
 
     def status(self):
         return int(self.refused > 0)

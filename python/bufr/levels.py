@@ -64,6 +64,8 @@ class Leading:
         self.met: Set[Tuple[Tables, str]] = set()
         self.fields: Dict[str, None] = {}
         self.first = ""
+        # a template that has `each` in a replication, and one that has it alone
+        self.repeated = self.alone = ""
 
     def take(self, tables: Tables, descriptors: Sequence[str]) -> None:
         """Take the template of a message."""
@@ -71,16 +73,26 @@ class Leading:
         if key in self.met:
             return
         self.met.add(key)
-        for fields in leading(body_of(tables, descriptors), self.each):
+        body = body_of(tables, descriptors)
+        if self.each.intersection(field for item in body if isinstance(item, list) for field in flat(item)):
+            self.repeated = self.repeated or key[1]
+        elif self.each.intersection(item for item in body if not isinstance(item, list)):
+            self.alone = self.alone or key[1]
+        for fields in leading(body, self.each):
             found = [field for field in fields if (self.asked is None or field in self.asked) and field not in self.each]
             self.fields.update(dict.fromkeys(found))
             if found and not self.first:
                 self.first = fields[0]
 
-    def said(self, each: str, what: str) -> Optional[str]:
-        """Return the warning, if there is one: `each` as the caller names it, and what has values of another level."""
-        if not self.fields:
-            return None
+    def said(self, each: str, what: str) -> List[str]:
+        """Return the warnings: `each` as the caller names it, and what has values of another level."""
+        found = [self.said_of_fields(each, what)] if self.fields else []
+        if self.repeated and self.alone:
+            found.append(f"{each} is in a replication of {self.repeated}, but one field of {self.alone}, which has no levels: "
+                         "part the messages by their category")
+        return found
+
+    def said_of_fields(self, each: str, what: str) -> str:
         names = list(self.fields)
         more = f" and {len(names) - MOST_NAMED} more" if len(names) > MOST_NAMED else ""
         listed = ", ".join(names[:MOST_NAMED]) + more if more or len(names) < 2 else f"{', '.join(names[:-1])} and {names[-1]}"

@@ -7,13 +7,15 @@ it writes the listing with the time of each message from the fields 004001 to 00
 standard error.
 
 The status is 1 if a line is bad."""
-import argparse
 import re
 import sys
 
 from . import tables as bufr_tables
 from . import wanted
+from .commands import entry, listing_out
+from .errors import Fault
 from .inputs import Listed
+from .parsers import add_input, parser_of
 from .to_json import SECTION_1, TIME
 
 WORDS = re.compile(r"\d+(?: \d+)*")
@@ -114,7 +116,7 @@ class Linter:
         if word == "section1":
             try:
                 self.message.tables = self.tables.of(words[6])
-            except bufr_tables.Fault as fault:
+            except Fault as fault:
                 raise Bad(f"a master table version that tables here read ({fault})") from fault
         else:
             self.message.time_line = number
@@ -129,7 +131,7 @@ class Linter:
             # each factor is met once
             for _ in message.tables.marked(message.descriptors, lambda _factor: 1):
                 pass
-        except bufr_tables.Fault as fault:
+        except Fault as fault:
             raise Bad(f"descriptors that have a template ({fault})") from fault
 
     def next_field(self):
@@ -215,19 +217,15 @@ class Timed:
 
 
 def main():
-    parser = argparse.ArgumentParser(prog=bufr_tables.called("lint"), description=__doc__,
-                                     formatter_class=argparse.RawDescriptionHelpFormatter)
-    bufr_tables.add_options(parser)
-    bufr_tables.add_table_options(parser)
+    parser = parser_of("lint", __doc__)
     parser.add_argument("--set-time", action="store_true", help="writes the listing, with the time of each message from its fields")
-    parser.add_argument("--quiet", action="store_true", help="does not say how far it is")
-    parser.add_argument("listing", nargs="?", default="-", metavar="LISTING", help="the listing (standard input: -)")
+    add_input(parser, "listing", "the listing (standard input: -)")
     arguments = parser.parse_args()
     listed = Listed(parser.prog, arguments.listing, None, arguments.quiet)
     if not listed.is_listing:
-        raise bufr_tables.Fault(f"{arguments.listing} is no listing")
+        raise Fault(f"{arguments.listing} is no listing")
     listed.is_told = False
-    out = open(sys.stdout.fileno(), "w", encoding="latin-1", newline="\n", closefd=False)
+    out = listing_out()
     said = sys.stderr if arguments.set_time else out
     linter = Linter(bufr_tables.TablesByVersion.chosen(arguments),
                     lambda number, text: said.write(f"{arguments.listing}:{number}: {text}\n"))
@@ -245,5 +243,4 @@ def main():
     return int(linter.bad > 0)
 
 
-def command():
-    bufr_tables.run(bufr_tables.called("lint"), main)
+command = entry("lint", main)

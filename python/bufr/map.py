@@ -6,15 +6,16 @@ It needs matplotlib, cartopy and its coastlines (Debian: python3-matplotlib, pyt
 them and /usr/bin/python3 has them, that one draws. Nothing is downloaded.
 
 The status is 1 if a message was refused: standard error names each, and tells what is skipped."""
-import argparse
 import io
 import os
 import sys
 
-from . import contents as bufr_contents
-from . import drawing, summary
+from . import drawing, summary, summary_text
 from . import tables as bufr_tables
-from .errors import BufrError
+from .commands import entry
+from .errors import Fault
+from .given import Files
+from .parsers import add_inputs, parser_of
 
 KINDS = ("png", "svg", "pdf")
 
@@ -27,7 +28,7 @@ class Chosen:
         from .subsets import Element
         column = columns_of([word], paths)[0]
         if not column.word[:1].isdigit():
-            raise bufr_tables.Fault(f"--element is a descriptor or the name of an element, not {word}")
+            raise Fault(f"--element is a descriptor or the name of an element, not {word}")
         self.word = column.word.replace(" ", " or ") + (f"; these have its name in theirs: {column.near}" if column.near else "")
         descriptors = column.word.split(" ")
         self.element = Element(tuple(each.encode() for each in descriptors), column.number or 1)
@@ -40,24 +41,24 @@ def kind_of(path):
     """The kind of a picture by the end of its name."""
     kind = path.rpartition(".")[2].lower()
     if kind not in KINDS:
-        raise bufr_tables.Fault(f"{path} ends in none of .png, .svg and .pdf")
+        raise Fault(f"{path} ends in none of .png, .svg and .pdf")
     return kind
 
 
 def title_of(reports):
-    """How many reports a map has of how many stations, and when they are of."""
-    stations = len(reports.stations)
-    when = summary.span(*(each and each.isoformat(" ", "minutes") for each in (reports.first, reports.last)))
-    return f"{plural(reports.with_key + reports.without_key, 'report')}, {plural(stations, 'station')}, {when}"
+    """How many reports a map has of how many stations, how many reports have no station, and when they are of."""
+    total = reports.with_key + reports.without_key
+    nameless = total - sum(each.reports for each in reports.stations.values())
+    beside = f" and {plural(nameless, 'report')} without a station" if nameless else ""
+    when = summary_text.span(*(each and each.isoformat(" ", "minutes") for each in (reports.first, reports.last)))
+    return f"{plural(total, 'report')}, {plural(len(reports.stations), 'station')}{beside}, {when}"
 
 
 def drawn_of(reports, points, is_count):
-    """How many reports of a map are drawn, where, and why not all; nothing if each has its own mark."""
+    """How many reports of a map are drawn, at how many positions, and why not all."""
     total = reports.with_key + reports.without_key
     drawn = sum(count for *_, count in points) if is_count else len(points)
-    if total == len(points):
-        return ""
-    at = f" at {plural(len(points), 'position')}" if is_count else ""
+    at = f" at {plural(len({point[:2] for point in points}), 'position')}"
     left = total - drawn if is_count else reports.without_position
     why = [f"; {left:,} {'has' if left == 1 else 'have'} no position"] * (left > 0)
     if not is_count and reports.without_value:
@@ -87,41 +88,33 @@ def write_whole(path, octets):
         if written != path:
             os.replace(written, os.path.realpath(path))
     except OSError as error:
-        raise bufr_tables.Fault(f"cannot write {path}: {error.strerror}") from error
+        raise Fault(f"cannot write {path}: {error.strerror}") from error
 
 
 def main():
-    parser = argparse.ArgumentParser(prog=bufr_tables.called("map"), description=__doc__,
-                                     formatter_class=argparse.RawDescriptionHelpFormatter)
-    bufr_tables.add_options(parser)
-    bufr_tables.add_table_options(parser)
+    parser = parser_of("map", __doc__)
     parser.add_argument("-o", metavar="OUT", required=True, help="the map that is written: a name that ends in .png, .svg or .pdf")
     parser.add_argument("--element", metavar="WORD", help="colours by this element: a descriptor, as 012101, or a name in Table B")
-    parser.add_argument("--quiet", action="store_true", help="does not say how far it is")
-    parser.add_argument("files", nargs="*", metavar="FILE", help="BUFR files (standard input: -)")
+    add_inputs(parser)
     arguments = parser.parse_args()
     kind = kind_of(arguments.o)
     drawing.run_by_debian("map")
     paths = bufr_tables.TablesByVersion.chosen(arguments).paths
-    with bufr_contents.Files(arguments.files or ["-"], parser.prog) as files:
-        try:
-            drawing.need(parser.prog)
-            chosen = Chosen(arguments.element, paths) if arguments.element else None
-            contents, reports = summary.read(files, paths, chosen and chosen.element, True, name=parser.prog, quiet=arguments.quiet,
-                                             with_values=chosen is not None)
-        except BufrError as error:
-            raise bufr_tables.Fault(str(error)) from error
+    with Files(arguments.files, parser.prog) as files:
+        drawing.need(parser.prog)
+        chosen = Chosen(arguments.element, paths) if arguments.element else None
+        contents, reports = summary.read(files, paths, chosen and chosen.element, True, name=parser.prog, quiet=arguments.quiet,
+                                         with_values=chosen is not None)
     tell(parser.prog, contents)
     points = reports.values if chosen else reports.counts()
     if not points:
-        raise bufr_tables.Fault("no report has a position" + (f" and a value of {chosen.word}" if chosen else ""))
+        raise Fault("no report has a position" + (f" and a value of {chosen.word}" if chosen else ""))
     out = io.BytesIO()
     drawn = drawn_of(reports, points, not chosen)
-    drawing.draw(out, kind, points, chosen.label if chosen else "reports", f"{title_of(reports)}\n{drawn}".rstrip(), not chosen)
+    drawing.draw(out, kind, points, chosen.label if chosen else "reports", f"{title_of(reports)}\n{drawn}", not chosen)
     write_whole(arguments.o, out.getvalue())
-    print(f"{arguments.o}: {title_of(reports)}; {drawn or plural(len(points), 'value' if chosen else 'position') + ' drawn'}")
+    print(f"{arguments.o}: {title_of(reports)}; {drawn}")
     return int(contents.all.refused > 0)
 
 
-def command():
-    bufr_tables.run(bufr_tables.called("map"), main)
+command = entry("map", main)

@@ -8,8 +8,9 @@ from decimal import Decimal
 from fractions import Fraction
 
 from . import units, wanted
+from .errors import Fault
 from .skeleton import descriptor_of
-from .tables import BEGIN, END, Fault, TURN
+from .tables import BEGIN, END, TURN
 from .to_json import SECTION_1, TIME
 
 KEYS = ("template", "section1", "observed", "time", "wigos", "station", "missing", "delimiter", "decimal", "names_row", "first_row",
@@ -20,7 +21,12 @@ SOURCE_KEYS = ("column", "constant", "unit", "factor", "offset", "round", "least
 PARTS = {"time": TIME, "wigos": ("series", "issuer", "issue", "local"), "station": ("block", "number")}
 # Which field has which part in a mapping to fill in.
 PARTS_OF = {**{f"00400{number}": ("time", part) for number, part in enumerate(TIME, 1)},
-            **{f"00112{number}": ("wigos", part) for number, part in enumerate(PARTS["wigos"], 5)}}
+            **{f"00112{number}": ("wigos", part) for number, part in enumerate(PARTS["wigos"], 5)},
+            **{f"00100{number}": ("station", part) for number, part in enumerate(PARTS["station"], 1)}}
+# By which names of columns a new mapping knows the time, a WIGOS identifier and a station.
+WORDS_OF = {"time": ("time", "time utc", "datetime", "date time", "timestamp", "date"),
+            "wigos": ("wigos", "wigos id", "wsi", "wigos identifier", "wigos station identifier"),
+            "station": ("station", "station number", "wmo", "wmo number", "wmo id", "iiiii")}
 GREATEST = dict(zip(SECTION_1, (65535, 65535, 255, 255, 255, 255, 255, 255)))
 NUMBER = re.compile(r"[+-]?(?:[0-9]{1,30}(?:\.[0-9]{0,30})?|\.[0-9]{1,30})(?:[eE][+-]?[0-9]{1,2})?")
 KEY = re.compile(r"([0-9]{6})(?:#([1-9][0-9]*))?")
@@ -33,6 +39,16 @@ CATEGORIES = {"307": 0, "308": 1, "309": 2, "310": 3, "311": 4, "312": 12, "315"
 def said(key):
     """A field's descriptor, with its number if it is not the first one."""
     return key[0] if key[1] == 1 else f"{key[0]}#{key[1]}"
+
+
+def range_of(field):
+    """What a field has room for, with its unit."""
+    if wanted.is_text(field):
+        return wish(field)
+    least, greatest = wanted.bounds(field)
+    kind = wanted.wanted(field).partition(",")[0]
+    unit = "" if "TABLE" in field.unit.upper() or field.unit.upper() == "NUMERIC" else f" {' '.join(field.unit.split())}"
+    return f"{kind}; the field has room for {least} to {greatest}{unit}{', or missing' if wanted.can_be_missing(field) else ''}"
 
 
 def wish(field):
@@ -125,7 +141,9 @@ class Mapping:
         self.section1 = self.heads(found.get("section1", {}))
         version = self.section1.get("master_table_version")
         if version is None or not isinstance(version.constant, int):
-            raise Fault(f"{path}: section1 has no number master_table_version: write the version of the tables, such as 46")
+            others = [name for name in SECTION_1 if name not in self.section1 and name != "master_table_version"]
+            raise Fault(f"{path}: section1 has no number master_table_version: write the version of the tables, such as 46"
+                        + (f"; and write the numbers {', '.join(others)}" if others else ""))
         self.tables = chosen.of(str(version.constant))
         self.observed = self.of_kind(found, "observed", bool, True)
         self.decimal = self.of_kind(found, "decimal", str, ".")
@@ -138,6 +156,8 @@ class Mapping:
         if not 1 <= self.names_row < self.first_row:
             raise Fault(f"{path}: names_row counts from 1, and first_row is below it")
         self.composed = {name: self.composed_of(name, found[name]) for name in PARTS if found.get(name) is not None}
+        # those to which the mapping gives no column: their parts are missing
+        self.unfilled = {name for name in ("wigos", "station") if name in found and found[name] is None}
         self.sources = self.fields(self.of_kind(found, "fields", dict, {}))
         self.keys, self.fields_of, self.tree, self.counts = [], {}, [], {}
         self.expand()
@@ -311,7 +331,8 @@ class Mapping:
         parts = {source.part[0] for source in self.sources.values() if source.part}
         for name in self.composed:
             if name != "time" and name not in parts:
-                self.fault(f"{name}: no field has a part of it, such as {json.dumps({name: PARTS[name][0]})}")
+                parts_of = [f"{json.dumps(dict([part]))} for {key}" for key, part in PARTS_OF.items() if part[0] == name]
+                self.fault(f"{name}: no field has a part of it: write {', '.join(parts_of)}")
         for key in list(self.sources):
             source, field = self.sources[key], self.fields_of.get(key)
             if field is None:
@@ -320,7 +341,8 @@ class Mapping:
                            + ("" if count else near(key[0], seen)))
                 del self.sources[key]
             elif source.part and source.part[0] not in self.composed:
-                self.fault(f"{said(key)}: the mapping has no {source.part[0]}")
+                if source.part[0] not in self.unfilled:
+                    self.fault(f"{said(key)}: the mapping has no {source.part[0]}")
                 del self.sources[key]
             elif source.unit is not None and not self.convert(source, field):
                 self.fault(f"{said(key)} {wanted.named(field)}: no unit {source.unit} is converted to it; these are: "
@@ -373,49 +395,66 @@ class Columns:
     """The columns of a header, of which each is taken once."""
 
     def __init__(self, header):
-        self.by_word, self.taken = {plain_word(column): column for column in header}, []
+        self.by_word = {plain_word(column): column for column in header}
+
+    def find(self, *words):
+        """The column that is called by one of some words, or None."""
+        return next((self.by_word[plain_word(word)] for word in words if plain_word(word) in self.by_word), None)
 
     def take(self, *words):
         """Takes the column that is called by one of some words, or None."""
-        for word in words:
-            column = self.by_word.get(plain_word(word))
-            if column is not None and column not in self.taken:
-                self.taken.append(column)
-                return column
-        return None
+        column = self.find(*words)
+        if column is not None:
+            del self.by_word[plain_word(column)]
+        return column
 
 
-def new_mapping(tables, version, descriptors, counts, header):
-    """The text of a mapping with a line for each field, to be filled in, and the columns of a header that it has taken."""
+def new_mapping(tables, version, descriptors, counts, header, centre=None):
+    """The text of a mapping with a line for each field, to be filled in, and what it has taken of the columns of a header: the name of
+    each, and the descriptor or the word that has it."""
     left, met, seen, rows, columns = list(counts), [], Counter(), [], Columns(header)
-    time = columns.take("time", "time utc", "datetime", "date time", "timestamp", "date")
-    wigos = columns.take("wigos", "wigos id", "wsi", "wigos identifier", "wigos station identifier")
+    taken, parted = {}, {"time"}
+    has = {field.descriptor for field in tables.fields(descriptors, lambda _field: 1)}
+    for name in PARTS:
+        fields = {each for each, part in PARTS_OF.items() if part[0] == name}
+        # fields may have columns of their own
+        if name != "time" and fields <= has and not any(columns.find(*words_of(tables, each)) for each in fields):
+            parted.add(name)
+        if name in parted:
+            taken[name] = columns.take(*WORDS_OF[name])
     for field in tables.fields(descriptors, lambda _field: met[-1]):
         seen[field.descriptor] += 1
         key = said((field.descriptor, seen[field.descriptor]))
         if field.is_factor:
             met.append(left.pop(0) if left else 0)
             what = {"constant": met[-1]}
-        elif key in PARTS_OF and (PARTS_OF[key][0] == "time" or wigos is not None):
+        elif key in PARTS_OF and PARTS_OF[key][0] in parted:
             what = dict([PARTS_OF[key]])
         elif not wanted.can_be_missing(field):
             what = {"constant": 0}
         else:
-            what = {"column": columns.take(key, f"{field.descriptor} {field.name}", field.name) if seen[field.descriptor] == 1 else None}
+            what = {"column": columns.take(key, *words_of(tables, field.descriptor)[1:] if seen[field.descriptor] == 1 else ())}
+            taken[key] = what["column"]
             if not wanted.is_text(field) and units.plain(field.unit) in units.UNITS:
                 what["unit"] = field.unit
-        rows.append((key, {**what, "name": " ".join(field.name.split()), "wants": wish(field)}))
+        rows.append((key, {**what, "name": " ".join(field.name.split()), "wants": range_of(field)}))
     if left:
         raise Fault(f"{len(met)} counts are asked for, {len(counts)} are given")
     head = {"template": " ".join(descriptors),
-            "section1": dict(zip(SECTION_1, (None, 0, 0, CATEGORIES.get(category_of(descriptors)), 255, 255, version, 0))),
-            "time": {"column": time, "format": None}, "missing": []}
-    head.update({"wigos": wigos} if "001128" in seen else {}, **({"station": None} if "001002" in seen else {}))
+            "section1": dict(zip(SECTION_1, (centre, 0, 0, CATEGORIES.get(category_of(descriptors)), 255, 255, version, 0))),
+            "time": {"column": taken["time"], "format": None}, "missing": [], "decimal": None}
+    head.update({name: taken.get(name) for name, descriptor in (("wigos", "001128"), ("station", "001002")) if descriptor in seen})
     lines = [f" {json.dumps(key)}: {json.dumps(value, ensure_ascii=False)}," for key, value in head.items()]
     lines.append(' "fields": {')
     lines += [f"  {json.dumps(key)}: {json.dumps(what, ensure_ascii=False)}," for key, what in rows]
     lines[-1] = lines[-1].rstrip(",")
-    return "{\n" + "\n".join(lines) + "\n }\n}\n", columns.taken
+    return "{\n" + "\n".join(lines) + "\n }\n}\n", {column: word for word, column in taken.items() if column is not None}
+
+
+def words_of(tables, descriptor):
+    """The names of the columns that a field takes: its descriptor, or with or without it the name of its element."""
+    name = tables.name(descriptor)
+    return descriptor, f"{descriptor} {name}", name
 
 
 def category_of(descriptors):

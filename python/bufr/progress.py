@@ -5,6 +5,10 @@ import os
 import sys
 import time
 
+TYPE_CHECKING = False
+if TYPE_CHECKING:
+    from typing import Iterator
+
 # The seconds before the first line, and between two.
 FIRST, EACH = 1.0, 0.2
 
@@ -55,3 +59,20 @@ class InputsProgress(Progress):
             self.number, self.place = self.number + 1, 0
         self.place = place
         self.at(self.before + place)
+
+
+def positions(pid: int, known: dict[str, int]) -> Iterator[tuple[int, int]]:
+    """Yield the numbers of files that a program and those that it runs have open, and how far each is read."""
+    try:
+        for name in os.listdir(f"/proc/{pid}/fd"):
+            number = known.get(os.readlink(f"/proc/{pid}/fd/{name}"))
+            if number is not None:
+                with open(f"/proc/{pid}/fdinfo/{name}", encoding="ascii") as file:
+                    yield number, int(file.readline().split()[1])
+        for task in os.listdir(f"/proc/{pid}/task"):
+            with open(f"/proc/{pid}/task/{task}/children", encoding="ascii") as file:
+                children = file.read().split()
+            for child in children:
+                yield from positions(int(child), known)
+    except (OSError, ValueError, IndexError):
+        return

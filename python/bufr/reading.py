@@ -7,18 +7,21 @@ import re
 import sys
 import warnings
 from decimal import Decimal
-from typing import (TYPE_CHECKING, Any, Dict, FrozenSet, Iterable, Iterator, List, Mapping, NamedTuple, Optional, Sequence, Tuple,
-                    Union)
+from typing import (TYPE_CHECKING, AbstractSet, Any, Callable, Dict, FrozenSet, Generator, Iterable, Iterator, List, Mapping,
+                    NamedTuple, Optional, Sequence, Tuple, Union)
 
-from .errors import BufrError, Missing, Refused
+from .errors import BufrError, Fault, Missing, Refused
+from .framing import Framer, octets_of
 from .levels import Leading
+from .processes import program
 from .progress import Progress
+from .selecting import Plan, Selection, plan_of
 from .shown import PathLike, Running, TablesLike, file_of, files_of, left_out, paths_of, plain_name, words_of, words_to_show
 from .skipped import Loss, Skipped, is_regular
-from .streams import program
-from .tables import VERSIONS, Fault, Tables, TablesByVersion, records, table_paths, version_of
+from .tables import Tables, TablesByVersion, records
 from .to_json import SECTION_1
 from .to_json import TIME as TIME_NAMES
+from .versions import VERSIONS, table_paths, version_of
 
 if TYPE_CHECKING:
     import pandas
@@ -33,6 +36,8 @@ HEADS = {"centre": ("section1", 1), "sub_centre": ("section1", 2), "update": ("s
 FLAGS = ("observed", "compressed")
 WHERE = ("file", "message", "place", "subset")
 TIME = ("004001", "004002", "004003", "004004", "004005", "004006")
+# Those of TIME that count as 0 if no field has them.
+PARTS = TIME[4:]
 ESCAPE = re.compile(r"\\([0-9a-f]{2})")
 COLUMN = re.compile(r"(\d{6})(?:#([1-9]\d*))?", re.A)
 DESCRIPTOR = re.compile(r"\d{6}", re.A)
@@ -66,6 +71,30 @@ class Column(NamedTuple):
     word: str
     number: int
     near: str = ""
+
+
+class Cells(Dict[str, Value]):
+    """The values of a column by the words that spell them."""
+
+    def __init__(self, value_of: Callable[[str], Value]) -> None:
+        super().__init__()
+        self.value_of = value_of
+
+    def __missing__(self, word: str) -> Value:
+        if len(self) > 100000:
+            self.clear()
+        self[word] = found = self.value_of(word)
+        return found
+
+
+def number_of(word: str) -> Value:
+    """Return the number that a cell of `bufr-select` spells."""
+    return value_of(word) if word else None
+
+
+def text_of(word: str) -> Value:
+    """Return the text that a cell of `bufr-select` spells."""
+    return ESCAPE.sub(lambda found: chr(int(found[1], 16)), word).rstrip(" \0") or None
 
 
 # The descriptors of the elements of a file of Table B.
@@ -126,9 +155,13 @@ class Names:
         raise BufrError(f"no element has the name {name}" + (f"; these are like it: {near}" if near else ""))
 
     def near(self, name: str) -> str:
-        """Return some names that have another as a part, with their descriptors."""
+        """Return some names that have another as a part, with their descriptors: first those that are so called between strokes, then
+        those that begin so, those of which a word does, and the shortest."""
         key = " ".join(name.upper().split())
-        return self.listed([each for each in self.known() if key in each and key != each][:5])
+        found = [each for each in self.known() if key in each and key != each]
+        begins = re.compile(r"\b" + re.escape(key))
+        found.sort(key=lambda each: (key not in each.split("/"), not each.startswith(key), not begins.search(each), len(each)))
+        return self.listed(found[:5])
 
     def listed(self, names: List[str]) -> str:
         return "; ".join(f"{each} ({', '.join(self.known()[each])})" for each in names)
@@ -173,9 +206,14 @@ def columns_of(columns: Columns, tables: Optional[List[str]]) -> List[Column]:
     for _, word in pairs:
         if not isinstance(word, str):
             raise BufrError(f"a column is a word in quotes, not {word!r}")
+    for name, word in pairs:
+        if isinstance(name, str) and COLUMN.fullmatch(name) and not COLUMN.fullmatch(word) and isinstance(columns, Mapping):
+            raise BufrError(f"the name of a column comes first: write {{{word!r}: {name!r}}} for {{{name!r}: {word!r}}}")
     found = []
     try:
         for name, word in pairs:
+            if word == "time":
+                raise BufrError("time is no element: time=True makes it the first column; year to second are those of section 1")
             descriptor = COLUMN.fullmatch(word)
             if descriptor:
                 names.check(descriptor[1])
@@ -307,15 +345,19 @@ class Rows:
         return self.cells[said]
 
     def moment(self, span: Dict[str, List[str]], before: Dict[str, List[str]]) -> Optional[datetime.datetime]:
-        parts = [self.field(word, 0, span, before) for word in TIME]
-        # a minute or a second that no field has is 0; one that a field has as missing is not known
-        if None in parts[:4] or any(part is None and (word in span or word in before) for word, part in zip(TIME, parts)) or \
-                not all(isinstance(part, (int, float)) for part in parts if part is not None):
-            return None
-        try:
-            return datetime.datetime(*(int(part or 0) for part in parts))  # type: ignore[arg-type]
-        except ValueError:
-            return None
+        return moment_of([self.field(word, 0, span, before) for word in TIME], [word in span or word in before for word in PARTS])
+
+
+def moment_of(parts: Sequence[Value], is_there: Sequence[bool]) -> Optional[datetime.datetime]:
+    """Return the time of the fields of TIME. A minute or a second that no field has is 0; one that a field has as missing is not
+    known."""
+    if None in parts[:4] or any(part is None and each for part, each in zip(parts[-len(PARTS):], is_there)) or \
+            not all(isinstance(part, (int, float)) for part in parts if part is not None):
+        return None
+    try:
+        return datetime.datetime(*(int(part or 0) for part in parts))  # type: ignore[arg-type]
+    except ValueError:
+        return None
 
 
 def rows(files: Union[PathLike, Iterable[PathLike]], columns: Columns, each: Optional[str] = None, tables: TablesLike = None,
@@ -336,8 +378,9 @@ def rows(files: Union[PathLike, Iterable[PathLike]], columns: Columns, each: Opt
         warning tells a column of which no message has a field.
     each : str, optional
         A descriptor without ``#``, or a name: there is a row for each field with this descriptor, and none where there is none. A
-        column has the first field from there up to the next row, or else the last one before the first row. A warning tells the
-        columns that come before this field in its replication, and so have the values of the next level.
+        column has the first field from there up to the next row, or else the last one before the first row. Warnings tell the
+        columns that come before this field in its replication, and so have the values of the next level, and that some messages
+        have it in no replication.
     tables : int or pair of paths, optional
         The version of the tables, or the files of Tables B and D. By default each message is read under the tables of its version.
     time : bool, default False
@@ -385,6 +428,158 @@ def _asked(files: Union[PathLike, Iterable[PathLike]], columns: Columns, each: O
 
 def _rows(files: List[str], columns: List[Column], each: Optional[str], paths: Optional[List[str]], time: bool, strict: bool,
           quiet: bool, refusals: List[Tuple[str, int, str]], depth: int) -> Iterator[Tuple[Any, ...]]:
+    # tables that are named take one file each, which strict goes by
+    plan = _planned(files, columns, each, paths, time) if not (strict and paths) else None
+    is_done = False
+    if plan is not None:
+        is_done = yield from _selected(plan, files, columns, each, time, strict, quiet, refusals, depth + 1)
+    if not is_done:
+        yield from _listed(files, columns, each, paths, time, strict, quiet, refusals, depth + 1)
+
+
+def _selected(plan: Plan, files: List[str], columns: List[Column], each: Optional[str], time: bool, strict: bool, quiet: bool,
+              refusals: List[Tuple[str, int, str]], depth: int) -> Generator[Tuple[Any, ...], None, bool]:
+    """Yield the rows by `bufr-select`. Return whether there is nothing that listings have to tell."""
+    makers = [_time_of(plan)] if time else []
+    makers += [_cell_of(plan, files, column) for column in columns]
+    empty = {at: column.word for at, column in enumerate(columns, int(time)) if column.word[:1].isdigit()}
+    number, place = plan.ask("input"), plan.ask("place") if strict else 0
+    sizes = [os.path.getsize(file) for file in files]
+    progress = Progress("bufr", sum(sizes), quiet)
+    has_rows, at = False, ""
+    selection = plan.start()
+    try:
+        for row in selection.rows():
+            made = tuple([maker(row) for maker in makers])
+            yield made
+            has_rows = True
+            for filled in [each for each in empty if made[each] is not None]:
+                del empty[filled]
+            if strict:
+                first = selection.told.first_before(int(row[number]) - 1, int(row[place]))
+                if first is not None:
+                    raise Refused(files[first[0]], *first[1:])
+            if row[number] != at and progress.next is not None:
+                at = row[number]
+                progress.at(sum(sizes[:int(at) - 1]))
+        if each is not None and not has_rows:
+            return False
+        _settle(plan, selection, files, columns, each, time, strict, refusals, set(empty.values()) if has_rows else set(), depth + 1)
+        return True
+    finally:
+        progress.end()
+        selection.close()
+
+
+def _settle(plan: Plan, selection: Selection, files: List[str], columns: List[Column], each: Optional[str], time: bool, strict: bool,
+            refusals: List[Tuple[str, int, str]], empty: AbstractSet[str], depth: int) -> None:
+    """Tell what is refused and skipped, and warn, after the last row. `empty` are the words that no row has a value of."""
+    plan.templates.check()
+    heads = Heads(plan.templates.names, plan.templates.paths)
+    try:
+        numbers = {name: number for number, name in enumerate(plan.templates.names)}
+        told = [*selection.told.refusals, *((numbers[name], loss.place, loss.reason) for name, loss in heads.losses())]
+    finally:
+        heads.close()
+    here = {file: number for number, file in enumerate(files)}
+    told.sort(key=lambda each: (here[files[each[0]]], each[1]))
+    if strict and told:
+        raise Refused(files[told[0][0]], *told[0][1:])
+    refusals += [(files[at], place, reason) for at, place, reason in told]
+    leading = None
+    if each is not None:
+        words = [each, *(column.word for column in columns if column.word[:1].isdigit())]
+        leading = Leading(each.split(), {descriptor for word in words for descriptor in word.split()}.union(TIME if time else ()))
+        for tables, descriptors in plan.templates.accepted({each[:2] for each in told}):
+            leading.take(tables, descriptors)
+    _warn(columns, each, {word for word in empty if not plan.has(word)}, leading, depth + 1)
+
+
+def _framed(pandas: Any, plan: Plan, files: List[str], columns: List[Column], each: Optional[str], time: bool, quiet: bool,
+            refusals: List[Tuple[str, int, str]], depth: int) -> Optional[List[Any]]:
+    """Return the columns of a DataFrame by `bufr-select`, or nothing if rows have to be made one by one."""
+    framer = Framer(pandas, plan, files)
+    if time:
+        there = list(dict.fromkeys(template.has(PARTS) for template in plan.templates.all()))
+        framer.is_able = len(there) > 0
+        framer.add_time(TIME, PARTS, there, moment_of)
+    for column in columns:
+        framer.add(column, text_of)
+    if not framer.is_able:
+        return None
+    if not plan.words:
+        # there is a row for each subset, though no column has a value
+        plan.ask("input")
+    selection = plan.start()
+    try:
+        octets = octets_of(selection, files, quiet)
+        if octets.count(b"\n", 0, 1 << 20) < 2:
+            return None
+        made, are_met = framer.columns(octets)
+        empty = {column.word for column, is_met in zip(columns, are_met[int(time):]) if column.word[:1].isdigit() and not is_met}
+        _settle(plan, selection, files, columns, each, time, False, refusals, empty, depth + 1)
+        return made
+    finally:
+        selection.close()
+
+
+def _cell_of(plan: Plan, files: List[str], column: Column) -> Callable[[List[str]], Any]:
+    """Return what makes the cell of a column of a row of `bufr-select`."""
+    word = column.word
+    if word[:1].isdigit():
+        suffix = f"#{column.number}" if column.number else ""
+        asked = [(plan.ask(each + suffix), Cells(text_of if each in plan.texts else number_of)) for each in word.split()]
+        if len(asked) > 1:
+            return lambda row: next((cells[row[at]] for at, cells in asked if row[at]), None)
+        at, cells = asked[0]
+        return lambda row: cells[row[at]]
+    at = plan.ask("input" if word == "file" else word)
+    if word == "file":
+        return lambda row: files[int(row[at]) - 1]
+    if word in FLAGS:
+        return lambda row: row[at] == "1"
+    return lambda row: int(row[at])
+
+
+def _time_of(plan: Plan) -> Callable[[List[str]], Optional[datetime.datetime]]:
+    """Return what makes the time of a row of `bufr-select`."""
+    asked = [(plan.ask(word), Cells(text_of if word in plan.texts else number_of)) for word in TIME]
+    parts = lambda row: [cells[row[at]] for at, cells in asked]
+    there = {template.has(PARTS) for template in plan.templates.all()}
+    if len(there) < 2:
+        is_there = next(iter(there), (False, False))
+        return lambda row: moment_of(parts(row), is_there)
+    # it depends on the template of the message
+    number, place = plan.ask("input"), plan.ask("place")
+    template_at = plan.templates.places()
+
+    def time_of(row: List[str]) -> Optional[datetime.datetime]:
+        return moment_of(parts(row), template_at(int(row[number]), int(row[place])).has(PARTS))
+    return time_of
+
+
+def _planned(files: List[str], columns: List[Column], each: Optional[str], paths: Optional[List[str]], time: bool) -> Optional[Plan]:
+    words = [column.word for column in columns if column.word[:1].isdigit()]
+    return plan_of([plain_name(file) for file in files], [*words, *(TIME[:4] if time else ())], each, paths, PARTS if time else ())
+
+
+def _warn(columns: List[Column], each: Optional[str], unmet: AbstractSet[Optional[str]], leading: Optional[Leading], depth: int) -> None:
+    """Warn of what no message has, and of what comes before `each`."""
+    if each is not None and each in unmet:
+        warnings.warn(f"there is no row: no message has a field {each.replace(' ', ' or ')} for each", stacklevel=depth)
+    elif leading is not None and each is not None:
+        for warning in leading.said(f"each={each.replace(' ', ' or ')}", "a row has"):
+            warnings.warn(warning, stacklevel=depth)
+    for column in columns:
+        if column.word in unmet:
+            near = f"; these have its name in theirs: {column.near}" if column.near else ""
+            warnings.warn(f"the column {column.name} is empty: no message has a field {column.word.replace(' ', ' or ')}{near}",
+                          stacklevel=depth)
+
+
+def _listed(files: List[str], columns: List[Column], each: Optional[str], paths: Optional[List[str]], time: bool, strict: bool,
+            quiet: bool, refusals: List[Tuple[str, int, str]], depth: int) -> Iterator[Tuple[Any, ...]]:
+    """Yield the rows by listings."""
     sizes = {file: os.path.getsize(file) if os.path.isfile(file) else 0 for file in files}
     progress = Progress("bufr", sum(sizes.values()), quiet)
     known = {plain_name(file): file for file in files}
@@ -403,14 +598,15 @@ def _rows(files: List[str], columns: List[Column], each: Optional[str], paths: O
                 # a pipe is read once
                 if is_placed or all(map(is_regular, group)):
                     heads = Heads(group, paths)
-                for row in rows_of.of(running.output, heads.places if heads else iter(())):
-                    yield row
-                    if strict and rows_of.refusals:
-                        raise Refused(*rows_of.refusals[0])
-                    if rows_of.file != at and progress.next is not None:
-                        at = rows_of.file
-                        progress.at(done)
-                        done += sizes[at]
+                with running.to_the_end():
+                    for row in rows_of.of(running.output, heads.places if heads else iter(())):
+                        yield row
+                        if strict and rows_of.refusals:
+                            raise Refused(*rows_of.refusals[0])
+                        if rows_of.file != at and progress.next is not None:
+                            at = rows_of.file
+                            progress.at(done)
+                            done += sizes[at]
                 _, said = running.finish()
                 here = {file: number for number, file in enumerate(files)}
                 rows_of.refusals += [(known.get(name, name), place, reason) for name, place, reason in left_out(said)]
@@ -427,17 +623,7 @@ def _rows(files: List[str], columns: List[Column], each: Optional[str], paths: O
                     heads.close()
     finally:
         progress.end()
-    if has_subsets and each in unmet and each is not None:
-        warnings.warn(f"there is no row: no message has a field {each.replace(' ', ' or ')} for each", stacklevel=depth)
-    elif leading is not None and each is not None:
-        warning = leading.said(f"each={each.replace(' ', ' or ')}", "a row has")
-        if warning:
-            warnings.warn(warning, stacklevel=depth)
-    for column in columns if has_subsets else []:
-        if column.word in unmet:
-            near = f"; these have its name in theirs: {column.near}" if column.near else ""
-            warnings.warn(f"the column {column.name} is empty: no message has a field {column.word.replace(' ', ' or ')}{near}",
-                          stacklevel=depth)
+    _warn(columns, each, unmet if has_subsets else set(), leading, depth + 1)
 
 
 class Heads:
@@ -490,8 +676,26 @@ def read(files: Union[PathLike, Iterable[PathLike]], columns: Columns, each: Opt
 
     Parameters
     ----------
-    files, columns, each, tables, time, strict
-        As of :func:`rows`.
+    files : str, path or iterable of them
+        The files, in order: no folder and no pattern.
+    columns : sequence of str, or dict of str to str
+        What each column has. A descriptor such as ``"012101"``, or the name of its element in Table B, is the first field of the
+        subset with that descriptor, and ``"012101#2"`` the second. Other words: ``file``, ``message``, ``place``, ``subset``;
+        ``centre``, ``sub_centre``, ``update``, ``category``, ``international``, ``local_category``, ``master_version``,
+        ``local_version``, ``year`` to ``second`` of section 1; ``observed``, ``compressed``. A dict gives the columns names. A
+        warning tells a column of which no message has a field.
+    each : str, optional
+        A descriptor without ``#``, or a name: there is a row for each field with this descriptor, and none where there is none. A
+        column has the first field from there up to the next row, or else the last one before the first row. Warnings tell the
+        columns that come before this field in its replication, and so have the values of the next level, and that some messages
+        have it in no replication.
+    tables : int or pair of paths, optional
+        The version of the tables, or the files of Tables B and D. By default each message is read under the tables of its version.
+    time : bool, default False
+        The first column is the time of the fields 004001 to 004006. It is NaT if one of them is missing or is no part of a time;
+        without a field for the minute or the second that is 0.
+    strict : bool, default False
+        Raise at the first message that is refused, or that is skipped.
     quiet : bool, default False
         Do not say on a terminal how far it is.
 
@@ -520,11 +724,15 @@ def read(files: Union[PathLike, Iterable[PathLike]], columns: Columns, each: Opt
         raise Missing(f"bufr.read needs the package pandas, which {sys.executable} does not have (Debian: python3-pandas, for "
                       "/usr/bin/python3)") from None
     refusals: List[Tuple[str, int, str]] = []
-    found = list(_rows(*_asked(files, columns, each, tables), time, strict, quiet, refusals, 3))
+    words = _asked(files, columns, each, tables)
+    plan = None if strict else _planned(*words, time)
+    made = _framed(pandas, plan, *words[:3], time, quiet, refusals, 3) if plan else None
     names = (["time"] if time else []) + list(columns)
-    frame = pandas.DataFrame({name: _series(pandas, cells) for name, cells in
-                              zip(names, zip(*found) if found else ((),) * len(names))}, columns=names)
-    if time:
+    if made is None:
+        found = list(_rows(*words, time, strict, quiet, refusals, 3))
+        made = [_series(pandas, cells) for cells in (zip(*found) if found else ((),) * len(names))]
+    frame = pandas.DataFrame(dict(zip(names, made)))
+    if time and frame["time"].dtype == object:
         frame["time"] = pandas.to_datetime(frame["time"], errors="coerce")
     frame.attrs["refusals"] = refusals
     return frame
@@ -581,44 +789,45 @@ def _messages(file: str, paths: Optional[List[str]], strict: bool, refusals: Lis
     try:
         heads = Heads([file], paths)
         places = heads.places
-        for octets in running.output:
-            line = octets[:-1].decode("latin-1")
-            if line[:1].isdigit():
-                field = fields.get(line)
-                if field is None:
-                    descriptor = line[:6]
-                    field = {"descriptor": descriptor, "name": named.name(descriptor), "unit": named.unit(descriptor),
-                             "value": value_of(line[7:])}
-                    if len(fields) > 100000:
-                        fields.clear()
-                    fields[line] = field
-                subset.append(dict(field))
-            elif line == "message":
-                message = {"file": file, "place": next(places, (0, 0))[1]}
-            elif line == "subset":
-                subset = []
-                message["subsets"].append(subset)
-            elif line == "end":
-                yield message
-            elif line[:1] == "#":
-                next(places, None)
-                _, _, said, reason = line.split(" ", 3)
-                here.append((file, int(said), reason))
-                if strict:
-                    raise Refused(*here[0])
-            else:
-                word, *rest = line.split(" ")
-                if word in ("section1", "time"):
-                    message[word] = dict(zip(SECTION_1 if word == "section1" else TIME_NAMES, map(int, rest)))
-                    if word == "section1":
-                        named = by_version.of(rest[6])
-                        fields = known.setdefault(named, {})
-                elif word == "flags":
-                    message["observed"], message["compressed"] = "observed" in rest, "compressed" in rest
-                elif word == "descriptors":
-                    message["descriptors"], message["subsets"] = rest, []
+        with running.to_the_end():
+            for octets in running.output:
+                line = octets[:-1].decode("latin-1")
+                if line[:1].isdigit():
+                    field = fields.get(line)
+                    if field is None:
+                        descriptor = line[:6]
+                        field = {"descriptor": descriptor, "name": named.name(descriptor), "unit": named.unit(descriptor),
+                                 "value": value_of(line[7:])}
+                        if len(fields) > 100000:
+                            fields.clear()
+                        fields[line] = field
+                    subset.append(dict(field))
+                elif line == "message":
+                    message = {"file": file, "place": next(places, (0, 0))[1]}
+                elif line == "subset":
+                    subset = []
+                    message["subsets"].append(subset)
+                elif line == "end":
+                    yield message
+                elif line[:1] == "#":
+                    next(places, None)
+                    _, _, said, reason = line.split(" ", 3)
+                    here.append((file, int(said), reason))
+                    if strict:
+                        raise Refused(*here[0])
                 else:
-                    message[word] = rest[0] if rest else ""
+                    word, *rest = line.split(" ")
+                    if word in ("section1", "time"):
+                        message[word] = dict(zip(SECTION_1 if word == "section1" else TIME_NAMES, map(int, rest)))
+                        if word == "section1":
+                            named = by_version.of(rest[6])
+                            fields = known.setdefault(named, {})
+                    elif word == "flags":
+                        message["observed"], message["compressed"] = "observed" in rest, "compressed" in rest
+                    elif word == "descriptors":
+                        message["descriptors"], message["subsets"] = rest, []
+                    else:
+                        message[word] = rest[0] if rest else ""
         _, said = running.finish()
         here += [(file, place, reason) for _, place, reason in left_out(said)]
         here += [(file, loss.place, loss.reason) for _, loss in heads.losses()]

@@ -13,8 +13,9 @@ MEANS = {
     "V1": "a row of Table B is outside the limits, or operators lead out of them",
     "V2": "there are fewer data than the template asks for", "V3": COLUMNS, "V4": COLUMNS, "V5": COLUMNS,
     "V6": "more values than the limits allow"}
+NEWER = "the message is newer than all tables here"
 
 
 def meaning(reason: str) -> str:
-    """Return what a refusal means; nothing if it has no code."""
-    return MEANS.get(reason.partition(" ")[0], "")
+    """Return what a refusal means."""
+    return NEWER if reason.startswith("no table here reads version ") else MEANS.get(reason.partition(" ")[0], "")

@@ -1,14 +1,14 @@
-"""Writes one page of HTML about BUFR files: what bufr-summary counts, the map of bufr-map, the reports of each hour, what is refused by
-reason with its places, which stations of a list did not report, and which that reported it lacks. The page has its picture inside, no
-script, and asks for nothing from elsewhere.
+"""Writes one page of HTML about BUFR files: which stations of a list did not report, and which that reported it lacks; what is refused by
+reason with its places, and what is lost; the map of bufr-map, the reports of each hour, and what bufr-summary counts. The page has its
+picture inside, no script, and asks for nothing from elsewhere.
 
-STATIONS.csv is a CSV file with a column station (10384, 0-20000-0-10384 or the name of a ship), and if it is there a column name and a
-column expected: how many reports of different times are expected of the station. Stations are counted as WDQMS does: not received, below
-30 percent of what is expected, below 80 percent, normal, and more than expected.
+STATIONS.csv is a CSV file (UTF-8 or Windows-1252) with a column station (10384, 0-20000-0-10384 or the name of a ship), and if it is there a column name and a
+column expected: how many reports of different times are expected of the station. A number of four or five digits is that of a WMO
+station, also without its zero or with .0 at its end; or the columns block and station have its two numbers. Stations are counted as WDQMS
+does: not received, below 30 percent of what is expected, below 80 percent, normal, and more than expected.
 
 The map needs matplotlib, cartopy and its coastlines (Debian: python3-matplotlib, python3-cartopy, python-cartopy-data). The status is 1
 if a message was refused."""
-import argparse
 import base64
 import csv
 import html
@@ -16,18 +16,25 @@ import io
 import re
 
 from . import __version__
-from . import contents as bufr_contents
-from . import drawing, summary
+from . import drawing, summary, summary_text
 from . import tables as bufr_tables
-from .errors import BufrError
+from .commands import entry
+from .csv_input import open_csv, wmo_number
+from .errors import Fault
+from .given import Files
+from .heads import GROUPS
 from .map import drawn_of, title_of, write_whole
+from .parsers import add_inputs, parser_of
 from .refusals import meaning
 
 # The most rows of the reports of each hour; beyond it they are those of each day. And the most places of a reason.
 MOST_HOURS, MOST_PLACES = 240, 50
-# The most stations that are named beside a list.
+# The most stations that are named beside a list, and the most losses.
 MOST_BESIDE = 1000
-WMO = re.compile(r"0-20000-0-(\d{5})|(\d{5})", re.A)
+# What else is a station: a WIGOS identifier, and what the nine characters of a ship or a mobile station hold.
+OTHER = re.compile(r"\d-\d{1,5}-\d{1,5}-[0-9A-Za-z]{1,16}|(?![0-9]{1,3}\Z|[0-9]+\.[0-9]*\Z)[!-~][ -~]{0,8}", re.A)
+PART = re.compile(r"(\d{1,3})(?:\.0)?", re.A)
+FORM = "station,name,expected"
 NOT_RECEIVED, NO_SCHEDULE = "not received", "none expected"
 # The least percentage of each class of stations, from the greatest on.
 CLASSES = ((80, "normal (80 percent or more)"), (30, "availability issues (30 percent or more)"),
@@ -61,30 +68,59 @@ class Listed:
 
 def identifier_of(word):
     """The identifier of a station as a key: the WMO number of a station that has one."""
-    found = WMO.fullmatch(word)
-    return (found[1] or found[2]) if found else word
+    return wmo_number(word) or word
+
+
+def station_of(row):
+    """The identifier that a row of a list has, or nothing; raises ValueError with what is no station."""
+    word, block = row.get("station", ""), row.get("block", "")
+    if block:
+        numbers = [PART.fullmatch(each) for each in (block, word)]
+        if None in numbers or int(block.partition(".")[0]) > 99:
+            raise ValueError(f"{block} {word}".rstrip())
+        return "{:02}{:03}".format(*(int(each[1]) for each in numbers))
+    if word and not wmo_number(word) and not OTHER.fullmatch(word):
+        raise ValueError(word)
+    return identifier_of(word)
+
+
+def rows_of_list(file, path):
+    """Yields the place and the cells of each row of a list by the names of its columns, in lower case. Its delimiter is the one that its
+    header has most."""
+    head = file.readline()
+    delimiter = max(",;\t", key=head.count)
+    names = [name.strip().lower() for name in next(csv.reader([head], delimiter=delimiter), [])]
+    if "station" not in names:
+        raise Fault(f"{path} has no column station: its first row is {head.strip() or 'empty'}; write names there, as {FORM}")
+    rows = csv.reader(file, delimiter=delimiter)
+    for row in rows:
+        yield f"{path}:{rows.line_num + 1}", dict(reversed(list(zip(names, (cell.strip() for cell in row)))))
 
 
 def stations_of(path):
     """The stations of a list, by their identifiers."""
+    found = {}
     try:
-        with open(path, encoding="utf-8-sig", newline="") as file:
-            rows = csv.DictReader(file)
-            if "station" not in (rows.fieldnames or ()):
-                raise bufr_tables.Fault(f"{path} has no column station")
-            found = {}
-            for row in rows:
-                word, expected = (row["station"] or "").strip(), (row.get("expected") or "").strip()
-                if not word:
+        with open_csv(path) as file:
+            for place, row in rows_of_list(file, path):
+                expected = row.get("expected", "")
+                try:
+                    station = station_of(row)
+                except ValueError as error:
+                    raise Fault(f"{place}: {error} is no station: write 06610, 0-20000-0-06610 or the name of a ship, or name the columns "
+                                "block and station") from None
+                if not station:
                     continue
-                if expected and not (expected.isdigit() and expected.isascii()):
-                    raise bufr_tables.Fault(f"{path}:{rows.line_num}: expected is a number, not {expected}")
-                if identifier_of(word) in found:
-                    raise bufr_tables.Fault(f"{path}:{rows.line_num}: {word} stands there twice")
-                found[identifier_of(word)] = Listed(word, (row.get("name") or "").strip(), int(expected) if expected else None)
+                if not re.fullmatch(r"(?:[0-9]+(?:\.0)?)?", expected):
+                    raise Fault(f"{place}: expected is a number, not {expected}")
+                if station in found:
+                    raise Fault(f"{place}: {row['station']} stands there twice")
+                # a number is shown with its zero
+                shown = row["station"] if row["station"].endswith(station) else station
+                found[station] = Listed(shown, row.get("name", ""), int(expected.partition(".")[0]) if expected else None)
             return found
-    except (OSError, UnicodeDecodeError, csv.Error) as error:
-        raise bufr_tables.Fault(f"cannot read {path}: {getattr(error, 'strerror', None) or error}") from error
+    except (OSError, csv.Error) as error:
+        raise Fault(f"cannot read {path}: {getattr(error, 'strerror', None) or error}") from error
 
 
 def compared(listed, reports):
@@ -156,13 +192,13 @@ def put_overview(page, contents, reports):
     """Adds the numbers of all files together."""
     kinds = reports.kinds()
     page.table("overview", ("", "number"), [
-        ("files", len(contents.files)), ("octets", sum(each.octets for each in contents.files)),
-        ("octets between messages", sum(contents.between)), ("messages", contents.all.messages),
-        ("messages refused", contents.all.refused), ("subsets", contents.all.subsets),
         ("reports", reports.with_key + reports.without_key), ("reports with a key", reports.with_key),
-        ("reports without a key", reports.without_key), *((f"{kind} stations", count) for kind, count in kinds.items())])
-    page.paragraph("Time of the messages: " + summary.span(summary.said_of(contents.first), summary.said_of(contents.last)))
-    page.paragraph("Time of the reports: " + summary.span(*(each and each.isoformat(" ") for each in (reports.first, reports.last))))
+        ("reports without a key", reports.without_key), *((f"{kind} stations", count) for kind, count in kinds.items()),
+        ("messages", contents.all.messages), ("messages refused", contents.all.refused), ("subsets", contents.all.subsets),
+        ("files", len(contents.files)), ("octets", sum(each.octets for each in contents.files)),
+        ("octets between messages", sum(contents.between))])
+    page.paragraph("Time of the messages: " + summary_text.span(summary_text.said_of(contents.first), summary_text.said_of(contents.last)))
+    page.paragraph("Time of the reports: " + summary_text.span(*(each and each.isoformat(" ") for each in (reports.first, reports.last))))
 
 
 def put_files(page, contents):
@@ -174,10 +210,10 @@ def put_files(page, contents):
 
 
 def put_groups(page, contents):
-    for group in bufr_contents.GROUPS:
+    for group in GROUPS:
         page.part(f"Messages by {group}", group, (group, "messages", "subsets", "refused"), [
-            (summary.labelled(group, word), count.messages, count.subsets, count.refused)
-            for word, count in summary.rows_of(contents, group)])
+            (summary_text.labelled(group, word), count.messages, count.subsets, count.refused)
+            for word, count in summary_text.rows_of(contents, group)])
 
 
 def put_map(page, reports):
@@ -188,7 +224,7 @@ def put_map(page, reports):
         page.paragraph("No report has a position.")
         return
     out = io.BytesIO()
-    drawing.draw(out, "png", points, "reports", f"{title_of(reports)}\n{drawn_of(reports, points, True)}".rstrip(), True)
+    drawing.draw(out, "png", points, "reports", f"{title_of(reports)}\n{drawn_of(reports, points, True)}", True)
     picture = base64.b64encode(out.getvalue()).decode()
     page.put(f'<img alt="{len(points):,} positions on a map" src="data:image/png;base64,{picture}">')
 
@@ -210,16 +246,25 @@ def put_hours(page, reports):
 
 
 def put_refusals(page, contents):
-    """Adds the reasons of refusals, with the places of each file."""
-    page.heading("What is refused")
-    if not contents.reasons:
-        page.paragraph("Nothing is refused.")
-        return
+    """Adds the reasons of refusals, with the places of each file, and what else is lost of each file."""
+    page.heading("What is refused or lost")
+    losses = [(loss.why, loss.length, each.name, loss.place) for each, found in zip(contents.files, contents.losses) for loss in found]
+    if not contents.reasons and not losses:
+        page.paragraph("Nothing is refused or lost.")
+    if contents.reasons:
+        put_reasons(page, contents)
+    if losses:
+        page.table("losses", ("lost", "octets", "file", "place, in octets from 0"), losses[:MOST_BESIDE])
+    if len(losses) > MOST_BESIDE:
+        page.paragraph(f"And {len(losses) - MOST_BESIDE:,} more.")
+
+
+def put_reasons(page, contents):
     places = {}
     for each in contents.refusals:
         places.setdefault(each.reason, []).append(each)
     rows = []
-    for reason, times in summary.reasons_of(contents):
+    for reason, times in summary_text.reasons_of(contents):
         here = {}
         for each in places[reason][:MOST_PLACES]:
             here.setdefault(each.file, []).append(f"{each.place:,}")
@@ -252,44 +297,36 @@ def page_of(contents, reports, listed=None, with_map=True, title="BUFR files"):
     """The page, as octets."""
     page = Page(title)
     put_overview(page, contents, reports)
-    if with_map:
-        put_map(page, reports)
-    put_files(page, contents)
     if listed is not None:
         put_stations(page, reports, listed)
     put_refusals(page, contents)
+    if with_map:
+        put_map(page, reports)
     put_hours(page, reports)
+    put_files(page, contents)
     put_groups(page, contents)
     page.put(f"<p>Made by bufr-report {__version__}.</p>")
     return page.octets()
 
 
 def main():
-    parser = argparse.ArgumentParser(prog=bufr_tables.called("report"), description=__doc__,
-                                     formatter_class=argparse.RawDescriptionHelpFormatter)
-    bufr_tables.add_options(parser)
-    bufr_tables.add_table_options(parser)
+    parser = parser_of("report", __doc__)
     parser.add_argument("-o", metavar="OUT", required=True, help="the page that is written, as report.html")
     parser.add_argument("--expect", metavar="STATIONS.csv", help="the stations that are expected to report")
     parser.add_argument("--no-map", action="store_true", help="leaves out the map")
-    parser.add_argument("--quiet", action="store_true", help="does not say how far it is")
-    parser.add_argument("files", nargs="*", metavar="FILE", help="BUFR files (standard input: -)")
+    add_inputs(parser)
     arguments = parser.parse_args()
     if not arguments.no_map:
         drawing.run_by_debian("report")
     paths = bufr_tables.TablesByVersion.chosen(arguments).paths
     listed = stations_of(arguments.expect) if arguments.expect else None
-    with bufr_contents.Files(arguments.files or ["-"], parser.prog) as files:
-        try:
-            if not arguments.no_map:
-                drawing.need(parser.prog)
-            contents, reports = summary.read(files, paths, with_data=True, name=parser.prog, quiet=arguments.quiet)
-        except BufrError as error:
-            raise bufr_tables.Fault(str(error)) from error
+    with Files(arguments.files, parser.prog) as files:
+        if not arguments.no_map:
+            drawing.need(parser.prog)
+        contents, reports = summary.read(files, paths, with_data=True, name=parser.prog, quiet=arguments.quiet)
         write_whole(arguments.o, page_of(contents, reports, listed, not arguments.no_map))
     print(f"{arguments.o}: {title_of(reports)}, {contents.all.refused:,} of {contents.all.messages:,} messages refused")
     return summary.status_of(contents)
 
 
-def command():
-    bufr_tables.run(bufr_tables.called("report"), main)
+command = entry("report", main)

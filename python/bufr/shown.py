@@ -3,15 +3,16 @@ from __future__ import annotations
 
 import os
 import re
+import stat
 import subprocess
 import sys
-import threading
-from typing import IO, Iterable, Iterator, List, Optional, Sequence, Tuple, Union
+from contextlib import contextmanager
+from typing import IO, Any, Iterable, Iterator, List, Optional, Sequence, Tuple, Union
 
-from .errors import BufrError
+from .errors import BufrError, Fault
+from .processes import PIECE, program
 from .programs import launcher
-from .streams import program
-from .tables import Fault, HERE, VERSIONS, read_version, table_paths
+from .versions import HERE, VERSIONS, read_version, table_paths
 
 PathLike = Union[str, "os.PathLike[str]"]
 TablesLike = Union[None, int, Sequence[PathLike]]
@@ -61,51 +62,73 @@ def plain_name(name: str) -> str:
 
 
 class Running:
-    """A program that runs beside this one. What it says on standard error is kept."""
+    """A program that runs beside this one. What it says on standard error is kept in a file, so nothing has to take it in meanwhile."""
 
     def __init__(self, words: Sequence[str], stdin: Union[None, int, IO[bytes]] = subprocess.DEVNULL,
                  through: Optional[Sequence[str]] = None) -> None:
-        self.words, self.said = words, b""
+        self.words, self.through = words, through
+        self.processes: List[subprocess.Popen[bytes]] = []
+        self.said: Optional[int] = os.memfd_create("said")
         environment = {key: value for key, value in os.environ.items() if key not in ("BUFR_TABLES", "BUFR_VERBOSE")}
         try:
-            self.process = subprocess.Popen(words, stdin=stdin, stdout=subprocess.PIPE, stderr=subprocess.PIPE, env=environment)
+            self.process = self.start(words, stdin=stdin, stderr=self.said, env=environment)
+            self.output: IO[bytes] = self.process.stdout  # type: ignore[assignment]
+            if through is not None:
+                with self.output as shown:
+                    self.output = self.start(through, stdin=shown, env={**environment, "LC_ALL": "C"}).stdout  # type: ignore[assignment]
+        except BufrError:
+            self.close()
+            raise
+
+    def start(self, words: Sequence[str], **how: Any) -> "subprocess.Popen[bytes]":
+        try:
+            self.processes.append(subprocess.Popen(words, stdout=subprocess.PIPE, **how))
         except OSError as error:
             raise BufrError(f"cannot run {words[0]}: {error.strerror}") from None
-        self.output: IO[bytes] = self.process.stdout  # type: ignore[assignment]
-        self.filter = None
-        if through is not None:
-            self.filter = subprocess.Popen(through, stdin=self.output, stdout=subprocess.PIPE, env={**environment, "LC_ALL": "C"})
-            self.output.close()
-            self.output = self.filter.stdout  # type: ignore[assignment]
-        self.listener = threading.Thread(target=self.listen, daemon=True)
-        self.listener.start()
+        return self.processes[-1]
 
-    def listen(self) -> None:
-        self.said = self.process.stderr.read()  # type: ignore[union-attr]
+    @contextmanager
+    def to_the_end(self) -> Iterator[None]:
+        """Raise what ended the program instead of what is wrong with its last line, which it leaves cut if it is killed."""
+        try:
+            yield
+        except (IndexError, KeyError, ValueError):
+            if not self.output.read(1):
+                self.finish()
+            raise
 
     def finish(self) -> Tuple[int, str]:
         """Wait for the end. Return the status, 0 or 1, and what was said; raise what went wrong."""
-        status = self.process.wait()
-        if self.filter is not None:
-            self.filter.wait()
-        self.listener.join()
-        said = self.said.decode("utf-8", "replace")
-        if status < 0 or status > 128:
-            raise BufrError(f"{os.path.basename(self.words[0])} was killed by signal {-status if status < 0 else status - 128}")
-        if status > 1:
-            lines = [line for line in said.splitlines() if not LEFT_OUT.match(line)]
-            raise BufrError(re.sub(r"^bufr(?:-\S+)?: ", "", (lines or [f"{self.words[0]} ends with {status}"])[-1]))
-        return status, said
+        statuses = [process.wait() for process in self.processes]
+        said = b""
+        while self.said is not None:
+            piece = os.pread(self.said, PIECE, len(said))
+            if not piece:
+                break
+            said += piece
+        if self.through is not None and statuses[1] not in (0, 1):
+            raise error_of(self.through, statuses[1], b"")
+        if statuses[0] not in (0, 1):
+            raise error_of(self.words, statuses[0], said)
+        return statuses[0], said.decode("utf-8", "replace")
 
     def close(self) -> None:
         """End the program, if it still runs."""
-        for process in (self.process, self.filter):
-            if process is not None and process.poll() is None:
-                process.kill()
-                process.wait()
-        self.output.close()
-        self.listener.join()
-        self.process.stderr.close()  # type: ignore[union-attr]
+        for process in self.processes:
+            process.kill()
+            process.wait()
+            process.stdout.close()  # type: ignore[union-attr]
+        if self.said is not None:
+            os.close(self.said)
+            self.said = None
+
+
+def error_of(words: Sequence[str], status: int, said: bytes) -> BufrError:
+    """Return what went wrong with a program that ends with another status than 0 and 1: its last line, or that it was killed."""
+    if status < 0 or status > 128:
+        return BufrError(f"{os.path.basename(words[0])} was killed by signal {-status if status < 0 else status - 128}")
+    lines = [line for line in said.decode("utf-8", "replace").splitlines() if not LEFT_OUT.match(line)]
+    return BufrError(re.sub(r"^bufr(?:-\S+)?: ", "", (lines or [f"{words[0]} ends with {status}"])[-1]))
 
 
 def files_of(files: Union[PathLike, Iterable[PathLike]]) -> List[str]:
@@ -127,6 +150,11 @@ def file_of(file: PathLike) -> str:
         raise BufrError(f"{name} is a folder: name its files, as glob.glob(\"{os.path.join(name, '*.bufr')}\") does")
     if "*" in name and not os.path.exists(name):
         raise BufrError(f"{name} is a pattern, and no file: glob.glob(\"{name}\") names its files")
+    try:
+        if stat.S_ISREG(os.stat(name).st_mode):
+            os.close(os.open(name, os.O_RDONLY))
+    except (OSError, ValueError) as error:
+        raise BufrError(f"cannot open {name}: {getattr(error, 'strerror', None) or error}") from None
     return name
 
 

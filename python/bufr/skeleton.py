@@ -8,6 +8,9 @@ import sys
 
 from . import tables as bufr_tables
 from . import wanted
+from .commands import entry
+from .errors import Fault
+from .parsers import parser_of
 
 
 def counts_of(text):
@@ -46,14 +49,14 @@ def subset_lines(tables, descriptors, counts, notes=False):
         if field.is_factor:
             met.append(left.pop(0) if left else 1)
             if met[-1] >= 1 << field.width:
-                raise bufr_tables.Fault(f"a count of {met[-1]} does not fit {field.descriptor}")
+                raise Fault(f"a count of {met[-1]} does not fit {field.descriptor}")
             yield f"{field.descriptor} {met[-1]}"
         elif field.width == 1:
             yield f"{field.descriptor} 0"
         else:
             yield f"{field.descriptor} missing"
     if left:
-        raise bufr_tables.Fault(f"{len(met)} counts are asked for, {len(counts)} are given")
+        raise Fault(f"{len(met)} counts are asked for, {len(counts)} are given")
 
 
 def version_named(arguments, path):
@@ -64,9 +67,7 @@ def version_named(arguments, path):
 
 
 def main():
-    parser = argparse.ArgumentParser(prog=bufr_tables.called("skeleton"), description=__doc__)
-    bufr_tables.add_options(parser)
-    bufr_tables.add_table_options(parser)
+    parser = parser_of("skeleton", __doc__, formatter=argparse.HelpFormatter)
     parser.add_argument("--counts", type=counts_of, default=[], metavar="N,N,..", help="how often the bodies "
                         "of the delayed replications come, in the order of their factors; 1 after the last")
     parser.add_argument("--subsets", type=positive, default=1, metavar="N", help="how many subsets (1)")
@@ -83,7 +84,7 @@ def main():
     arguments = parser.parse_args()
     for words, count in ((arguments.centre, 2), (arguments.category, 3), (arguments.time, 6)):
         if not re.fullmatch(r"\d+( \d+){%d}" % (count - 1), words):
-            raise bufr_tables.Fault(f"'{words}' is not {count} numbers parted by spaces")
+            raise Fault(f"'{words}' is not {count} numbers parted by spaces")
     paths = bufr_tables.chosen_paths(arguments)
     lines = list(subset_lines(bufr_tables.Tables(*paths), arguments.descriptors, arguments.counts, arguments.notes))
     out = ["message"]
@@ -101,5 +102,4 @@ def main():
     return 0
 
 
-def command():
-    bufr_tables.run(bufr_tables.called("skeleton"), main)
+command = entry("skeleton", main)

@@ -6,22 +6,13 @@ import os
 import select
 import stat
 
-try:
-    # the module signal without its enumerations, which take long to load
-    import _signal as signal  # type: ignore[import]
-except ImportError:
-    import signal
+from .errors import Fault
+from .processes import PIECE, Process, program
+from .versions import table_paths, version_of
 
-from . import tables as bufr_tables
-from .tables import Fault
-
-PIECE = 1 << 16
 # How many octets are handed to programs before their answers are there.
 ROOM = 1 << 20
 LONGEST = (1 << 24) - 1
-# The signals that end a call, and the programs that run beside it.
-HALTING = (signal.SIGINT, signal.SIGTERM, signal.SIGHUP)
-RUNNING = []
 # How many parts of octets are written at once.
 MOST_PARTS = 500
 # The octets that bufr-ls may still find frames in: those of a longest frame, of its pipe and of its last read.
@@ -29,23 +20,8 @@ KEPT = LONGEST + 2 * ROOM
 COLUMNS = "input,master_version,place,length"
 
 
-def program(name):
-    """The path of the program `bufr` or `bufr-ls`: what the variable BUFR or BUFR_LS names, that of this package, of this
-    checkout or of this installation, or the one in PATH."""
-    named = os.environ.get(name.upper().replace("-", "_"))
-    if named:
-        return named
-    top, crate = bufr_tables.TOP, name.replace("-", "_")
-    for paths in ((f"{bufr_tables.HERE}/files/dist/x86_64-linux/{name}",),
-                  (f"{top}/crates/{crate}/out/{crate}", f"{top}/dist/x86_64-linux/{name}"), (f"{top}/{name}",)):
-        found = [path for path in paths if os.path.isfile(path) and os.access(path, os.X_OK)]
-        if found:
-            return max(found, key=os.path.getmtime)
-    return name
-
-
 def tables_of(version):
-    b_path, d_path = bufr_tables.table_paths(version)
+    b_path, d_path = table_paths(version)
     return ["-b", b_path, "-d", d_path]
 
 
@@ -61,66 +37,6 @@ def say(name, text):
         os.write(2, os.fsencode(f"{name}: {text}\n"))
     except OSError:
         pass
-
-
-class Process:
-    """A program that runs beside this one, with pipes at those of its files 0 to 2 that are named, or a file at 0. It inherits the
-    files that this one inherited. It is in RUNNING from its start to its end, whatever signal comes meanwhile. The module
-    subprocess does not do that, and takes long to load."""
-
-    def __init__(self, words, piped, given=None):
-        self.status, self.pipes, theirs = None, {}, {}
-        for file in piped:
-            ours, other = os.pipe()
-            self.pipes[file], theirs[file] = (other, ours) if file == 0 else (ours, other)
-        actions = [(os.POSIX_SPAWN_DUP2, theirs[file], file) for file in theirs]
-        if given is not None:
-            actions.append((os.POSIX_SPAWN_DUP2, given, 0))
-        mask = signal.pthread_sigmask(signal.SIG_BLOCK, HALTING)
-        try:
-            self.number = os.posix_spawnp(words[0], words, os.environ, setsigdef=[signal.SIGPIPE], setsigmask=mask,
-                                          file_actions=actions)
-            RUNNING.append(self)
-        except OSError as error:
-            raise Fault(f"cannot run {words[0]}: {error.strerror}") from error
-        finally:
-            signal.pthread_sigmask(signal.SIG_SETMASK, mask)
-            for file in theirs.values():
-                os.close(file)
-
-    def shut(self, file):
-        """Closes a pipe."""
-        if file in self.pipes:
-            os.close(self.pipes.pop(file))
-
-    def rest_of(self, file):
-        """What comes through a pipe until its end."""
-        pieces, pipe = [], self.pipes[file]
-        os.set_blocking(pipe, True)
-        while not pieces or pieces[-1]:
-            pieces.append(os.read(pipe, PIECE))
-        return b"".join(pieces)
-
-    def wait(self):
-        """Waits for its end, and returns its status, below 0 for a signal."""
-        if self.status is None:
-            self.status = os.waitstatus_to_exitcode(os.waitpid(self.number, 0)[1])
-            RUNNING.remove(self)
-        return self.status
-
-    def end(self):
-        """Ends it, if it still runs."""
-        if self.status is None:
-            os.kill(self.number, signal.SIGKILL)
-            self.wait()
-        for file in list(self.pipes):
-            self.shut(file)
-
-
-def end_all():
-    """Ends all programs that run beside this one."""
-    for each in list(RUNNING):
-        each.end()
 
 
 def widen(pipe):
@@ -404,7 +320,7 @@ class Inputs:
         while at < len(rows):
             number, word, _ = rows[at:at + 60].split(b",", 2)
             named = int(word) if word else None
-            version = None if named is None else bufr_tables.version_of(named) or 0
+            version = None if named is None else version_of(named) or 0
             here = int(number) - 1 + self.reading.first, version, named if version == 0 else None
             if here != kept:
                 if kept is not None:

@@ -4,13 +4,9 @@ import os
 import sys
 from collections import namedtuple
 
-HERE = os.path.dirname(os.path.realpath(__file__))
-# The top of the repository; where `install` puts the package, the folder of the programs.
-TOP = os.path.dirname(os.path.dirname(HERE))
-# The folder of the tables: in a package that pip installed, in the repository, and where `install` puts it.
-FOLDERS = [os.path.join(HERE, "files", "tables"), os.path.join(TOP, "tables"),
-           os.path.join(TOP, "..", "..", "share", "bufr", "tables")]
-VERSIONS = (13, 14, 15, 16, 17, 18, 46)
+from .errors import Fault
+from .versions import read_version, table_paths
+
 TEXT_UNIT = "CCITT IA5"
 # How deep sequences stand in each other at most.
 MOST_SEQUENCE_LEVELS = 16
@@ -23,54 +19,9 @@ Field = namedtuple("Field", "descriptor name unit scale width is_factor referenc
 # What `marked` hands out beside fields: where a replication begins, where each of its turns begins, and where it ends.
 BEGIN, TURN, END = "begin", "turn", "end"
 
-
-class Fault(Exception):
-    """What is wrong with the call, a table or a listing, in one line."""
-
-
-class Ended(Exception):
-    """The end of a call with a status, of which a line on standard error was said before."""
-
-    def __init__(self, status):
-        super().__init__(status)
-        self.status = status
-
-
-def version_of(octet):
-    """The version of the tables that reads messages of a master table version, or None beyond the newest.
-    Versions up to 13 are one table, and from 19 on the tables only grow."""
-    if octet <= 13:
-        return 13
-    if octet <= 18:
-        return octet
-    return 46 if octet <= VERSIONS[-1] else None
-
-
-def table_paths(version):
-    """The files of Tables B and D of a version."""
-    for folder in FOLDERS:
-        paths = [os.path.join(folder, f"table_{table}_{version}.csv") for table in "bd"]
-        if all(os.path.exists(path) for path in paths):
-            return [os.path.normpath(path) for path in paths]
-    raise Fault(f"there are no tables of version {version}")
-
-
-def called(name):
-    """The name of a command, under which it is installed."""
-    return f"bufr-{name}"
-
-
-def add_options(parser):
-    """Adds the options that all commands have."""
-    from . import __version__
-    parser.add_argument("--version", action="version", version=f"{parser.prog} {__version__}")
-
-
-def add_table_options(parser):
-    parser.add_argument("-b", metavar="TABLE_B", help="the CSV file of Table B")
-    parser.add_argument("-d", metavar="TABLE_D", help="the CSV file of Table D")
-    parser.add_argument("--tables", metavar="VERSION", help="the version of the tables if neither -b nor -d is "
-                        "given, from 0 to 46 (the variable BUFR_TABLES, or else that of each message)")
+def chosen_version(arguments):
+    """The version that the options or the variable name, as a text, or nothing."""
+    return arguments.tables or os.environ.get("BUFR_TABLES") or ""
 
 
 def chosen_paths(arguments):
@@ -80,19 +31,6 @@ def chosen_paths(arguments):
             raise Fault("-b and -d go together")
         return [arguments.b, arguments.d]
     return table_paths(read_version(chosen_version(arguments) or "46"))
-
-
-def chosen_version(arguments):
-    """The version that the options or the variable name, as a text, or nothing."""
-    return arguments.tables or os.environ.get("BUFR_TABLES") or ""
-
-
-def read_version(word):
-    """The version of the tables that read a version."""
-    chosen = version_of(int(word)) if word.isdigit() and word.isascii() else None
-    if chosen is None:
-        raise Fault(f"no table here reads version {word}")
-    return chosen
 
 
 # The tables of the standard that were read, by their versions.
@@ -298,26 +236,3 @@ def lines_of(path):
             if line.endswith(b"\n"):
                 line = line[:-2] if line.endswith(b"\r\n") else line[:-1]
             yield number, line.decode("latin-1")
-
-
-def run(name, main):
-    """Runs a script's `main`, which answers a status. A fault is one line and status 2; a reader that went
-    away ends the script quietly."""
-    sys.stdout.reconfigure(errors="surrogateescape")
-    try:
-        status = main()
-        sys.stdout.flush()
-    except Fault as fault:
-        sys.stderr.write(f"{name}: {fault}\n")
-        status = 2
-    except Ended as ended:
-        status = ended.status
-    except BrokenPipeError:
-        os.dup2(os.open(os.devnull, os.O_WRONLY), sys.stdout.fileno())
-        status = 2
-    except OSError as error:
-        sys.stderr.write(f"{name}: {error.strerror or error}\n")
-        status = 2
-    except KeyboardInterrupt:
-        status = 130
-    sys.exit(status)

@@ -5,13 +5,15 @@ descriptor, name, unit and value: a number with the digits of the listing, a tex
 of each message, unless an option names others. bufr-from-json writes the listing again.
 
 The status is 1 if a message was refused: standard error names each, and tells the octets of messages that are cut or broken."""
-import argparse
 import json
 import re
 import sys
 
 from . import tables as bufr_tables
+from .commands import entry
+from .errors import Fault
 from .inputs import Listed, decoded
+from .parsers import add_input, parser_of
 
 SECTION_1 = ("originating_centre", "originating_sub_centre", "update_sequence_number", "data_category",
              "international_data_sub_category", "local_data_sub_category", "master_table_version",
@@ -24,7 +26,7 @@ MOST_KEPT = 1 << 17
 
 
 def bad(number):
-    return bufr_tables.Fault(f"line {number} is no line of a listing at its place")
+    return Fault(f"line {number} is no line of a listing at its place")
 
 
 class Fields:
@@ -221,40 +223,35 @@ def nested(tables, descriptors, fields, comma):
                 items.append(f"[{comma.join(turns)}]")
         else:
             if at == len(fields):
-                raise bufr_tables.Fault(f"line {fields[-1][2] + 1 if fields else 0}: the descriptors ask for {each.descriptor} here")
+                raise Fault(f"line {fields[-1][2] + 1 if fields else 0}: the descriptors ask for {each.descriptor} here")
             said, line, number = fields[at]
             if line[:6] != each.descriptor:
-                raise bufr_tables.Fault(f"line {number}: the descriptors ask for {each.descriptor} here")
+                raise Fault(f"line {number}: the descriptors ask for {each.descriptor} here")
             if each.is_factor:
                 count = int(line[7:]) if line[7:].isdigit() else 0
             items.append(said)
             at += 1
     if at < len(fields):
-        raise bufr_tables.Fault(f"line {fields[at][2]}: the descriptors ask for no field here")
+        raise Fault(f"line {fields[at][2]}: the descriptors ask for no field here")
     return top
 
 
 def main():
-    parser = argparse.ArgumentParser(prog=bufr_tables.called("to-json"), description=__doc__,
-                                     formatter_class=argparse.RawDescriptionHelpFormatter)
-    bufr_tables.add_options(parser)
-    bufr_tables.add_table_options(parser)
+    parser = parser_of("to-json", __doc__)
     parser.add_argument("--lines", action="store_true", help="one object for each subset")
     parser.add_argument("--nested", action="store_true", help="each replication is a list of its turns, and each turn a list of "
                         "fields and replications")
     parser.add_argument("--compact", action="store_true", help="a field is a list of its descriptor and its value, without name "
                         "and unit")
-    parser.add_argument("--quiet", action="store_true", help="does not say how far it is")
-    parser.add_argument("file", nargs="?", default="-", metavar="FILE", help="a BUFR file or a listing (standard input: -)")
+    add_input(parser, "file", "a BUFR file or a listing (standard input: -)")
     arguments = parser.parse_args()
     tables = bufr_tables.TablesByVersion.chosen(arguments)
     listed = Listed(parser.prog, arguments.file, tables.paths, arguments.quiet)
     messages = Messages(tables, Writer(sys.stdout, arguments.lines, arguments.compact, arguments.nested), listed)
     number = messages.read()
     if messages.head is not None:
-        raise bufr_tables.Fault(f"the listing ends within a message, after line {number}")
+        raise Fault(f"the listing ends within a message, after line {number}")
     return listed.status()
 
 
-def command():
-    bufr_tables.run(bufr_tables.called("to-json"), main)
+command = entry("to-json", main)

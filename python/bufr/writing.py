@@ -8,10 +8,11 @@ from decimal import Decimal, InvalidOperation
 from typing import Any, Callable, Dict, Iterable, Iterator, List, Mapping, NamedTuple, Optional, Tuple, Union
 
 from . import wanted
-from .errors import BufrError
+from .errors import BufrError, Fault
 from .from_json import SPELT
+from .progress import positions
 from .shown import PathLike, Running, TablesLike, files_of, paths_of, words_of
-from .tables import Fault, TablesByVersion
+from .tables import TablesByVersion
 from .to_json import SECTION_1, TIME
 
 Progress = Callable[[int, int], Any]
@@ -216,25 +217,8 @@ def _watch(running: Running, files: List[str], progress: Progress) -> None:
     sizes = [os.path.getsize(file) if os.path.isfile(file) else 0 for file in files]
     total, most = sum(sizes), 0
     while running.process.poll() is None:
-        for number, octets in _positions(running.process.pid, known):
+        for number, octets in positions(running.process.pid, known):
             most = max(most, min(sum(sizes[:number]) + octets, total))
         progress(most, total)
         time.sleep(0.1)
     progress(total if running.process.returncode in (0, 1) else most, total)
-
-
-def _positions(pid: int, known: Dict[str, int]) -> Iterator[Tuple[int, int]]:
-    """Yield the numbers of files that a program and those that it runs have open, and how far each is read."""
-    try:
-        for name in os.listdir(f"/proc/{pid}/fd"):
-            number = known.get(os.readlink(f"/proc/{pid}/fd/{name}"))
-            if number is not None:
-                with open(f"/proc/{pid}/fdinfo/{name}", encoding="ascii") as file:
-                    yield number, int(file.readline().split()[1])
-        for task in os.listdir(f"/proc/{pid}/task"):
-            with open(f"/proc/{pid}/task/{task}/children", encoding="ascii") as file:
-                children = file.read().split()
-            for child in children:
-                yield from _positions(int(child), known)
-    except (OSError, ValueError, IndexError):
-        return

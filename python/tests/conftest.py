@@ -13,13 +13,15 @@ sys.dont_write_bytecode = True
 os.environ["PYTHONDONTWRITEBYTECODE"] = "1"
 os.environ.setdefault("BUFR", f"{TOP}/dist/x86_64-linux/bufr")
 os.environ.setdefault("BUFR_LS", f"{TOP}/dist/x86_64-linux/bufr-ls")
+if os.path.exists(f"{TOP}/dist/x86_64-linux/bufr-select"):
+    os.environ.setdefault("BUFR_SELECT", f"{TOP}/dist/x86_64-linux/bufr-select")
 for name in ("BUFR_TABLES", "BUFR_VERBOSE"):
     os.environ.pop(name, None)
 
 
 def run(*words, given=None, folder=None, **variables):
     """Status, output and standard error of a command, each octet a character."""
-    done = subprocess.run([str(word) for word in words], input=given, capture_output=True, cwd=folder, timeout=300,
+    done = subprocess.run([str(word) for word in words], input=given, capture_output=True, cwd=folder, timeout=900,
                           env={**os.environ, **variables})
     return done.returncode, done.stdout.decode("latin-1"), done.stderr.decode("latin-1")
 

@@ -2,7 +2,7 @@
 import os
 import subprocess
 
-from bufr import tables, wanted
+from bufr import tables, versions, wanted
 from bufr.programs import launcher
 from conftest import run
 
@@ -11,9 +11,9 @@ KNOWN = {}
 
 
 def tables_of(version):
-    chosen = tables.version_of(version)
+    chosen = versions.version_of(version)
     if chosen not in KNOWN:
-        KNOWN[chosen] = tables.Tables(*tables.table_paths(chosen))
+        KNOWN[chosen] = tables.Tables(*versions.table_paths(chosen))
     return KNOWN[chosen]
 
 

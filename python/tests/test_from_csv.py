@@ -115,7 +115,7 @@ def test_a_row_becomes_these_fields(folder):
 TEMPERATURE = "012101 TEMPERATURE/AIR TEMPERATURE [K]: wanted a number with 2 digits after the point, from 0.00 to 655.34, or missing"
 # The row and column of a cell of the first example, what is put in its place, and what is said of it.
 WRONG = [
-    (2, "station", "1038", "wanted five digits, as 10384; found 1038"),
+    (2, "station", "103", "wanted a number IIiii, as 06610 or 6610; found 103"),
     (2, "name", "BERLIN-TEMPELHOF AIRPORT", "001015 STATION OR SITE NAME [CCITT IA5]: wanted a text of at most 20 characters, or missing; "
      "found BERLIN-TEMPELHOF AIRPORT: it has 24 characters"),
     (2, "time", "15.01.2024 12:00", "wanted a time as 2024-01-15T12:00:00Z; found 15.01.2024 12:00"),
@@ -292,7 +292,7 @@ def test_rounding(folder):
     ({"010004": {"column": "p", "decimal": ";"}}, None, "010004: decimal is a point or a comma, not ;"),
     ({"004001": {"time": "years"}}, None, "004001: time is one of year, month, day, hour, minute, second, not years"),
     ({"001001": {"station": "block"}}, None, "001001: the mapping has no station"),
-    (None, {"station": "n"}, 'station: no field has a part of it, such as {"station": "block"}'),
+    (None, {"station": "n"}, 'station: no field has a part of it: write {"station": "block"} for 001001, {"station": "number"} for 001002'),
     ({"031001": None}, None, "031001 DELAYED DESCRIPTOR REPLICATION FACTOR [Numeric]: wanted a count without a point, from 0 to 255, never missing; "
      "found nothing"),
     ({"031001": "p"}, None, "031001: a count from a column has \"greatest\": the greatest count of a row, below 256"),
@@ -326,6 +326,9 @@ def test_faults_of_the_mapping(fields, mapping, said, folder):
     (b'{"template": "30708"}', ": template: 30708 is no descriptor: six digits FXXYYY"),
     (b'{"template": "307250", "section1": {"master_table_version": 46}}', ": template: X2 UnknownSequence 307250"),
     (b'{"template": "307080"}', ": section1 has no number master_table_version: write the version of the tables, such as 46"),
+    (b'{"template": "307080", "section1": {"originating_centre": 78, "data_category": 0, "update_sequence_number": 300}}',
+     "write the version of the tables, such as 46; and write the numbers originating_sub_centre, update_sequence_number, "
+     "international_data_sub_category, local_data_sub_category, local_table_version\n"),
     (b'{"template": "307080", "section1": {"master_table_version": 47}}', "no table here reads version 47"),
     (b"[" * 100000, "is no JSON"), (b'{"template": "120000 031002' + b" 001001" * 20 + b'", "section1": '
                                     b'{"master_table_version": 46}, "fields": {"031002": 65535}}', ": template: a row has more than 1,000,000 fields"), (b'{"template": "307080", "section1": {"master_table_version": 46}, "delimiter": "ab"}',
@@ -372,7 +375,8 @@ def test_how_a_csv_may_be_written(folder):
                   "t;n;a\n2024-01-15T12:00Z;7;4.1", "t\tn\ta\n2024-01-15T12:00Z\t7\t+41e-1\n", " t , n , a \n2024-01-15T12:00Z , 7 , 4.1\n",
                   't,n,a,"more\nlines"\n2024-01-15T12:00Z,7,4.1,"x\ny"\n'):
         status, error, out = small(folder, cells)
-        assert (status, error, body(out)) == (0, "", wanted), cells
+        assert (status, body(out)) == (0, wanted), cells
+        assert error == (f"{folder}/m.json: columns in no field: more lines\n" if "more" in cells else "")
     octets = read(f"{folder}/a.csv.bufr")
     for words in (["-"], []):
         out = f"{folder}/b"
@@ -385,6 +389,30 @@ def test_how_a_csv_may_be_written(folder):
                            ({"missing": ["///", -999]}, "t,n,a\n2024-01-15T12:00Z,7,4.1\n2024-01-15T12:00Z,///,-999\n")):
         status, error, out = small(folder, cells, mapping=mapping)
         assert (status, error, body(out)[:3]) == (0, "", wanted) and len(body(out)) == (4 if "missing" in mapping else 3)
+
+
+def test_a_csv_as_excel_writes_it(folder):
+    """In Windows-1252, also from standard input, if it is not UTF-8; and with a sign of the euro."""
+    fields = {"001015": "né", "012101": {"column": "°C", "unit": "°C"}}
+    wanted = ["001002 7", "012101 277.25", "031001 0", '001015 "AB' + " " * 18 + '"']
+    for encoding in ("utf-8", "utf-8-sig", "cp1252"):
+        cells = "t;n;°C;né;€\r\n2024-01-15T12:00Z;7;4.1;AB;x\r\n".encode(encoding)
+        status, error, out = small(folder, cells, fields, {"template": f"{SMALL['template']} 001015"})
+        assert (status, body(out)) == (0, wanted) and error == f"{folder}/m.json: columns in no field: €\n"
+        assert command("from-csv", "--quiet", "-o", f"{folder}/b", f"{folder}/m.json", given=cells) == (0, "", "")
+        assert body(listing(f"{folder}/b")) == wanted
+
+
+@pytest.mark.parametrize("word, block, number", [("06610", 6, 610), ("6610", 6, 610), ("10384.0", 10, 384), ("0-20000-0-06610", 6, 610),
+                                                 ("610", None, None), ("106610", None, None), ("0-20000-1-06610", None, None)])
+def test_numbers_of_stations(word, block, number, folder):
+    """As bufr-report takes them: a number that a table made shorter, too."""
+    fields = {"001001": {"station": "block"}, "001002": {"station": "number"}}
+    status, error, out = small(folder, f"t,s,a\n2024-01-15T12:00Z,{word},4.1\n", fields, {"station": "s"})
+    if block is None:
+        assert (status, out) == (1, False) and error.startswith(f"row 2, column s: wanted a number IIiii, as 06610 or 6610; found {word}\n")
+    else:
+        assert (status, error, body(out)[:2]) == (0, "", [f"001001 {block}", f"001002 {number}"])
 
 
 def test_a_field_has_its_own_decimal(folder):
@@ -402,7 +430,7 @@ def test_a_field_has_its_own_decimal(folder):
     assert (status, error.splitlines()[0]) == (1, pressure + "found 1.010,2 hPa: it is no number")
     status, error, _ = small(folder, cells, {"010004": point})
     assert (status, error.splitlines()[0]) == (
-        1, f'row 2, column a: {TEMPERATURE}; found 4,1 °C: it is no number, which "decimal": "," in the mapping allows')
+        1, f'row 2, column a: {TEMPERATURE}; found 4,1 °C: it has a comma: write "decimal": "," in the mapping')
 
 
 @pytest.mark.parametrize("word, form, time", [
@@ -525,15 +553,21 @@ def test_a_new_mapping(folder):
     cells = write(f"{folder}/a.csv", b"time,wmo block number,001002,Pressure,Wind Speed,humidity\n2024-01-15T12:00Z,10,384,101020,4.8,81\n")
     name = f"{folder}/m.json"
     assert inside("from-csv", "--new", name, "--template", "301150", "307080", "--counts", "1", cells) == (
-        0, f"{name}: columns that no field has yet: humidity\n", "")
+        0, f"{name}: columns by the names of elements: wmo block number (001001), Pressure (010004), Wind Speed (011002)\n"
+        f"{name}: columns in no field yet: humidity\n", "")
     assert inside("from-csv", "--new", name, "--template", "012101")[::2] == (2, f"bufr-from-csv: cannot write {name}: File exists\n")
     mapping = json.loads(read(name))
     assert (mapping["template"], mapping["time"]["column"], len(mapping["fields"])) == ("301150 307080", "time", 115)
     assert (mapping["wigos"], mapping["station"]) == (None, None)
     assert mapping["fields"]["012101"] == {"column": None, "unit": "K", "name": "TEMPERATURE/AIR TEMPERATURE",
-                                           "wants": "a number with 2 digits after the point, from 0.00 to 655.34, or missing"}
+                                           "wants": "a number with 2 digits after the point; the field has room for 0.00 to 655.34 K, "
+                                           "or missing"}
     assert mapping["fields"]["031001"]["constant"] == 1 and mapping["fields"]["031001#2"]["constant"] == 0
-    assert mapping["fields"]["004001"] == {"time": "year", "name": "YEAR", "wants": "a number without a point, from 0 to 4094, or missing"}
+    assert mapping["fields"]["004001"] == {"time": "year", "name": "YEAR",
+                                           "wants": "a number without a point; the field has room for 0 to 4094 a, or missing"}
+    assert mapping["fields"]["002001"]["wants"] == "a number without a point; the field has room for 0 to 2, or missing"
+    assert mapping["fields"]["031001"]["wants"] == "a count without a point; the field has room for 0 to 255"
+    assert mapping["fields"]["001015"]["wants"] == "a text of at most 20 characters, or missing"
     status, error, out = made(f"{folder}/a", name, cells)
     assert (status, os.path.exists(out), error) == (
         2, False, f"bufr-from-csv: {name}: section1 originating_centre: wanted a number from 0 to 65535, or a column; found nothing\n"
@@ -546,6 +580,61 @@ def test_a_new_mapping(folder):
                                   "013003 81", "031001 1", "031001 0", "011002 4.8"]
     assert inside("from-csv", "--new", f"{folder}/n.json", "--template", "307080", "--counts", "1,2,3") == (
         2, "", "bufr-from-csv: 2 counts are asked for, 3 are given\n")
+
+
+def test_a_new_mapping_has_the_station(folder):
+    """With the centre and columns that are called as fields nothing has to be filled in; a field has a later column by its number."""
+    cells = write(f"{folder}/a.csv", b"time,Station,012101,007032#2\n2024-01-15T12:00Z,06610,277.25,1.5\n")
+    name = f"{folder}/m.json"
+    assert inside("from-csv", "--new", name, "--centre", "78", "--template", "307080", cells) == (0, "", "")
+    mapping = json.loads(read(name))
+    assert (mapping["station"], mapping["section1"]["originating_centre"]) == ("Station", 78)
+    assert [mapping["fields"][key]["station"] for key in ("001001", "001002")] == ["block", "number"]
+    status, error, out = made(f"{folder}/a", name, cells)
+    assert (status, error) == (0, "") and "\nsection1 78 0 0 0 255 255 46 0\n" in listing(out)
+    assert body(listing(out)) == ["001001 6", "001002 610", "004001 2024", "004002 1", "004003 15", "004004 12", "004005 0", "012101 277.25",
+                                  "007032 1.50", "031001 0", "031001 0"]
+    # by another column only its name is to be filled in, and nothing else
+    cells = write(f"{folder}/a.csv", b"time;stn;temp\n2024-01-15T12:00Z;6610;4,1\n")
+    name = f"{folder}/other.json"
+    assert inside("from-csv", "--new", name, "--centre", "78", "--template", "307080", cells) == (
+        0, f"{name}: columns in no field yet: stn, temp\n", "")
+    mapping = json.loads(read(name))
+    assert (mapping["station"], mapping["decimal"]) == (None, None)
+    assert [mapping["fields"][key]["station"] for key in ("001001", "001002")] == ["block", "number"]
+    here = ["004001 2024", "004002 1", "004003 15", "004004 12", "004005 0"]
+    status, error, out = made(f"{folder}/a", name, cells)
+    assert (status, error) == (0, f"bufr-from-csv: {name}: columns in no field: stn, temp\n")
+    assert body(listing(out)) == [*here, "031001 0", "031001 0"]
+    write(name, text(name).replace('"station": null', '"station": "stn"').replace('"decimal": null', '"decimal": ","').replace(
+        '"012101": {"column": null, "unit": "K"', '"012101": {"column": "temp", "unit": "degC"'))
+    status, error, out = made(f"{folder}/a", name, cells)
+    assert (status, error, body(listing(out))) == (0, "", ["001001 6", "001002 610", *here, "012101 277.25", "031001 0", "031001 0"])
+    # so of a WIGOS identifier, but not of a template with a part of it
+    for template, parts in (("301150", ["series", "issuer", "issue", "local"]), ("001125 001126 001002", [None, None])):
+        name = f"{folder}/wigos{template[:6]}.json"
+        assert inside("from-csv", "--new", name, "--template", *template.split())[0] == 0
+        assert [each.get("wigos") for key, each in json.loads(read(name))["fields"].items() if key.startswith("00112")] == parts
+    assert "station" not in json.loads(read(name))["fields"]["001002"]
+    # not if its two numbers have columns, nor if the template has none
+    for number, (header, template) in enumerate((("station,001001", "307080"), ("station,001002 WMO station number", "307080"),
+                                                 ("station", "301011 012101"))):
+        name, cells = f"{folder}/{number}.json", write(f"{folder}/b.csv", f"time,{header}\n".encode())
+        assert inside("from-csv", "--new", name, "--template", template, cells)[:2][1].endswith("columns in no field yet: station\n")
+        assert json.loads(read(name)).get("station") is None
+    assert inside("from-csv", "--centre", "78", name)[0] == 2
+
+
+def test_columns_that_no_field_has_are_told(folder):
+    """After the messages are made, on standard error; not of columns of the time, of section 1 and of parts, nor with --quiet."""
+    cells = "t,n,a,c,,station,x y\n2024-01-15T12:00Z,1,4.1,98,,10384,7\n"
+    mapping = {"section1": {**SMALL["section1"], "originating_centre": "c"}}
+    status, error, out = small(folder, cells, mapping=mapping)
+    assert (status, error) == (0, f"{folder}/m.json: columns in no field: station, x y\n") and body(out)[0] == "001002 1"
+    assert small(folder, cells, mapping=mapping, words=["--quiet"])[:2] == (0, "")
+    fields = {"001001": {"station": "block"}, "001002": {"station": "number"}}
+    status, error, out = small(folder, cells, fields, {**mapping, "station": "station"})
+    assert (status, error) == (0, f"{folder}/m.json: columns in no field: n, x y\n") and body(out)[:2] == ["001001 10", "001002 384"]
 
 
 def test_a_mapping_for_each_sequence(folder):

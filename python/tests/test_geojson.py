@@ -200,7 +200,7 @@ def test_inputs(folder):
     assert features(SYNOP, none, TEMP, status=2, error=f"bufr-geojson: cannot open {none}: No such file or directory\n") == both
     packed = write(f"{folder}/packed", b"\x1f\x8b\x08\0" + b"\1" * 50)
     status, out, error = inside("geojson", packed)
-    assert status == 1 and error == f"bufr-geojson: {packed} has no message, and is no listing: packed by gzip\n" and json.loads(out)["features"] == []
+    assert status == 1 and error == f"bufr-geojson: {packed} has no message, and is no listing: packed by gzip; unpack it\n" and json.loads(out)["features"] == []
     cut = write(f"{folder}/cut", "message\nsection1 98 0 0 0 2 0 46 0\ntime 2024 1 15 12 0 0\nflags\ndescriptors 012101\nsubset\n012101 x\n")
     assert inside("geojson", cut)[::2] == (2, f"bufr-geojson: {cut}: line 7 is no line of a listing at its place\n")
     assert inside("geojson", write(cut, text(cut).replace(" x", " 1.00")))[::2] == (
@@ -222,7 +222,7 @@ def test_all_files_of_a_folder(folder):
     no = "has no message, and is no listing"
     found = features(*files, status=1, error="".join(f"bufr-geojson: {line}\n" for line in (
         f"{folder}/a is a folder, and passed over", f"{folder}/b.csv {no}", f"{folder}/d.cut {no}: a message that is cut or broken",
-        f"{folder}/f.gz {no}: packed by gzip", f"{folder}/g.txt {no}")))
+        f"{folder}/f.gz {no}: packed by gzip; unpack it", f"{folder}/g.txt {no}")))
     assert [each["properties"]["file"] for each in found] == [f"{folder}/e.bufr", f"{folder}/h.bufr"]
     assert inside("geojson", f"{folder}/a") == (2, "", f"bufr-geojson: {folder}/a is a folder: name its files, as {folder}/a/*\n")
 

@@ -21,11 +21,12 @@ def there(tmp_path_factory):
     os.mkdir(checkout)
     for name in ("python", "tables"):
         shutil.copytree(f"{TOP}/{name}", f"{checkout}/{name}", ignore=shutil.ignore_patterns("__pycache__", "build", "*.egg-info"))
-    for name in ("bufr", "LICENSE", "NOTICE"):
-        shutil.copy(f"{TOP}/{name}", checkout)
+    for name in ("bufr", "bufr-select", "LICENSE", "NOTICE"):
+        shutil.copy(f"{TOP}/{name}", checkout, follow_symlinks=False)
     os.makedirs(f"{checkout}/dist/x86_64-linux")
-    for name, variable in (("bufr", "BUFR"), ("bufr-ls", "BUFR_LS")):
-        shutil.copy(os.environ[variable], f"{checkout}/dist/x86_64-linux/{name}")
+    for name, variable in (("bufr", "BUFR"), ("bufr-ls", "BUFR_LS"), ("bufr-select", "BUFR_SELECT")):
+        if name != "bufr-select" or variable in os.environ:
+            shutil.copy(os.environ[variable], f"{checkout}/dist/x86_64-linux/{name}")
     done = subprocess.run([sys.executable, "-m", "pip", "install", "--no-build-isolation", "--no-index", "--no-deps", "--no-compile",
                            "--disable-pip-version-check", "--target", f"{folder}/site", f"{checkout}/python"],
                           capture_output=True, text=True)
@@ -36,8 +37,8 @@ def there(tmp_path_factory):
 
 def alone(there, *words, **how):
     """A command that pip installed, which finds its programs by itself, and Python by the PATH."""
-    variables = {key: value for key, value in os.environ.items() if key not in ("BUFR", "BUFR_LS")}
-    done = subprocess.run([f"{there}/bin/{words[0]}", *words[1:]], capture_output=True, timeout=60, **how,
+    variables = {key: value for key, value in os.environ.items() if key not in ("BUFR", "BUFR_LS", "BUFR_SELECT")}
+    done = subprocess.run([f"{there}/bin/{words[0]}", *words[1:]], capture_output=True, timeout=900, **how,
                           env={**variables, "PYTHONPATH": there})
     return done.returncode, done.stdout.decode("latin-1"), done.stderr.decode("latin-1")
 
@@ -51,7 +52,8 @@ def test_the_versions_agree():
 
 def test_all_files_are_there(there):
     names = {os.path.relpath(os.path.join(at, name), there) for at, _, files in os.walk(there) for name in files}
-    assert {"bufr/__init__.py", "bufr/py.typed", "bufr/files/bufr", "bufr/files/dist/x86_64-linux/bufr", "bufr/files/LICENSE",
+    assert {"bufr/__init__.py", "bufr/py.typed", "bufr/files/bufr", "bufr/files/bufr-select",
+            "bufr/files/dist/x86_64-linux/bufr", "bufr/files/LICENSE",
             "bufr/files/dist/x86_64-linux/bufr-ls", "bufr/files/tables/table_b_13.csv", "bufr/files/NOTICE"} <= names
     for module in os.listdir(f"{TOP}/python/bufr"):
         assert module == "__pycache__" or f"bufr/{module}" in names
@@ -70,6 +72,8 @@ def test_the_program_runs_under_tables_of_each_message(there, folder):
     assert alone(there, "bufr", "check", "/dev/stdin", input=mixed) == (0, wanted, "")
     assert alone(there, "bufr-ls", "-c", "place,master_version", stream)[1] == "place,master_version\n0,13\n54,46\n103,18\n"
     assert alone(there, "bufr", "--version")[1].startswith("bufr ")
+    assert alone(there, "bufr-select", "-c", "message,master_version,012101", stream) \
+        == (0, "message,master_version,012101\n1,13,273.15\n2,46,273.15\n3,18,273.15\n", "")
     assert alone(there, "bufr", "show", f"{TOP}/examples/refused.bufr") == (1, "# refused 0 M2 Edition 5\n", "")
 
 

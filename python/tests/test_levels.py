@@ -5,7 +5,7 @@ import pytest
 
 import bufr
 from bufr import levels, tables
-from conftest import TOP, write
+from conftest import TOP, command, write
 import makers
 
 TEMP = f"{TOP}/examples/standard/temp.bufr"
@@ -81,6 +81,32 @@ def test_what_comes_before_in_a_template(descriptors, each, wanted):
 def test_many_fields_are_named_in_part():
     known, found = tables.Tables(*tables.table_paths(46)), levels.Leading(["012101"])
     found.take(known, ["101002", "301011", "107002", "001001", "001002", "002001", "004001", "004002", "004003", "012101"])
-    assert found.said("--each 012101", "a feature has") == \
-        "--each 012101 is not the first field of its replication: 001001, 001002, 002001, 004001, 004002 and 1 more come before it, so a " \
-        "feature has those of the next level; the replication begins with 001001"
+    assert found.said("--each 012101", "a feature has") == [
+        "--each 012101 is not the first field of its replication: 001001, 001002, 002001, 004001, 004002 and 1 more come before it, so a "
+        "feature has those of the next level; the replication begins with 001001"]
+
+
+def test_levels_among_messages_without_them():
+    """007004 is one field of a SYNOP, and in the levels of a sounding; 004086 is in these alone."""
+    synop = f"{TOP}/examples/standard/synop.bufr"
+    said = "each=007004 is in a replication of 309052, but one field of 307080, which has no levels: part the messages by their category"
+    for how in ({}, {"tables": 46}):
+        frame, found = told(lambda: bufr.read([synop, TEMP], {"category": "category", "kelvin": "012101"}, each="007004", **how))
+        assert found == [(said, __file__)] and frame["category"].value_counts().to_dict() == {0: 4, 2: 101}
+        assert told(lambda: list(bufr.rows([TEMP, synop], ["012101"], each="007004", **how)))[1] == [(said, __file__)]
+    for files, each in (([synop, TEMP], "004086"), ([synop, synop], "007004"), ([TEMP], "007004")):
+        assert told(lambda: bufr.read(files, ["012101"], each=each))[1] == []
+    status, _, error = command("geojson", "--each", "007004", synop, TEMP)
+    assert status == 0 and error.splitlines()[-1] == f"bufr-geojson: {said.replace('each=', '--each ')}"
+
+
+def test_a_template_that_has_a_field_alone_too_has_levels():
+    """The first templates of each kind are named."""
+    known, found = tables.Tables(*tables.table_paths(46)), levels.Leading(["007004"], ["012101"])
+    found.take(known, ["007004", "102002", "007004", "012101"])
+    assert found.said("each=007004", "a row has") == []
+    for words in ("001001 007004", "007004", "102003 007004 012101"):
+        found.take(known, words.split())
+    assert found.said("each=007004", "a row has") == [
+        "each=007004 is in a replication of 007004 102002 007004 012101, but one field of 001001 007004, which has no levels: part the messages "
+        "by their category"]

@@ -39,7 +39,7 @@ def test_an_element_is_drawn_with_its_unit(folder):
     """The SYNOP of four stations has their temperatures."""
     path = f"{folder}/map.svg"
     assert command("map", SYNOP, "-o", path, "--element", "012101") == (
-        0, f"{path}: 4 reports, 4 stations, 2024-01-15 12:00; 4 values drawn\n", "")
+        0, f"{path}: 4 reports, 4 stations, 2024-01-15 12:00; 4 of 4 drawn at 4 positions\n", "")
     count, texts = marks(read(path))
     assert count == 4
     assert "012101 TEMPERATURE/AIR TEMPERATURE [K]" in texts and "4 reports, 4 stations, 2024-01-15 12:00" in texts
@@ -47,15 +47,15 @@ def test_an_element_is_drawn_with_its_unit(folder):
 
 def test_its_numbers_are_those_of_the_summary(folder):
     """Of the samples: 153 reports of 6 stations. The aircraft has 128 positions without a station, and each station has one. Nine
-    reports of 10384, in examples/, say none, and are at its position; four others have neither a station nor a position."""
+    reports of 10384, in examples/, say none, and are at its position; four others have neither a station nor a position: without a
+    station are 132."""
     path = f"{folder}/map.png"
     status, out, error = command("map", *SAMPLES, "-o", path)
-    assert (status, out) == (1, f"{path}: 153 reports, 6 stations, 2024-01-15 10:45 to 2024-01-15 12:00; "
+    assert (status, out) == (1, f"{path}: 153 reports, 6 stations and 132 reports without a station, 2024-01-15 10:45 to 2024-01-15 12:00; "
                              "149 of 153 drawn at 134 positions; 4 have no position\n")
     assert error.splitlines() == [
         f"bufr-map: {TOP}/examples/refused.bufr: refused 0 M2 Edition 5",
-        f"bufr-map: {TOP}/examples/short_data.bufr: refused 0 V2 DataEnds 1 8",
-        f"bufr-map: {TOP}/examples/standard/bulletins.bufr: skipped 4 octets at 1102: a message that is cut or broken"]
+        f"bufr-map: {TOP}/examples/short_data.bufr: refused 0 V2 DataEnds 1 8"]
     assert read(path).startswith(b"\x89PNG\r\n\x1a\n")
     found = json.loads(command("summary", "--json", *SAMPLES)[1])
     assert (sum(found["reports"][word] for word in ("with_key", "without_key")), sum(found["stations"].values())) == (153, 6)
@@ -65,7 +65,8 @@ def test_its_numbers_are_those_of_the_summary(folder):
 
 
 @pytest.mark.parametrize("words, drawn", [
-    ([], "4 of 5 drawn at 2 positions; 1 has no position"), (["--element", "012101"], "1 of 5 drawn; 3 have no position; 1 has no value")])
+    ([], "4 of 5 drawn at 2 positions; 1 has no position"),
+    (["--element", "012101"], "1 of 5 drawn at 1 position; 3 have no position; 1 has no value")])
 def test_how_many_are_drawn_and_why_not_all(words, drawn, folder):
     """Three reports of 10384, of which one has a position; one of no station at a position, without a value; and one that has neither."""
     place = "005001 52.46750, 006001 13.40214"
@@ -78,8 +79,95 @@ def test_how_many_are_drawn_and_why_not_all(words, drawn, folder):
                                                  f"descriptors {' '.join(known)}\n{lines}end\n"))
     assert (status, error) == (0, "")
     path, out = write(f"{folder}/file", octets), f"{folder}/map.svg"
-    assert command("map", path, "-o", out, *words) == (0, f"{out}: 5 reports, 1 station, none; {drawn}\n", "")
-    assert {"5 reports, 1 station, none", drawn} <= set(marks(read(out))[1])
+    title = "5 reports, 1 station and 2 reports without a station, none"
+    assert command("map", path, "-o", out, *words) == (0, f"{out}: {title}; {drawn}\n", "")
+    assert {title, drawn} <= set(marks(read(out))[1])
+
+
+def test_reports_at_one_position_are_told_alike(folder):
+    """A file twice: by stations and by an element's values."""
+    path = f"{folder}/map.svg"
+    for words in ([], ["--element", "012101"]):
+        assert command("map", SYNOP, SYNOP, "-o", path, *words) == (
+            0, f"{path}: 8 reports, 4 stations, 2024-01-15 12:00; 8 of 8 drawn at 4 positions\n", "")
+        assert "8 of 8 drawn at 4 positions" in marks(read(path))[1]
+
+
+def bars(svg):
+    """The texts of a picture but for those of its axes, and how many colours its marks have."""
+    texts = [text for text in marks(svg)[1] if not text.endswith(("°", "°N", "°E", "°S", "°W"))]
+    return texts, len(set(re.findall(r"<use [^>]*style=\"fill: (#[0-9a-f]{6}); stroke: #000000; stroke-width: 0.3", svg.decode())))
+
+
+def test_numbers_that_are_all_equal_have_no_bar():
+    """The title has the value of an element."""
+    points = [(52.5, 13.4, 3), (48.1, 11.6, 3)]
+    assert bars(drawn(points)) == (["a title"], 1)
+    points = [(52.5, 13.4, 277.25), (48.1, 11.6, 277.25)]
+    assert bars(drawn(points, label="012101 T [K]", is_count=False)) == (["a title", "012101 T [K]: 277.25"], 1)
+    assert "012101 T [K]" in bars(drawn([*points, (50.0, 10.0, 280.0)], label="012101 T [K]", is_count=False))[0]
+
+
+@pytest.mark.parametrize("least, greatest, bounds", [
+    (1, 2, [0.5, 1.5, 2.5]), (3, 12, [2.5, 3.5, 4.5, 5.5, 6.5, 7.5, 8.5, 9.5, 10.5, 11.5, 12.5]), (1, 11, None), (1, 500, None), (7, 100000, None)])
+def test_counts_have_steps_of_whole_numbers(least, greatest, bounds):
+    """Up to ten of them a step each; of more all steps are alike, and have the least and the greatest count."""
+    found = drawing.steps_of(least, greatest)
+    if bounds:
+        assert found == bounds
+        return
+    widths = {high - low for low, high in zip(found, found[1:])}
+    assert all(each == int(each) for each in found) and len(widths) == 1 and 3 <= len(found) <= 13
+    assert found[0] <= least < found[1] and found[-2] <= greatest < found[-1]
+
+
+def test_a_count_has_the_colour_of_its_step():
+    points = [(40.0 + at, 10.0, count) for at, count in enumerate([1, 1, 2, 4])]
+    texts, colours = bars(drawn(points))
+    assert (colours, texts) == (3, ["a title", "1", "2", "3", "4", "reports"])
+    points = [(40.0 + at, 10.0, count) for at, count in enumerate([1, 2, 3, 90, 91, 200])]
+    assert bars(drawn(points))[1] == 3
+
+
+def test_islands_of_the_coarse_coast_have_four_points(monkeypatch):
+    """Smaller ones are left out, and the picture has the others."""
+    from cartopy import feature
+    drawn_lands = []
+    monkeypatch.setattr(feature, "ShapelyFeature", lambda lands, *_, **__: drawn_lands.append(lands))
+
+    class Axes:
+        def add_feature(self, _):
+            pass
+
+    drawing.add_land(Axes(), None)
+    counts = [len(each.exterior.coords) - 1 for each in drawn_lands[0]]
+    every = [len(each.exterior.coords) - 1 for each in feature.GSHHSFeature(scale="coarse", levels=[1]).geometries()]
+    assert min(counts) == 4 and sorted(counts) == sorted(each for each in every if each > 3) and len(counts) < len(every)
+
+
+def test_borders_are_drawn_if_they_are_there(monkeypatch, folder):
+    """A shapefile with one line, from 8 to 12 degrees: the finest of two."""
+    import cartopy
+    import shapefile
+    points = [(50.0, 8.0, 1), (52.0, 12.0, 2)]
+    without = drawn(points)
+    os.makedirs(f"{folder}/shapefiles/natural_earth/cultural")
+    for scale, lines in (("50m", [[[8.0, 51.0], [12.0, 51.0]]]), ("110m", [[[8.0, 51.0], [12.0, 51.0]]] * 9)):
+        with shapefile.Writer(f"{folder}/shapefiles/natural_earth/cultural/ne_{scale}_admin_0_boundary_lines_land") as file:
+            file.field("name", "C")
+            for line in lines:
+                file.line([line])
+                file.record("a border")
+    monkeypatch.setitem(cartopy.config, "data_dir", folder)
+    assert drawn(points).count(b"<path") == without.count(b"<path") + 1
+
+
+def test_a_picture_is_sharp_and_short():
+    """It has at least 1,200 pixels in a row, of 256 colours: an octet each before they are packed."""
+    from PIL import Image
+    octets = drawn([(52.5, 3.4, 1), (48.1, 11.6, 3)], "png")
+    picture = Image.open(io.BytesIO(octets))
+    assert (picture.mode, picture.format) == ("P", "PNG") and picture.width >= 1200 and len(octets) < 60000
 
 
 def test_values_are_those_of_the_rows():
@@ -160,7 +248,7 @@ def test_faults(folder):
     """A fault is one line, and an older map stays."""
     old = write(f"{folder}/map.png", b"old")
     for words, said in (
-            ([f"{TOP}/README.md"], f"{TOP}/README.md: skipped {len(read(TOP + '/README.md'))} octets at 0: no message\n"
+            ([f"{TOP}/README.md"], f"{TOP}/README.md: skipped {len(read(TOP + '/README.md'))} octets at 0: text\n"
              "bufr-map: no report has a position"),
             ([f"{TOP}/examples/bulletin.bufr"], "no report has a position"),
             ([SYNOP, "--element", "012102"], "no report has a position and a value of 012102"),

@@ -39,19 +39,30 @@ def losses(folder):
         "after": (message(46) + synop[:300], [(49, 300, CUT)]),
         "two before": (b"noise" + synop[:300] + synop[:99] + message(46), [(5, 300, CUT), (305, 99, CUT)]),
         "between": (message(46) + b"\r\r\n" + synop[:300] + message(13), [(52, 300, CUT)]),
-        "text": (b"no message\n" * 20, [(0, 220, "no message")]),
-        "gzip": (gzip.compress(synop), [(0, None, "packed by gzip")]),
-        "bzip2": (bz2.compress(synop), [(0, None, "packed by bzip2")]),
-        "xz": (lzma.compress(synop), [(0, None, "packed by xz")]),
-        "zip": (zipped(folder), [(0, None, "packed by zip")]),
+        "noise": (b"\0no message\n" * 20, [(0, 240, "no message")]),
+        "text": (b"no message\n" * 20, [(0, 220, "text")]),
+        "a text with the word": (b"this is no BUFR.\n", [(0, 17, "text")]),
+        "a text that ends with the word": ("Flüge in BUFR\r\r\n\x03".encode(), [(0, 18, "text")]),
+        "a bulletin of text": (b"\x01\r\r\nSMDL01 EDZW 151200\r\r\nNIL= BUFR\r\r\n\x03", [(0, 38, "text")]),
+        "gzip": (gzip.compress(synop), [(0, None, "packed by gzip; unpack it")]),
+        "bzip2": (bz2.compress(synop), [(0, None, "packed by bzip2; unpack it")]),
+        "xz": (lzma.compress(synop), [(0, None, "packed by xz; unpack it")]),
+        "zip": (zipped(folder), [(0, None, "packed by zip; unpack it")]),
         "empty": (b"", []),
         "bulletins": (b"\x01\r\r\nISMD01 EDZW BUFR\r\r\n" + message(46) + b"\r\r\n\x03" + message(46) + b"BUFR\r\r\nNNNN", []),
+        # the word is no message, wherever it is
+        "words": (b"NIL= BUFR\r\r\n\x03" + message(46) + b"\r\r\n\x03NIL= BUFR\x01\r\r\n" + message(46) + b"\r\r\n\x03NIL= BUFR", []),
+        "words and lines": (message(46) + b"BUFR\r\r\n\x03" + message(46) + b"BUFR=\r\n", []),
+        "a word at the end of a bulletin": (message(46) + b"BUFR\r\n\x03", []),
+        "cut at 7": (message(46) + synop[:7], [(49, 7, CUT)]),
         # a message in another's text begins nothing
         "within": (synop[:100] + b"BUFR\0\0\x0c\x04" + synop[108:], [])}
 
 
-@pytest.mark.parametrize("name", ["cut", "cut at 5", "broken", "after", "two before", "between", "text", "gzip", "bzip2", "xz", "zip",
-                                  "empty", "bulletins", "within"])
+@pytest.mark.parametrize("name", [
+    "cut", "cut at 5", "cut at 7", "broken", "after", "two before", "between", "noise", "text", "a text with the word",
+    "a text that ends with the word", "a bulletin of text", "gzip", "bzip2", "xz", "zip", "empty", "bulletins", "words", "words and lines",
+    "a word at the end of a bulletin", "within"])
 def test_skipped_octets_are_told(name, folder):
     """Where they are a loss: in `refusals` of each call and by `strict`, also among other files, and on standard error."""
     octets, wanted = losses(folder)[name]
@@ -86,16 +97,17 @@ def test_skipped_octets_are_told(name, folder):
             if octets.count(b"7777"):
                 assert (status, error) == (0, "".join(f"bufr-{each}: {file}: skipped {length} octets at {place}: {why}\n"
                                                       for place, length, why in wanted))
-            elif name not in ("empty", "text"):
+            elif wanted and wanted[0][2] not in ("no message", "text"):
                 assert (status, error) == (2, f"bufr-{each}: {file} has no message, and is no listing: {wanted[0][2]}\n")
 
 
 def test_what_is_stray_in_a_sample():
-    """`BUFR` stands before a heading, where no message begins, and at the end, where one is cut (examples/standard/make-listings)."""
+    """`BUFR` stands before a heading and at the end, as a word (examples/standard/make-listings)."""
     path = f"{TOP}/examples/standard/bulletins.bufr"
     begun = [found.start() for found in re.finditer(b"BUFR", read(path))]
-    assert len(begun) == 4
-    assert [(each.place, each.refusal is None) for each in bufr.check(path)] == [(begun[0], True), (begun[2], True), (begun[3], False)]
+    assert len(begun) == 4 and read(path)[begun[1] - 6:].startswith(read(path)[begun[3] - 6:])
+    assert [(each.place, each.refusal is None) for each in bufr.check(path)] == [(begun[0], True), (begun[2], True)]
+    assert bufr.read(path, ["012101"], strict=True).attrs["refusals"] == []
 
 
 def test_losses_across_pieces(folder):
@@ -182,7 +194,15 @@ def test_what_is_no_file(files, said, folder):
     ({"columns": ["301011"]}, "301011 is a sequence: a column is one of its elements; it has 004001 004002 004003"),
     ({"columns": ["101000"]}, "101000 is a replication, and no element"), ({"columns": ["201130"]}, "201130 is an operator"),
     ({"each": "301011"}, "301011 is a sequence"), ({"columns": ["012101", "301999"]}, "no element has the descriptor 301999"),
-    ({"columns": ["air temprature"]}, "no element has the name air temprature; these are like it: AIR TEMPERATURE (012002); ")])
+    ({"columns": ["air temprature"]}, "no element has the name air temprature; these are like it: AIR TEMPERATURE (012002); "),
+    ({"columns": {"012101": "t"}}, "the name of a column comes first: write {'t': '012101'} for {'012101': 't'}"),
+    ({"columns": {"012101#2": "kelvin", "001001": "block"}}, "the name of a column comes first: write {'kelvin': '012101#2'} for "),
+    ({"columns": {"004001": "year"}}, "the name of a column comes first: write {'year': '004001'} for {'004001': 'year'}"),
+    ({"columns": ["012101", "time"]}, "time is no element: time=True makes it the first column; year to second are those of section 1"),
+    ({"columns": {"when": "time"}}, "time is no element: time=True"), ({"each": "time"}, "time is no element: time=True"),
+    ({"columns": ["lat"]}, "no element has the name lat; these have it in theirs: LATITUDE (HIGH ACCURACY) (005001, 027001); "
+     "LATITUDE (COARSE ACCURACY) (005002, 027002); LATITUDE "),
+    ({"columns": ["cloud cover"]}, "no element has the name cloud cover; these have it in theirs: CLOUD COVER (TOTAL) (020010)")])
 def test_words_are_told_what_is_wanted(how, said):
     for call in (bufr.rows, bufr.read):
         with pytest.raises(bufr.BufrError, match="^" + re.escape(said)) as told:
@@ -198,6 +218,14 @@ def warned(call):
     return got, [str(each.message) for each in found]
 
 
+def test_the_help_of_read_says_its_parameters():
+    """Each with its kind; help of another call is not wanted."""
+    import inspect
+    for call in (bufr.read, bufr.rows):
+        assert re.findall(r"^    (\w+) : ", call.__doc__, re.M) == list(inspect.signature(call).parameters)
+    assert "As of" not in bufr.read.__doc__
+
+
 def test_a_column_that_no_message_has_is_warned_of():
     """Once, by its name and its descriptors; none where a field is there and missing, for local elements, or without rows."""
     files = [SYNOP, TEMP]
@@ -207,9 +235,10 @@ def test_a_column_that_no_message_has_is_warned_of():
                               "TEMPERATURE/AIR TEMPERATURE (012001, 012101); ")
     assert said[1:] == ["the column no is empty: no message has a field 063255"]
     rows, said = warned(lambda: list(bufr.rows(files, ["temperature", "012001#2"], tables=46)))
-    assert said[0].startswith("the column temperature is empty: no message has a field 012023; these have its name in theirs: ")
+    assert said[0].startswith("the column temperature is empty: no message has a field 012023; these have its name in theirs: "
+                              "TEMPERATURE/AIR TEMPERATURE (012001, 012101); ")
     assert said[1:] == ["the column 012001#2 is empty: no message has a field 012001"]
-    assert warned(lambda: list(bufr.rows(files, ["005001", "012101#999", "file", "temperature/air temperature"], each="012101")))[1] == []
+    assert warned(lambda: list(bufr.rows(TEMP, ["005001", "012101#999", "file", "temperature/air temperature"], each="012101")))[1] == []
     assert warned(lambda: list(bufr.rows(f"{TOP}/README.md", ["012002"])))[1] == []
     assert warned(lambda: list(bufr.rows(SYNOP, ["001001"], each="air temperature")))[1][:1] == [
         "there is no row: no message has a field 012002 for each"]

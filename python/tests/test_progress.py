@@ -5,24 +5,40 @@ import re
 import shlex
 import subprocess
 import sys
-import time
+import threading
 
 import pytest
 
 from conftest import TOP, message, text, write
 
 
+# A command that begins to say how far it is once it is so many seconds old, and goes on without a pause.
+BEGUN = f"""import sys
+sys.path.insert(0, {TOP + '/python'!r})
+from bufr import progress
+progress.FIRST, progress.EACH = float(sys.argv[1]), 0
+del sys.argv[:2]
+from bufr.__main__ import main
+main()
+"""
+
+
 def told(words, given, seconds):
-    """What a command writes on a terminal as standard error, if its input comes in two parts, so many seconds apart."""
+    """What a command writes on a terminal as standard error, if it says how far it is after so many seconds."""
     ours, theirs = pty.openpty()
-    with subprocess.Popen([sys.executable, *words], stdin=subprocess.PIPE, stdout=subprocess.DEVNULL, stderr=theirs) as process:
+    with subprocess.Popen([sys.executable, "-c", BEGUN, str(seconds), *words], stdin=subprocess.PIPE, stdout=subprocess.DEVNULL,
+                          stderr=theirs) as process:
         os.close(theirs)
-        process.stdin.write(given[0])
-        process.stdin.flush()
-        time.sleep(seconds)
-        process.stdin.write(given[1])
-        process.stdin.close()
+        reader = threading.Thread(target=process.communicate, args=(given,))
+        reader.start()
+        found = read_all(ours)
+        reader.join()
         assert process.wait() == 0
+    return found
+
+
+def read_all(ours):
+    """What is written on a terminal, until nobody has it open."""
     found = b""
     while True:
         try:
@@ -52,18 +68,34 @@ OBJECT = (b'{"section1": {"originating_centre": 98, "originating_sub_centre": 0,
 @pytest.mark.parametrize("name", ["annotate", "from-csv", "geojson", "to-json", "lint", "from-json", "by-version --into {}", "by-version --run 'bufr check'",
                                   "by-version --run true"])
 def test_a_long_work_says_how_far_it_is(name, folder):
-    """Octets that were read, after a second; the line is erased at the end. `--quiet` and a short work say nothing."""
+    """Octets that were read; the line is erased at the end. `--quiet` and a short work say nothing."""
     name, *rest = shlex.split(name.replace("{}", f"{folder}/out"))
-    words = [f"{TOP}/scripts/bufr-{name}", *rest]
-    halves = [LISTING] * 2 if name == "lint" else [OBJECT] * 2 if name == "from-json" else [message(46), message(46)]
+    words = [f"bufr-{name}", *rest]
+    each = {"lint": LISTING, "from-json": OBJECT, "from-csv": ROW}.get(name, message(46))
+    first = b"t,k\n" if name == "from-csv" else b""
     if name == "from-csv":
         words.append(write(f"{folder}/m.json", MAPPING))
-        halves = [b"t,k\n" + ROW, ROW]
-    found = told(words, [halves[0], halves[1] * 3000], 1.3)
-    first = re.match(rf"\rbufr-{name}: ([\d,]+) octets\x1b\[K", found)
-    assert first and int(first[1].replace(",", "")) >= len(halves[0]) and found.endswith("\r\x1b[K"), found
-    assert told([*words, "--quiet"], halves, 1.3) == ""
-    assert told(words, halves, 0) == ""
+    found = told(words, first + each * 3001, 0)
+    assert re.fullmatch(rf"(\rbufr-{name}: [\d,]+ octets\x1b\[K)+\r\x1b\[K", found), found
+    numbers = [int(number.replace(",", "")) for number in re.findall(r"[\d,]+(?= octets)", found)]
+    assert numbers == sorted(numbers) and len(first + each) < numbers[-1] <= len(first + each * 3001)
+    assert told([*words, "--quiet"], first + each * 2, 0) == ""
+    assert told(words, first + each * 2, 1000) == ""
+
+
+def test_the_first_line_comes_after_a_second(monkeypatch, capsys):
+    """The next ones come after a fifth of a second each."""
+    from bufr import progress
+    now = [100.0]
+    monkeypatch.setattr(progress.time, "monotonic", lambda: now[0])
+    monkeypatch.setattr(progress.os, "isatty", lambda file: True)
+    shown = progress.Progress("name", 5000)
+    said = []
+    for moment in (100.5, 100.9, 101.0, 101.1, 101.3, 101.4):
+        now[0] = moment
+        shown.at(int(moment * 10))
+        said.append(capsys.readouterr().err)
+    assert said == ["", "", "\rname: 1,010 of 5,000 octets\x1b[K", "", "\rname: 1,013 of 5,000 octets\x1b[K", ""]
 
 
 def test_of_a_file_it_says_of_how_many(tmp_path):
@@ -84,7 +116,11 @@ def test_of_a_file_it_says_of_how_many(tmp_path):
 # Slurm, as far as bufr-collect-slurm sees it: each job has a number; the last one is waited for, while two of its three steps end.
 SBATCH = """#!/bin/sh
 echo 7
-case "$*" in *--wait*) : > OUT.work/lines/0.0; : > OUT.work/lines/0.1; sleep 1.8; : > OUT.log; rm -r OUT.work ;; esac
+case "$*" in *--wait*)
+    : > OUT.work/lines/0.0; : > OUT.work/lines/0.1
+    while ! test -e OUT.seen; do sleep 0.05; done
+    : > OUT.log; rm -r OUT.work ;;
+esac
 """
 
 
@@ -96,18 +132,17 @@ def test_slurm_says_how_many_steps_are_done(folder):
     for quiet in ([], ["--quiet"]):
         ours, theirs = pty.openpty()
         path = f"{folder}/bin:{os.environ['PATH']}"
-        done = subprocess.run([*words, *quiet], stdout=subprocess.PIPE, stderr=theirs, env={**os.environ, "PATH": path})
-        os.write(theirs, b".")
-        found = ""
-        while not found.endswith("."):
-            found += os.read(ours, 4096).decode()
-        os.close(theirs)
-        os.close(ours)
-        assert (done.returncode, done.stdout) == (0, b"job 7: 2 adds\njob 7: 1 merges\n") and text(f"{folder}/out.log") == ""
-        if quiet:
-            assert found == "."
-        else:
-            assert found.startswith("\rbufr-collect-slurm: 2 of 3 steps\x1b[K") and found.endswith("\r\x1b[K.")
+        with subprocess.Popen([*words, *quiet], stdout=subprocess.PIPE, stderr=theirs, env={**os.environ, "PATH": path}) as process:
+            os.close(theirs)
+            found = ""
+            while not quiet and "2 of 3 steps\x1b[K" not in found:
+                found += os.read(ours, 4096).decode()
+            write(f"{folder}/out.seen", "")
+            found += read_all(ours)
+            assert process.stdout.read() == b"job 7: 2 adds\njob 7: 1 merges\n"
+        assert process.returncode == 0 and text(f"{folder}/out.log") == ""
+        assert re.fullmatch("" if quiet else r"(\rbufr-collect-slurm: [0-2] of 3 steps\x1b\[K)+\r\x1b\[K", found), found
+        os.remove(f"{folder}/out.seen")
 
 
 def test_of_several_inputs_it_counts_those_before(folder, monkeypatch, capsys):

@@ -1,10 +1,12 @@
 """bufr-annotate, bufr-to-json and bufr-from-json, on BUFR files and on listings."""
+import fcntl
 import glob
 import json
 import os
 import re
 import subprocess
 import sys
+import termios
 import time
 
 import pytest
@@ -73,11 +75,13 @@ def test_a_bufr_file_as_json(folder):
     assert done.returncode == 1 and [each["place"] for each in objects(done.stdout)] == [str(places[1]), str(places[4])]
 
 
-def test_a_message_comes_before_the_next_one():
+def test_messages_that_come_one_after_the_other():
+    """The second one comes once the first one is taken from the pipe."""
     with subprocess.Popen([sys.executable, f"{TOP}/scripts/bufr-annotate"], stdin=subprocess.PIPE, stdout=subprocess.PIPE) as process:
         process.stdin.write(message(46))
         process.stdin.flush()
-        time.sleep(0.2)
+        while any(fcntl.ioctl(process.stdin, termios.FIONREAD, bytes(4))):
+            time.sleep(0.01)
         process.stdin.write(message(13))
         process.stdin.close()
         assert process.stdout.read().count(b"\nend\n") == 2

@@ -72,7 +72,7 @@ def test_the_page_has_the_numbers_of_the_summary(folder):
     files, path = [*SAMPLES, f"{TOP}/README.md", packed, empty], f"{folder}/report.html"
     status, out, error = command("report", *files, "-o", path)
     assert (status, error) == (1, "") and out == \
-        f"{path}: 153 reports, 6 stations, 2024-01-15 10:45 to 2024-01-15 12:00, 2 of 20 messages refused\n"
+        f"{path}: 153 reports, 6 stations and 132 reports without a station, 2024-01-15 10:45 to 2024-01-15 12:00, 2 of 20 messages refused\n"
     page, found = Read(read(path)), json.loads(command("summary", "--json", *files)[1])
     counted = {name: number(count) for name, count in page.tables["overview"][1:]}
     assert counted == {"files": 18, "octets": found["octets"], "octets between messages": found["between"], "messages": 20,
@@ -86,8 +86,11 @@ def test_the_page_has_the_numbers_of_the_summary(folder):
                          each["refused"]) for word, each in zip(plain, found[group])], group
     assert [(name, *map(number, counts)) for name, *counts, _ in page.tables["files"][1:]] == [
         tuple(each[word] for word in ("file", "octets", "messages", "subsets", "refused", "between")) for each in found["files"]]
-    assert [row[-1] for row in page.tables["files"][-3:]] == [f"{os.path.getsize(files[-3]):,} octets at 0: no message",
-                                                             f"{os.path.getsize(packed):,} octets at 0: packed by gzip", "empty"]
+    assert [row[-1] for row in page.tables["files"][-3:]] == [f"{os.path.getsize(files[-3]):,} octets at 0: text",
+                                                             f"{os.path.getsize(packed):,} octets at 0: packed by gzip; unpack it", "empty"]
+    assert page.tables["losses"] == [["lost", "octets", "file", "place, in octets from 0"],
+                                     ["text", f"{os.path.getsize(files[-3]):,}", files[-3], "0"],
+                                     ["packed by gzip; unpack it", f"{os.path.getsize(packed):,}", packed, "0"]]
     assert page.tables["refusals"] == [
         ["refusal", "means", "messages", "places, in octets from 0"],
         ["M2 Edition 5", "the edition is neither 3 nor 4", "1", f"{TOP}/examples/refused.bufr: 0"],
@@ -180,11 +183,24 @@ def test_what_refusals_mean():
         found.update((f"{numbers[0][0]}{number}", means.replace("`", "")) for number in every)
     assert refusals.MEANS == found and len(found) == 24
     assert refusals.meaning("X5 BadFactor 031011") == "the descriptors are malformed, or a factor has no usable row"
-    assert refusals.meaning("no table here reads version 47") == ""
+    newer = re.search(r"^\| `no table here reads version N` \| (.*?) \|", read(f"{TOP}/docs/MANUAL.md").decode(), re.M)[1]
+    assert refusals.meaning("no table here reads version 47") == newer == "the message is newer than all tables here"
+    from bufr import skipped
+    for why in (skipped.CUT, skipped.TEXT, "packed"):
+        assert re.search(rf"^\| `skipped N octets: ..` \|.*\b{why}\b", read(f"{TOP}/docs/MANUAL.md").decode(), re.M), why
 
 
 @pytest.mark.parametrize("text, said", [
-    ("name\nx\n", "{} has no column station"), ("", "{} has no column station"),
+    ("name,WMO\nx,10384\n", "{} has no column station: its first row is name,WMO; write names there, as station,name,expected"),
+    ("10384\n06610\n", "{} has no column station: its first row is 10384; write names there, as station,name,expected"),
+    ("", "{} has no column station: its first row is empty; write names there, as station,name,expected"),
+    *((f"station\n10384\n{word}\n", f"{{}}:3: {word} is no station: write 06610, 0-20000-0-06610 or the name of a ship, or name the columns "
+       "block and station") for word in ("610", "10384.5", "6", "0-20000-10384", "LINDENBERG", "0-20000-0-")),
+    ("block,station\n10,384\n6,\n", "{}:3: 6 is no station: write 06610, 0-20000-0-06610 or the name of a ship, or name the columns block "
+     "and station"),
+    ("block,station\n110,384\n", "{}:2: 110 384 is no station: write 06610, 0-20000-0-06610 or the name of a ship, or name the columns block "
+     "and station"),
+    ("station\n06610\n6610\n", "{}:3: 6610 stands there twice"),
     ("station,expected\n10384,x\n", "{}:2: expected is a number, not x"),
     ("station\n10384\n0-20000-0-10384\n", "{}:3: 0-20000-0-10384 stands there twice")])
 def test_faults_of_a_list(text, said, folder):
@@ -192,6 +208,44 @@ def test_faults_of_a_list(text, said, folder):
     assert command("report", "-o", f"{folder}/report.html", "--no-map", "--expect", path, SAMPLES[0]) == (
         2, "", f"bufr-report: {said.format(path)}\n")
     assert not os.path.exists(f"{folder}/report.html")
+
+
+@pytest.mark.parametrize("text", [
+    "station,name,expected\n06610,Payerne,1\n10384,Berlin,2\n", "station,name,expected\n6610,Payerne,1\n10384,Berlin,2\n",
+    "Station;Name;Expected\r\n6610.0;Payerne;1.0\r\n10384.0;Berlin;2.0\r\n", "STATION\tname\tEXPECTED\n 06610 \tPayerne\t1\n10384\tBerlin\t2\n",
+    "block,station,name,expected\n6,610,Payerne,1\n10,384,Berlin,2\n", "name;block;station;expected\nPayerne;06;610.0;1\nBerlin;10.0;384;2\n"])
+def test_lists_as_tables_of_other_programs_write_them(text, folder):
+    """A zero that is lost, numbers with a point, the two numbers of a station, capitals, other delimiters."""
+    found = report.stations_of(write(f"{folder}/stations.csv", text))
+    assert [(key, each.station, each.name, each.expected) for key, each in found.items()] == [
+        ("06610", "06610", "Payerne", 1), ("10384", "10384", "Berlin", 2)]
+
+
+@pytest.mark.parametrize("encoding", ["utf-8", "utf-8-sig", "cp1252"])
+def test_a_list_in_the_encoding_of_excel(encoding, folder):
+    """Also with octets at the end of a row and beside each other."""
+    found = report.stations_of(write(f"{folder}/stations.csv", "station,name\n10870,München-Süd äöü\n10384,Café\n".encode(encoding)))
+    assert [each.name for each in found.values()] == ["München-Süd äöü", "Café"]
+
+
+@pytest.mark.parametrize("word", ["10384", "0-20000-5-AB01", "0-276-1-K17A", "DBFR", "SHIP", "A B", "62001", "211331640", "1-1-1-0123456789ABCDEF"])
+def test_what_is_a_station(word, folder):
+    assert list(report.stations_of(write(f"{folder}/stations.csv", f"station\n{word}\n"))) == [word]
+
+
+def test_missing_stations_and_losses_come_first(folder):
+    """After the numbers, the reports first: above the map, and above the files."""
+    path = write(f"{folder}/stations.csv", "station\n06610\n")
+    cut = write(f"{folder}/cut.bufr", message(46) + message(46)[:20])
+    page = f"{folder}/report.html"
+    assert command("report", "-o", page, "--expect", path, cut, SAMPLES[-2])[0] == 1
+    octets, found = read(page).decode(), Read(read(page))
+    headings = re.findall("<h2>(.*?)</h2>", octets)
+    assert headings[:6] == ["Stations that are expected", "Stations that are missing", "Stations that reported and are not in the list",
+                            "What is refused or lost", "Map", "Reports of each hour"]
+    assert next(iter(found.tables)) == "overview" and found.tables["overview"][1][0] == "reports"
+    assert found.tables["losses"][1:] == [["a message that is cut or broken", "20", cut, "49"]]
+    assert "Nothing is refused or lost." in of([SAMPLES[-2]]).texts and "losses" not in of([SAMPLES[-2]]).tables
 
 
 def test_days_stand_for_many_hours(folder):
@@ -240,7 +294,7 @@ def test_a_browser_shows_it(folder):
     assert command("report", f"{TOP}/examples/standard/synop.bufr", "-o", path)[0] == 0
     words = [browser, "--headless", "--no-sandbox", "--disable-gpu", f"--user-data-dir={folder}/profile",
              "--host-resolver-rules=MAP * ~NOTFOUND"]
-    shown = subprocess.run([*words, "--dump-dom", f"file://{path}"], capture_output=True, timeout=240)
+    shown = subprocess.run([*words, "--dump-dom", f"file://{path}"], capture_output=True, timeout=900)
     assert Read(shown.stdout).tables["overview"] == Read(read(path)).tables["overview"]
-    subprocess.run([*words, f"--screenshot={folder}/shot.png", "--window-size=900,1200", f"file://{path}"], capture_output=True, timeout=240)
+    subprocess.run([*words, f"--screenshot={folder}/shot.png", "--window-size=900,1200", f"file://{path}"], capture_output=True, timeout=900)
     assert read(f"{folder}/shot.png").startswith(b"\x89PNG") and os.path.getsize(f"{folder}/shot.png") > 30000

@@ -2,16 +2,18 @@
 import collections
 import glob
 import gzip
+import importlib.util
 import json
 import os
 import random
+import sys
 import zipfile
 
 import pytest
 
 import bufr
 import makers
-from bufr import contents, subsets, summary
+from bufr import contents, lister, subsets, summary
 from bufr.programs import launcher
 from conftest import TOP, command, message, named, read, run, write
 
@@ -238,14 +240,68 @@ def test_without_data_a_message_is_refused_for_its_template(folder):
     path = write(f"{folder}/file", message(46, descriptor="3FFF") * 3 + short + message(13, descriptor="C001") + message(46) + message(60) +
                  message(46, edition=5))
     with contents.Files([path, f"{TOP}/README.md"]) as files:
-        heads, none = summary.read(files, with_data=False)
+        headed, none = summary.read(files, with_data=False)
         data, counted = summary.read(files, with_data=True)
-    assert none is None and counted is not None and not heads.refusals
-    assert heads.reasons == {"X1 UnknownElement 063255": 3, "X2 UnknownSequence 300001": 1, "no table here reads version 60": 1,
+    assert none is None and counted is not None and not headed.refusals
+    assert headed.reasons == {"X1 UnknownElement 063255": 3, "X2 UnknownSequence 300001": 1, "no table here reads version 60": 1,
                              "M2 Edition 5": 1}
-    assert data.reasons == {**heads.reasons, "V2 DataEnds 1 8": 1}
-    assert (heads.all.messages, heads.all.subsets, heads.between) == (data.all.messages, data.all.subsets, data.between)
-    assert heads.losses == data.losses and heads.losses[1][0].why == "no message"
+    assert data.reasons == {**headed.reasons, "V2 DataEnds 1 8": 1}
+    assert (headed.all.messages, headed.all.subsets, headed.between) == (data.all.messages, data.all.subsets, data.between)
+    assert headed.losses == data.losses and headed.losses[1][0].why == "text"
+
+
+def at(hour, minute, octets):
+    """A message of edition 4 at another time."""
+    return octets[:27] + bytes([hour, minute]) + octets[29:]
+
+
+def test_heads_and_times_are_counted_together_or_apart(folder, monkeypatch):
+    """In more than one lump: of a file whose messages are at many times; and if one has grown before its times are listed."""
+    chance = random.Random(3)
+    kinds = [message(46)] * 30 + [message(13, subsets=7, kelvin="6AB3" * 7), message(46, edition=3), message(60), message(46, edition=5),
+                                  message(46, descriptor="3FFF"), message(46)[:-5] + b"x" + message(46)[-4:]]
+    octets = [b"".join(each if each[7] == 3 else at(chance.randrange(1, 24), chance.randrange(60), each)
+                       for each in (chance.choice(kinds) for _ in range(2000))) for _ in range(2)]
+    # the first and the last time are late in the second file
+    octets[1] += at(0, 7, message(46)) + at(23, 59, message(46))[:-4] + b"7777" + at(0, 3, message(46, edition=5))
+    # and a fault of a template comes there alone
+    octets[1] += message(46, descriptor="3FFE")
+    paths = [write(f"{folder}/{number}", each) for number, each in enumerate(octets)]
+    grown = write(f"{folder}/grown", octets[1] + at(0, 1, message(46)))
+
+    def counted(processors, second=None):
+        """With so many processors; the second run of bufr-ls may be of other files."""
+        def start_all(given):
+            listers = lister.start_all(given)
+            started.append(len(listers))
+            if second:
+                listers.pop().end()
+                listers.append(lister.start_all(second)[1])
+            return listers
+        with monkeypatch.context() as patched, contents.Files(paths) as files:
+            patched.setattr(os, "sched_getaffinity", lambda _: set(range(processors)))
+            patched.setattr(summary, "start_all", start_all)
+            return summary.json_of(summary.read(files, with_data=False)[0], None)
+    started = []
+    found = counted(1)
+    assert counted(3) == found
+    with contents.Files([paths[0], grown]) as files:
+        assert counted(3, files.given) == found
+    paths.reverse()
+    write(paths[0], message(46) * 2000)
+    counted(3)
+    assert started == [1, 2, 2, 1]
+    assert found["time"] == ["2024-01-15 00:07:00", "2024-01-15 23:59:00"] and found["messages"] == 4004
+
+
+def test_rows_are_counted_without_what_python_has_for_itself(monkeypatch):
+    monkeypatch.setitem(sys.modules, "_collections", None)
+    spec = importlib.util.spec_from_file_location("bufr.lister_elsewhere", lister.__file__)
+    module = importlib.util.module_from_spec(spec)
+    spec.loader.exec_module(module)
+    found = {b"a": 1}
+    module.count_rows(found, [b"b", b"a", b"b"])
+    assert found == {b"a": 2, b"b": 2} and module.count_rows.__module__ == "bufr.lister_elsewhere"
 
 
 @pytest.mark.parametrize("size", [1, 6, 7, 64, 999])
@@ -275,7 +331,7 @@ def test_files_without_a_message(folder):
     with zipfile.ZipFile(f"{folder}/file.zip", "w", zipfile.ZIP_DEFLATED) as file:
         file.writestr("synop.bufr", synop)
     text, empty, cut = write(f"{folder}/text", "no weather\n"), write(f"{folder}/empty", b""), write(f"{folder}/cut", synop[:300])
-    for path, why, status in ((packed, "packed by gzip", 1), (f"{folder}/file.zip", "packed by zip", 1), (text, "no message", 1),
+    for path, why, status in ((packed, "packed by gzip; unpack it", 1), (f"{folder}/file.zip", "packed by zip; unpack it", 1), (text, "text", 1),
                               (cut, "a message that is cut or broken", 1), (empty, None, 0)):
         found, ended = said(path)
         assert ended == status and found["messages"] == 0

@@ -2,10 +2,12 @@
 //! repeats the call and compares the result. Only `tests/refuse-each-growth` refuses growths: it
 //! runs each test once for each growth. Octets, texts and counts are typed from the formats.
 
+mod archives;
 mod depots;
 mod gathered;
 mod refusals;
 mod samples;
+mod texts;
 
 use std::fmt::Debug;
 use std::process::Abort;

@@ -14,6 +14,7 @@ mod archives;
 mod faults;
 mod kept;
 mod large;
+mod shelves;
 
 const TABLE_B: &str = "\
 FXY,ElementName_en,BUFR_Unit,BUFR_Scale,BUFR_ReferenceValue,BUFR_DataWidth_Bits

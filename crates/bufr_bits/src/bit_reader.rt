@@ -13,7 +13,7 @@ use std::alloc::Global;
 use std::marker::Model;
 
 /// A reader of bits, the most significant of each octet first.
-#[derive(Debug, Drop)]
+#[derive(Drop)]
 pub struct BitReader<'a> {
     octets: &'a [u8],
     place: u128,

@@ -10,7 +10,7 @@ use std::alloc::Global;
 use std::marker::Model;
 
 /// A growing list of bits, in whole octets on the heap; zero bits fill the last.
-#[derive(Debug, Drop)]
+#[derive(Drop)]
 pub struct BitSink {
     octets: Vec<u8>,
     len: u128,

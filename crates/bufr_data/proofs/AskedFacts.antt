@@ -1,6 +1,7 @@
 -- Skipping fields one by one up to the first chosen one; a walk ahead that finds no chosen field.
 use Rattle.std.proofs.Common.{◌≡◌, ℕ, ◌+◌, Bool, true, false, List, [], ◌∷◌, ◌++◌, sym, subst}
 use Rattle.std.proofs.Common.{Option, Some, None, Result, Ok, Err}
+use Rattle.std.specs.Prelude.{OnErr}
 use Rattle.std.proofs.Common.{ap, ◌∙◌, append_assoc, append-nil}
 use Rattle.bufr_bits.specs.Ends.{BitPlace, left}
 use Rattle.bufr_base.specs.Answers.{◌>>=◌}
@@ -16,6 +17,8 @@ use Rattle.bufr_fields.specs.declared.field.Raw.{Raw}
 use Rattle.bufr_fields.specs.declared.fault.DataFault.{DataFault}
 use Rattle.bufr_data.specs.Handed.{HandsOut, HandsOutAsked, NoneAsked, FirstIsAsked, PassesFirst}
 use Rattle.bufr_data.specs.Handed.{PassesUnasked, fields_ahead}
+use Rattle.bufr_data.specs.declared.plain.fields.Due.{Due}
+use Rattle.bufr_data.specs.declared.plain.fields.Due.TheVariants.{Step, Text, Nothing}
 use Rattle.bufr_data.specs.Plain.{SubsetRead, fields_at, field_then, raw_at, stopped}
 use Rattle.bufr_fields.specs.Forms.{number_of}
 use Rattle.bufr_data.specs.Plain.Starts.{fields_of}
@@ -85,9 +88,15 @@ none_read P j i (asks met d spec more) front h =
     none_from P j i d spec (λ n rest. fields_at j (i + 1) (more n) rest) (raw_at spec front) h.0
     (λ n rest. none_read P j (i + 1) (more n) rest (h.1 n))
 
-pub none_ahead : (P : ℕ → Bool) (done : Bool) (w : Walk) (r : BitPlace) (fields : List Field)
-    → done ≡ false → fields_ahead done w r ≡ fields → TellsNone P (walks.left w)
+pub none_ahead : (P : ℕ → Bool) (due : Due) (w : Walk) (r : BitPlace) (fields : List Field)
+    → due ≡ Step → fields_ahead due w r ≡ fields → TellsNone P (walks.left w)
     → NoneAsked P fields
-none_ahead P true w r fields e view h = absurd cc
-none_ahead P false w r fields e view h =
+none_ahead P Step w r fields e view h =
     subst (NoneAsked P) view (none_read P 1 1 (walks.left w) (left r) h)
+none_ahead P (Text f) w r fields e view h = absurd cc
+none_ahead P Nothing w r fields e view h = absurd cc
+
+-- what holds whatever the answer is holds of an error
+pub on_refusal : {T E P : Type 0} (answer : Result T E) → P → OnErr answer P
+on_refusal (Ok x) holds = tt
+on_refusal (Err e) holds = holds

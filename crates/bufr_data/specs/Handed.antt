@@ -3,10 +3,13 @@ use Rattle.std.specs.Prelude.{◌≡◌, ℕ, Bool, true, false, List, [], ◌�
 use Rattle.std.specs.Prelude.{None, IsOk, ◌<◌, ◌≤◌, ◌+◌, length}
 use Rattle.std.specs.List.{AllByRecursion}
 use Rattle.bufr_bits.specs.Ends.{BitPlace, left}
+use Rattle.bufr_expand.specs.Courses as courses
 use Rattle.bufr_expand.specs.declared.walk.Walk.{Walk}
 use Rattle.bufr_expand.specs.Walks as walks
 use Rattle.bufr_fields.specs.declared.field.Field.{Field}
 use Rattle.bufr_data.specs.declared.compressed.index.Place.{Place}
+use Rattle.bufr_data.specs.declared.plain.fields.Due.{Due}
+use Rattle.bufr_data.specs.declared.plain.fields.Due.TheVariants.{Step, Text, Nothing}
 use Rattle.bufr_data.specs.declared.plain.layout.LaidField.{LaidField}
 use Rattle.bufr_data.specs.Compressed.{field_of}
 use Rattle.bufr_data.specs.Compressed.Indexed.{AllOpen, column_from}
@@ -44,16 +47,43 @@ abbrev pub FirstIsAsked : (ℕ → Bool) → List Field → Type 0
 FirstIsAsked asks [] = Unit {0}
 FirstIsAsked asks (f ∷ fields) = asks f.fxy ≡ true
 
--- the fields that a walk finds in the bits left, unless the subset is done
-abbrev pub fields_ahead : Bool → Walk → BitPlace → List Field
-fields_ahead true walk reader = []
-fields_ahead false walk reader = fields_of (fields_at 1 1 (walks.left walk) (left reader))
+-- a field, and then what a walk has left
+abbrev pub text_first : LaidField → Walk → courses.Course
+text_first f walk = courses.asks 0 f.fxy f.spec (λ number. walks.left walk)
 
--- unless the subset is done, the walk can go on and finds all its fields
-abbrev pub StandAhead : Bool → Walk → BitPlace → Type 0
-StandAhead true walk reader = Unit {0}
-StandAhead false walk reader =
+-- the fields in the bits left: those that the walk finds, after a text that it has passed
+abbrev pub fields_ahead : Due → Walk → BitPlace → List Field
+fields_ahead Step walk reader = fields_of (fields_at 1 1 (walks.left walk) (left reader))
+fields_ahead (Text f) walk reader =
+    fields_of (fields_at 1 1 (text_first f walk) (left reader))
+fields_ahead Nothing walk reader = []
+
+-- unless nothing comes next, the walk can go on, and the bits left hold all fields
+abbrev pub StandAhead : Due → Walk → BitPlace → Type 0
+StandAhead Step walk reader =
     IsReady walk × IsOk (fields_at 1 1 (walks.left walk) (left reader))
+StandAhead (Text f) walk reader =
+    IsReady walk × IsOk (fields_at 1 1 (text_first f walk) (left reader))
+StandAhead Nothing walk reader = Unit {0}
+
+-- a step hands out the next field
+pub record StepsTo (field : Field) (due : Due) (walk : Walk) (reader : BitPlace) (later : Due)
+    (after : Walk) (rest : BitPlace) : Type 0 where
+  pub ahead : StandAhead later after rest
+  pub is : fields_ahead due walk reader ≡ field ∷ fields_ahead later after rest
+
+-- a text or nothing comes next
+abbrev pub IsNoStep : Due → Type 0
+IsNoStep Step = ⊥
+IsNoStep (Text f) = Unit {0}
+IsNoStep Nothing = Unit {0}
+
+-- a step hands out nothing: all fields are left, and what comes next is a text or nothing
+pub record StepsToNone (due : Due) (walk : Walk) (reader : BitPlace) (later : Due) (after : Walk)
+    (rest : BitPlace) : Type 0 where
+  pub ahead : StandAhead later after rest
+  pub same : fields_ahead later after rest ≡ fields_ahead due walk reader
+  pub next : IsNoStep later
 
 -- the fields of a layout in the bits left
 abbrev pub fields_laid : List LaidField → BitPlace → List Field

@@ -18,7 +18,7 @@ use std::marker::Model;
 
 /// A template for many messages. It keeps the common size of plain subsets, and their layout once
 /// that pays. Contracts see the tree.
-#[derive(Debug, Drop)]
+#[derive(Drop)]
 pub struct DataTemplate {
     template: Template,
     likeness: FixedSize,

@@ -1,7 +1,7 @@
 //! Hands out the fields of a subset one at a time.
 
-ghost use Rattle.std.specs.Prelude.{◌≡◌, IfOk, IfErr};
-ghost use Rattle.bufr_data.specs.Handed.{HandsOut, HandsOutAsked};
+ghost use Rattle.std.specs.Prelude.{◌≡◌, IfOk, IfErr, OnErr};
+ghost use Rattle.bufr_data.specs.Handed.{HandsOut, HandsOutAsked, PassesUnasked};
 
 use crate::compressed::fields::ColumnFields;
 use crate::plain::fields::PlainFields;
@@ -13,7 +13,7 @@ use std::alloc::Global;
 use std::marker::Model;
 
 /// A source of fields: plain with a walk or a layout, or compressed.
-#[derive(Debug, Drop)]
+#[derive(Drop)]
 pub(crate) enum FieldSource<'v> {
     Plain(PlainFields<'v>),
     Laid(LaidFields<'v>),
@@ -22,7 +22,7 @@ pub(crate) enum FieldSource<'v> {
 
 /// A reader of the fields left in a subset, each built on request. Contracts see the list of
 /// fields.
-#[derive(Debug, Drop)]
+#[derive(Drop)]
 pub struct Fields<'v> {
     pub(crate) standing: FieldSource<'v>,
     pub(crate) room: usize,
@@ -39,12 +39,13 @@ impl<'v> Model for Fields<'v> {
 }
 
 impl<'v> Fields<'v> {
-    /// Hands out the next field, or `None` at the end. After `OutOfMemory` stop: later fields may
-    /// be lost.
+    /// Hands out the next field, or `None` at the end. After `OutOfMemory` it is still left, so the
+    /// caller may ask again.
     // A call would move each field through memory.
     #[inline(always)]
     pub fn next(&mut self, alloc: Global) -> Result<Option<Field>, OutOfMemory>
-        ensures { IfOk result (λ found. HandsOut self.old found self.new) }
+        ensures found { IfOk result (λ found. HandsOut self.old found self.new) }
+        ensures err { OnErr result (self.new ≡ self.old) }
     {
         match &mut self.standing {
             FieldSource::Plain(fields) => fields.next(alloc),
@@ -54,14 +55,15 @@ impl<'v> Fields<'v> {
     }
 
     /// Hands out the next chosen field, or `None` if none is left. It skips the others unread if it
-    /// can.
+    /// can. After `OutOfMemory` the chosen field is still left, so the caller may ask again.
     pub fn next_asked<A: Asks>(
         &mut self,
         alloc: Global,
         asked: &A,
     ) -> Result<Option<Field>, OutOfMemory>
-        ensures { IfOk result (λ found.
+        ensures found { IfOk result (λ found.
             HandsOutAsked (A.is_asked asked.now) self.old found self.new) }
+        ensures err { OnErr result (PassesUnasked (A.is_asked asked.now) self.old self.new) }
     {
         match &mut self.standing {
             FieldSource::Plain(fields) => fields.next_asked(alloc, asked),

@@ -18,7 +18,7 @@ use std::rc::Rc;
 pub const MOST_KEPT: usize = 4;
 
 /// A list of descriptors with its template.
-#[derive(Debug, Drop)]
+#[derive(Drop)]
 pub struct Kept {
     /// The list, which views share.
     pub descriptors: Rc<Items<Fxy>>,
@@ -27,7 +27,7 @@ pub struct Kept {
 }
 
 /// A cache of the last four templates under some tables. Contracts see the tables.
-#[derive(Debug, Drop)]
+#[derive(Drop)]
 pub struct KeptTemplates<'t> {
     tables: &'t Tables,
     kept: Vec<Kept>,

@@ -28,7 +28,7 @@ use std::marker::Model;
 use std::rc::Rc;
 
 /// An index of data, plain or compressed.
-#[derive(Debug, Drop)]
+#[derive(Drop)]
 pub(crate) enum DataIndex<'a> {
     Plain(PlainSubsets<'a>),
     Compressed(Columns<'a>),
@@ -36,7 +36,7 @@ pub(crate) enum DataIndex<'a> {
 
 /// An index of the subsets in some octets, each built on request. Contracts see the list of
 /// subsets.
-#[derive(Debug, Drop)]
+#[derive(Drop)]
 pub struct SubsetIndex<'a> {
     standing: DataIndex<'a>,
 }

@@ -18,8 +18,9 @@ use Rattle.bufr_io.specs.Engines.{IsFresh, WasReadOut, HasGiven, AreAllOf, Fails
 use Rattle.bufr_io.specs.Inputs.{GoesOn, ReadsOn}
 use Rattle.bufr_io.specs.Taking.{EndsEarly, unread, at_piece, at_end}
 use Rattle.bufr_engines.specs.Output.{frames_text, stream_text, last_text, tally_of}
-use Rattle.bufr_engines.specs.Lines.{WritesLines}
-use Rattle.bufr_engines.specs.StreamEngines.{frames_by, text_by, Prints, PrintsEnd}
+use Rattle.bufr_io.specs.Lines.{WritesLines}
+use Rattle.bufr_io.specs.Reached.{frames_by}
+use Rattle.bufr_engines.specs.StreamEngines.{text_by, Prints, PrintsEnd}
 use Rattle.bufr_engines.specs.StreamEngines.{HasPrintedSince, Stops}
 use Rattle.bufr_io.specs.ReadingLaws.{HasGiven_none}
 use Rattle.bufr_io.specs.WritingLaws.{fails_longer}

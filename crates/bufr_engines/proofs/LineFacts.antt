@@ -20,28 +20,8 @@ use Rattle.bufr_engines.specs.declared.printing.Printing.TheVariants.{Shown, Che
 use Rattle.bufr_io.specs.Engines.{WritesAll}
 use Rattle.bufr_io.specs.WritingLaws.{writes_none}
 use Rattle.bufr_engines.specs.Output.{fields_text, place_and_length, printed_as, frame_text}
-use Rattle.bufr_engines.specs.Lines.{AreWholeLines, WritesLines}
-
--- ---- whole lines
-
-pub line_whole : (before : List ℕ) → AreWholeLines (before ++ 10 ∷ [])
-line_whole before = inr (before, refl)
-
--- octets that end in whole lines
-pub end_whole : (a b : List ℕ) (before : List ℕ) → b ≡ before ++ 10 ∷ [] → AreWholeLines (a ++ b)
-end_whole a b before is =
-    let whole = ap (λ (t : List ℕ). a ++ t) is ∙ sym (append_assoc a before (10 ∷ [])) in
-    inr (a ++ before, whole)
-
-pub both_whole : (a b : List ℕ) → AreWholeLines a → AreWholeLines b → AreWholeLines (a ++ b)
-both_whole a b one (inl none) =
-    subst AreWholeLines (sym (ap (λ (t : List ℕ). a ++ t) none ∙ append-nil a)) one
-both_whole a b one (inr last) = end_whole a b last.0 last.1
-
-pub all_whole : {A : Type 0} (f : A → List ℕ) (xs : List A) → ((x : A) → AreWholeLines (f x))
-    → AreWholeLines (flat_map f xs)
-all_whole f [] each = inl refl
-all_whole f (x ∷ xs) each = both_whole (f x) (flat_map f xs) (each x) (all_whole f xs each)
+use Rattle.bufr_io.specs.Lines.{AreWholeLines, WritesLines}
+pub use Rattle.bufr_io.specs.LineLaws.{line_whole, end_whole, both_whole, all_whole}
 
 -- ---- listings
 

@@ -19,7 +19,7 @@ use Rattle.bufr_message.specs.declared.Subset.{Subset}
 use Rattle.bufr_io.specs.declared.fault.ToolFault.{ToolFault}
 use Rattle.bufr_io.specs.declared.fault.ToolFault.TheVariants as faults
 use Rattle.bufr_engines.specs.declared.printer.Printer.{Printer}
-use Rattle.bufr_engines.specs.Lines.{AreWholeLines}
+use Rattle.bufr_io.specs.Lines.{AreWholeLines}
 use Rattle.bufr_engines.specs.Output.{fields_text}
 use Rattle.bufr_engines.specs.ShortListings.{HasShortListing}
 use Rattle.bufr_engines.specs.StreamEngines.{Adds, WritesAllBut}

@@ -8,7 +8,7 @@ use Rattle.bufr_io.specs.declared.fault.ToolFault.TheVariants as faults
 use Rattle.bufr_io.specs.Engines.{WritesAll, WritesAfter, FailsAfter}
 use Rattle.bufr_io.specs.WritingLaws.{writes_none, writes_more, fails_more, fails_longer}
 use Rattle.bufr_engines.specs.declared.printer.Printer.{Printer}
-use Rattle.bufr_engines.specs.Lines.{AreWholeLines, WritesLines}
+use Rattle.bufr_io.specs.Lines.{AreWholeLines, WritesLines}
 use Rattle.bufr_engines.specs.StreamEngines.{Adds, Fits, Keeps, Stops, StopsWithin}
 use Rattle.bufr_engines.specs.StreamEngines.{WritesAllBut, WritesPart, WritesSome}
 use Rattle.bufr_engines.proofs.LineFacts.{both_whole, some_lines}

@@ -1,7 +1,6 @@
 pub mod Refusals
 pub mod ShortListings
 pub mod Output
-pub mod Lines
 pub mod StreamEngines
 pub mod Samples
 pub mod Encoding

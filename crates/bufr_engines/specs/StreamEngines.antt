@@ -16,15 +16,10 @@ use Rattle.bufr_io.specs.Engines.{WritesAll, WritesAfter, FailsAfter}
 use Rattle.bufr_engines.specs.Refusals.{frame_refused, refused_of}
 use Rattle.bufr_engines.specs.Output.{frame_text, frames_text, octets_of}
 use Rattle.bufr_engines.specs.Output.{stream_text, tally_of}
-use Rattle.bufr_engines.specs.Lines.{AreWholeLines, WritesLines}
+use Rattle.bufr_io.specs.Lines.{AreWholeLines, WritesLines}
+use Rattle.bufr_io.specs.Reached.{frames_by}
 
 -- ---- an engine
-
--- the frames that a framer may hand out after these octets: the sure ones, or all of them at the
--- end
-abbrev pub frames_by : Bool → List ℕ → List Found
-frames_by true read = cut read
-frames_by false read = sure read
 
 -- the text for these frames, and at the end the last line
 abbrev pub text_by : Printing → Entries → Bool → List ℕ → List ℕ

@@ -14,7 +14,7 @@ use bufr_tables::Tables;
 use std::alloc::Global;
 
 /// The octets of messages, joined, and the number of the messages.
-#[derive(Debug, Drop)]
+#[derive(Drop)]
 struct Encoded {
     octets: Vec<u8>,
     count: u128,

@@ -7,7 +7,7 @@ ghost use Rattle.bufr_bits.specs.Devices.{Writing};
 ghost use Rattle.bufr_listing.specs.Listings.{listing};
 ghost use Rattle.bufr_message.specs.Messages.{message_of};
 ghost use Rattle.bufr_base.specs.Answers.{Gives};
-ghost use Rattle.bufr_engines.specs.Lines.{AreWholeLines};
+ghost use Rattle.bufr_io.specs.Lines.{AreWholeLines};
 ghost use Rattle.bufr_engines.specs.Refusals.{frame_refused};
 ghost use Rattle.bufr_engines.specs.ShortListings.{HasShortListing};
 ghost use Rattle.bufr_io.specs.Taking.{frame_at};
@@ -32,7 +32,7 @@ use std::alloc::Global;
 const PART: usize = 65_536;
 
 /// A printer of the frames of a stream.
-#[derive(Debug, Drop)]
+#[derive(Drop)]
 pub(crate) struct Printer<'t> {
     /// What it prints.
     pub(crate) printing: Printing,

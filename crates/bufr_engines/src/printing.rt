@@ -18,7 +18,7 @@ use itoa::{Buffer, Integer};
 use std::alloc::Global;
 
 /// What a command prints of a stream.
-#[derive(Clone, Copy, Debug, Drop, PartialEq, Eq)]
+#[derive(Clone, Copy, Drop, PartialEq, Eq)]
 pub(crate) enum Printing {
     /// The listing of each message.
     Shown,

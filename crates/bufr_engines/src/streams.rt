@@ -13,7 +13,7 @@ use bufr_io::{Input, TakesFrames, ToolFault, take_stream};
 use std::alloc::Global;
 
 /// Counts of frames.
-#[derive(Clone, Copy, Debug, Drop, PartialEq, Eq)]
+#[derive(Clone, Copy, Drop, PartialEq, Eq)]
 pub(crate) struct Counts {
     /// All frames.
     pub(crate) frames: u128,

@@ -30,7 +30,7 @@ pub struct Spec {
 pub struct EffectiveRange(pub Fxy);
 
 /// A set of operands in force, of 201, 202, 207 and 208.
-#[derive(Clone, Copy, Debug, PartialEq, Eq)]
+#[derive(Clone, Copy, PartialEq, Eq)]
 pub struct Operators {
     /// The Y of 201: adds Y - 128 to the width.
     pub add_width: Option<u8>,

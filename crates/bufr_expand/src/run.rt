@@ -9,7 +9,7 @@ use crate::operators::{Operators, untouched};
 use bufr_tables::Kind;
 
 /// A run: the sums of some fields in a row, none a count.
-#[derive(Clone, Copy, Debug, PartialEq, Eq)]
+#[derive(Clone, Copy, PartialEq, Eq)]
 pub struct Run {
     /// The number of fields.
     pub fields: u64,

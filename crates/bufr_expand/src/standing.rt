@@ -5,7 +5,7 @@ use crate::walk::WalkFault;
 use bufr_tables::Fxy;
 
 /// A replication that the walk is inside.
-#[derive(Clone, Copy, Debug)]
+#[derive(Clone, Copy)]
 pub(crate) struct Open {
     /// The turns left.
     pub turns: u64,
@@ -18,7 +18,7 @@ pub(crate) struct Open {
 }
 
 /// A count whose number the walk waits for.
-#[derive(Clone, Copy, Debug)]
+#[derive(Clone, Copy)]
 pub(crate) struct Asked {
     /// The descriptor of its field.
     pub fxy: Fxy,
@@ -29,7 +29,7 @@ pub(crate) struct Asked {
 }
 
 /// A state of a walk.
-#[derive(Clone, Copy, Debug)]
+#[derive(Clone, Copy)]
 pub(crate) enum State {
     /// Goes on to the next node.
     Going,

@@ -41,7 +41,7 @@ pub enum WalkFault {
 }
 
 /// A walk over the fields of one subset, given the numbers of its counts.
-#[derive(Debug, Drop)]
+#[derive(Drop)]
 pub struct Walk<'t> {
     nodes: &'t [Node],
     place: usize,

@@ -19,7 +19,7 @@ use std::alloc::Global;
 use std::marker::Model;
 
 /// A framer: finds the frames of a stream that comes in pieces.
-#[derive(Debug, Drop)]
+#[derive(Drop)]
 pub struct Framer {
     // Holds the octets from `from` on.
     octets: Vec<u8>,

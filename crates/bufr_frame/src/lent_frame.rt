@@ -5,14 +5,14 @@ use bufr_base::Items;
 use std::marker::Model;
 
 /// A frame's octets, of a piece or its own.
-#[derive(Debug, Drop)]
+#[derive(Drop)]
 pub(crate) enum FrameOctets<'p> {
     Lent(&'p [u8]),
     Own(Items<u8>),
 }
 
 /// A frame lent from a piece, or with octets of its own. Contracts see a `Found`.
-#[derive(Debug, Drop)]
+#[derive(Drop)]
 pub struct LentFrame<'p> {
     place: u64,
     octets: FrameOctets<'p>,

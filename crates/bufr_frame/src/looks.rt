@@ -5,7 +5,7 @@ use crate::frames::Found;
 use std::marker::Model;
 
 /// A look ahead: the frames that a framer would hand out, and the framer after it.
-#[derive(Debug, Drop)]
+#[derive(Drop)]
 pub struct Look {
     pub(crate) frames: Vec<Found>,
     pub(crate) next: Framer,

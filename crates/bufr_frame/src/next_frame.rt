@@ -2,7 +2,7 @@ use crate::frames::Found;
 use crate::lent_frame::LentFrame;
 
 /// A result of `take_next`.
-#[derive(Debug, Drop)]
+#[derive(Drop)]
 pub struct Taken<'p> {
     /// The next sure frame. Without one, nothing is left of the piece.
     pub found: Option<Found>,
@@ -11,7 +11,7 @@ pub struct Taken<'p> {
 }
 
 /// A result of `next_frame`.
-#[derive(Debug, Drop)]
+#[derive(Drop)]
 pub struct NextFrame<'p> {
     /// The next sure frame, as in `Taken`.
     pub found: Option<LentFrame<'p>>,

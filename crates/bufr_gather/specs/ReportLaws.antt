@@ -17,7 +17,7 @@ use Rattle.bufr_gather.specs.EntryLaws.{HasEntryLaws}
 use Rattle.bufr_gather.specs.Texts.{text}
 use Rattle.bufr_gather.specs.ReportEntries.{IsReportEntry, AreUnder, entry_in, report_entries}
 use Rattle.bufr_gather.specs.ReportEntries.{kept_of, text_of}
-use Rattle.bufr_gather.specs.ReportTexts.{IsText, IsTextFromBefore, kept_before, told}
+use Rattle.bufr_gather.specs.ReportTexts.{IsText, BreaksAt, IsTextFromBefore, kept_before, told}
 
 -- the entry of a report under the tables is found in its own octets and in no others, and these are
 -- one frame
@@ -40,6 +40,16 @@ FramesOfReportFronts = (tables : Entries) (rs : List Report) (k n : ℕ) → Are
 abbrev pub ReportTextsTell : Type 0
 ReportTextsTell = (tables : Entries) (rs : List Report) → AreUnder tables rs
     → kept_of tables (told tables (text_of tables rs)) ≡ kept_of tables rs
+
+-- octets break at no two places
+abbrev pub BreaksAreSingle : Type 0
+BreaksAreSingle = (tables : Entries) (octets : List ℕ) (p q : ℕ) → BreaksAt tables octets p
+    → BreaksAt tables octets q → p ≡ q
+
+-- a text does not break
+abbrev pub TextsAreWhole : Type 0
+TextsAreWhole = (tables : Entries) (octets : List ℕ) (p : ℕ) → IsText tables octets
+    → BreaksAt tables octets p → ⊥
 
 -- ks are reports among rs, with these entries in this order
 pub record HaveEntries (tables : Entries) (rs ks : List Report) (es : List Entry) : Type 0 where

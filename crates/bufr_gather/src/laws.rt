@@ -1,6 +1,6 @@
 //! Laws of the texts of archives and of streams.
 ghost use Rattle.bufr_gather.specs.StreamsTold.{SameMessagesSameKept, ReportsToldAreUnder};
-ghost use Rattle.bufr_gather.specs.ReportLaws.{ReportsAreEntries, FramesOfReports, FramesOfReportFronts, ReportTextsTell, TextsFromBefore, FromBeforeAreTexts, KeptBeforeIsTheBest, ToldAreTold, OnlyToldAreTold};
+ghost use Rattle.bufr_gather.specs.ReportLaws.{ReportsAreEntries, FramesOfReports, FramesOfReportFronts, ReportTextsTell, BreaksAreSingle, TextsAreWhole, TextsFromBefore, FromBeforeAreTexts, KeptBeforeIsTheBest, ToldAreTold, OnlyToldAreTold};
 
 use bufr_entries::laws::sorted_are_kept;
 use bufr_frame::laws::{cut_is_taken_from_the_left, joined_frames_are_cut_apart};
@@ -31,6 +31,12 @@ pub fn texts_are_cut_apart()
     written_messages_are_spelt();
     canonical_messages_are_reports();
 }
+
+/// Octets break at no two places, and a text breaks nowhere.
+pub fn texts_break_at_one_place()
+    ensures single { BreaksAreSingle }
+    ensures whole { TextsAreWhole }
+{}
 
 /// A text from before, when keys had no sub-centre, is the text of the reports kept then, so
 /// reading takes it.

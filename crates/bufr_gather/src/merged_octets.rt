@@ -11,7 +11,7 @@ use std::marker::Model;
 
 /// The text of a kept entry: it alone has an entry of the slot, or both have one and this one is
 /// kept.
-#[derive(Clone, Copy, Debug, Drop, PartialEq, Eq)]
+#[derive(Clone, Copy, Drop, PartialEq, Eq)]
 pub(crate) enum Origin {
     Left,
     Right,

@@ -20,6 +20,7 @@ pub fn texts()
     ensures sub_centres_apart { text_of_both other_sub_centre original
         ≡ original ++ other_sub_centre }
     ensures told { text_told (original ++ codes "BU" ++ updated) ≡ updated }
+    ensures told_at_the_end { text_told (codes "BUFR" ++ original) ≡ original }
 {}
 
 /// Texts from before, while keys had no sub-centre, and now.

@@ -3,6 +3,7 @@
 //! test once for each growth. Octets, texts and counts are typed from the formats.
 
 mod data;
+mod fields;
 mod frames;
 mod messages;
 mod refusals;

@@ -1,4 +1,4 @@
--- Files that nobody has read: for `inputs_of`, and so for `run_command` of bufr_tool.
+-- Files that nobody has read: for `files_of`, and so for `run_command` of bufr_tool.
 use Rattle.std.proofs.Common.{◌≡◌, false, List, [], ◌∷◌, ◌++◌, map}
 use Rattle.std.specs.List.{AllByRecursion}
 use Rattle.bufr_bits.specs.Devices.{Reading}

@@ -9,3 +9,8 @@ pub mod ReadingLaws
 pub mod ReaderLaws
 pub mod WritingLaws
 pub mod Taking
+pub mod Lines
+pub mod LineLaws
+pub mod Reached
+pub mod Numbered
+pub mod ReachedLaws

@@ -1,6 +1,6 @@
 ghost use Rattle.std.specs.Prelude.{map, IfOk, IfSome};
-ghost use Rattle.std.specs.List.{AllByRecursion};
 ghost use Rattle.bufr_io.specs.Engines.{IsFresh};
+ghost use Rattle.bufr_io.specs.Readers.{AreFresh};
 
 use crate::fault::ToolFault;
 use crate::lazy_input::LazyInput;
@@ -23,19 +23,32 @@ pub fn inputs_of<'a, R: Files>(
     alloc: Global,
     paths: &[&'a str],
 ) -> Result<Vec<LazyInput<'a, R>>, Unopened<'a>>
-    ensures { IfOk result (λ inputs. AllByRecursion IsFresh
+    ensures { IfOk result (λ inputs. AreFresh
         (map ⟦<LazyInput<'a, R> as Source>⟧.reading inputs.items)) }
 {
-    let mut inputs = Vec::new(alloc);
+    files_of(rt, alloc, paths, 1)
+}
+
+/// Makes the files of some paths, and opens the first `at_once`.
+pub fn files_of<'a, R: Files>(
+    rt: &'a R,
+    alloc: Global,
+    paths: &[&'a str],
+    at_once: usize,
+) -> Result<Vec<LazyInput<'a, R>>, Unopened<'a>>
+    ensures { IfOk result (λ files. AreFresh
+        (map ⟦<LazyInput<'a, R> as Source>⟧.reading files.items)) }
+{
+    let mut files = Vec::new(alloc);
     for path in paths {
-        let Some(input) = file_of(rt, path, inputs.is_empty()) else {
+        let Some(file) = file_of(rt, path, files.len() < at_once) else {
             return Err(Unopened::Path(path));
         };
-        let Ok(()) = inputs.push(input) else {
+        let Ok(()) = files.push(file) else {
             return Err(Unopened::OutOfMemory);
         };
     }
-    Ok(inputs)
+    Ok(files)
 }
 
 /// Makes the input of a path, and opens it if `at_once`. Returns `None` if it cannot open.

@@ -28,7 +28,7 @@ pub fn room(alloc: Global) -> Result<Vec<u8>, OutOfMemory>
 }
 
 /// A count of the reads of an input.
-#[derive(Debug, Drop)]
+#[derive(Drop)]
 pub struct Pieces {
     /// The number of reads.
     pub made: u64,

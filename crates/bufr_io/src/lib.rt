@@ -12,7 +12,7 @@ mod tables;
 mod taking;
 
 pub use fault::{Input, Tally, ToolFault};
-pub use files::{Unopened, file_of, inputs_of, unopened_path};
+pub use files::{Unopened, file_of, files_of, inputs_of, unopened_path};
 pub use input::{LONGEST_PIECE, MOST_READS, Pieces, read_all, room};
 pub use lazy_input::LazyInput;
 pub use lazy_output::LazyOutput;

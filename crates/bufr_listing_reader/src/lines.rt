@@ -7,7 +7,7 @@ use bufr_base::Failure;
 use bufr_listing::ListingFault;
 
 /// A line that is neither empty nor a comment.
-#[derive(Clone, Copy, Debug)]
+#[derive(Clone, Copy)]
 pub(crate) struct TextLine<'a> {
     /// The number of the line in the text, from 1.
     pub(crate) number: u64,
@@ -17,7 +17,7 @@ pub(crate) struct TextLine<'a> {
 
 /// A cursor over the lines: the next one, the text after it, and the number of lines found,
 /// comments among them. Finds each line once.
-#[derive(Clone, Copy, Debug)]
+#[derive(Clone, Copy)]
 pub(crate) struct Lines<'a> {
     next: Option<TextLine<'a>>,
     rest: &'a [u8],

@@ -16,7 +16,7 @@ use std::marker::Model;
 
 /// A reader of the messages of a text. Keeps the templates of the last four lists of descriptors.
 /// Contracts see the messages left before the first fault, and that fault.
-#[derive(Debug, Drop)]
+#[derive(Drop)]
 pub struct Messages<'a> {
     templates: KeptTemplates<'a>,
     lines: Lines<'a>,

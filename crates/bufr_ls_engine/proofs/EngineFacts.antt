@@ -17,20 +17,20 @@ use Rattle.bufr_io.specs.declared.fault.ToolFault.TheVariants as faults
 use Rattle.bufr_io.specs.Engines.{FailsAfter, HasFailed, HasGiven, IsEndless}
 use Rattle.bufr_io.specs.Engines.{WritesAfter, WritesAll}
 use Rattle.bufr_io.specs.WritingLaws.{fails_more, writes_more}
-use Rattle.bufr_ls_engine.specs.Lists.{EndsListing, GivesFrames, Lists}
+use Rattle.bufr_io.specs.Reached.{GivesFrames}
+use Rattle.bufr_ls_engine.specs.Lists.{EndsListing, Lists}
 use Rattle.bufr_ls_engine.specs.Listers.{HasListedInputs, ListsInput, ListsInputs}
 use Rattle.bufr_ls_engine.specs.Listers.{WritesHeader}
-use Rattle.bufr_io.specs.Readers.{AreFresh, AreReadAtMost}
-use Rattle.bufr_ls_engine.specs.Readers.{AreReadTo}
+use Rattle.bufr_io.specs.Readers.{AreFresh, AreReadAtMost, AreReadTo}
 use Rattle.bufr_ls_engine.specs.Rows.{counted, frames_of, frame_refused, header, listed_heads}
 use Rattle.bufr_ls_engine.specs.Rows.{listed_to, refused_of, rows}
 use Rattle.bufr_ls_engine.specs.declared.column.Column.{Column}
 use Rattle.bufr_ls_engine.specs.declared.lister.Lister.{Lister}
 use Rattle.bufr_ls_engine.proofs.ListingFacts.{refused_few}
 use Rattle.bufr_io.specs.ReaderLaws.{Through, Reached, at_most_fresh, at_most_set}
+use Rattle.bufr_io.specs.ReaderLaws.{none_read, read_before, stops_here, streams_read}
 use Rattle.bufr_io.specs.ReaderLaws.{through_first, through_more}
-use Rattle.bufr_ls_engine.proofs.ReaderFacts.{ends_here, none_read, read_before, streams_read}
-use Rattle.bufr_ls_engine.proofs.RowFacts.{listed_heads-more, listed_none, listed_to-none}
+use Rattle.bufr_ls_engine.proofs.RowFacts.{listed_heads-more, listed_none, listed_on, listed_to-none}
 
 -- ---- the header line
 
@@ -176,6 +176,7 @@ through_next columns reads olds news news' begin mid now p q p' tally i r r' don
     let text : listed_heads columns t.streams ++ rows q.columns.now q.input (cut stream)
     ≡ listed_heads columns (t.streams ++ stream ∷ []) =
     ap (λ (x : List ℕ). listed_heads columns t.streams ++ x) here
+    ∙ listed_on columns t.streams (cut stream)
     ∙ sym (listed_heads-more columns t.streams stream) in
     record {
       streams = t.streams ++ stream ∷ [];
@@ -221,6 +222,7 @@ listed_here : (columns : List Column) (streams : List (List ℕ)) (q : Lister) (
 listed_here columns streams q frames columns_are input_is =
     ap (λ (x : List ℕ). listed_heads columns streams ++ x)
     (ap (λ cs. rows cs q.input frames) columns_are ∙ ap (λ n. rows columns n frames) input_is)
+    ∙ listed_on columns streams frames
 
 -- it could not be read on
 reading_ends : (columns : List Column) (Ends : Reading → Type 0) (olds news' : List Reading)
@@ -258,7 +260,7 @@ through_stops columns reads olds news news' begin mid now p q p' tally i r r'
     let many = streams_read olds news t.streams i t.through in
     reading_ends columns HasFailed olds news' begin mid now t.streams q source lists.2
     (columns_are ∙ t.listed.columns_are) (input_is ∙ ap (λ n. n + 1) (sym many)) lists.0
-    (ends_here (λ x x'. HasFailed x' × HasGiven x x' lists.2) olds news news' t.streams i r r' at is
+    (stops_here (λ x x'. HasFailed x' × HasGiven x x' lists.2) olds news news' t.streams i r r' at is
     (lists.1, lists.3))
     t.listed.written lists.4
 through_stops columns reads olds news news' begin mid now p q p' tally i r r'
@@ -269,7 +271,7 @@ through_stops columns reads olds news news' begin mid now p q p' tally i r r'
     let many = streams_read olds news t.streams i t.through in
     reading_ends columns (IsEndless reads) olds news' begin mid now t.streams q source lists.2
     (columns_are ∙ t.listed.columns_are) (input_is ∙ ap (λ n. n + 1) (sym many)) lists.0
-    (ends_here (λ x x'. IsEndless reads x' × HasGiven x x' lists.2) olds news news' t.streams i r r'
+    (stops_here (λ x x'. IsEndless reads x' × HasGiven x x' lists.2) olds news news' t.streams i r r'
     at is (lists.1, lists.3))
     t.listed.written lists.4
 through_stops columns reads olds news news' begin mid now p q p' tally i r r'
@@ -284,7 +286,7 @@ through_stops columns reads olds news news' begin mid now p q p' tally i r r'
     omega (arith, f.1, written_is, t.listed.counted) in (
       t.streams,
       frames,
-      inr (ends_here (λ x x'. GivesFrames x x' frames) olds news news' t.streams i r r' at is lists.1),
+      inr (stops_here (λ x x'. GivesFrames x x' frames) olds news news' t.streams i r r' at is lists.1),
       subst (λ n. FailsAfter n begin now (listed_to columns t.streams frames)) long
           (subst (FailsAfter (length (listed_heads columns t.streams) + f.0) begin now)
           (listed_here columns t.streams q frames (columns_are ∙ t.listed.columns_are)
@@ -301,7 +303,7 @@ through_stops columns reads olds news news' begin mid now p q p' tally i r r'
       t.streams,
       w.done,
       w.rest,
-      inr (ends_here (λ x x'. GivesFrames x x' (w.done ++ w.rest)) olds news news' t.streams i r r'
+      inr (stops_here (λ x x'. GivesFrames x x' (w.done ++ w.rest)) olds news news' t.streams i r r'
           at is (subst (GivesFrames r r') w.parted lists.1)),
       subst (WritesAll begin now)
           (listed_here columns t.streams q w.done (columns_are ∙ t.listed.columns_are)
@@ -325,6 +327,7 @@ ends_unwritten columns reads olds news begin mid now p tally (faults.WriteFailed
       [],
       inl (read_before olds news lists.0 lists.1, refl),
       subst (λ n. FailsAfter n begin now (listed_to columns lists.0 [])) long
-          (fails_more begin mid now text [] w.0 lists.2.written w.2),
+          (subst (FailsAfter (length text + w.0) begin now) (listed_on columns lists.0 [])
+          (fails_more begin mid now text [] w.0 lists.2.written w.2)),
     )
 ends_unwritten columns reads olds news begin mid now p tally e lists w = absurd w

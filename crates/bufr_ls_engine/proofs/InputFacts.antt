@@ -12,7 +12,7 @@ use Rattle.bufr_io.specs.declared.input.Pieces.{Pieces}
 use Rattle.bufr_io.specs.Engines.{AreAllOf, HasGiven, WasReadOut}
 use Rattle.bufr_io.specs.Inputs.{ReadsOn}
 use Rattle.bufr_io.specs.Taking.{EndsEarly, unread, at_piece, at_end}
-use Rattle.bufr_ls_engine.specs.Lists.{frames_by}
+use Rattle.bufr_io.specs.Reached.{frames_by}
 use Rattle.bufr_ls_engine.specs.Listers.{HasListed, Keeps, ListsInput, StopsListing, WritesHeld}
 use Rattle.bufr_ls_engine.specs.declared.lister.Lister.{Lister}
 use Rattle.bufr_ls_engine.proofs.ListingFacts.{all_counted, all_written, listing_stopped}

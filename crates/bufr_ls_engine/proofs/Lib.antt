@@ -3,9 +3,10 @@ mod TextFacts
 mod RowFacts
 mod ListingFacts
 mod InputFacts
-mod ReaderFacts
 mod EngineFacts
 mod FrontFacts
 mod ColumnFacts
-mod SectionFacts
 mod OnLiterals
+mod FieldFacts
+mod NumberFacts
+mod LineFacts

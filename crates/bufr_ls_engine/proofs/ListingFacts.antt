@@ -14,13 +14,14 @@ use Rattle.bufr_frame.specs.declared.frames.Found.{Found}
 use Rattle.bufr_io.specs.declared.fault.ToolFault.{ToolFault}
 use Rattle.bufr_io.specs.declared.fault.ToolFault.TheVariants as faults
 use Rattle.bufr_io.specs.Engines.{FailsAfter, WritesAll}
+use Rattle.bufr_io.specs.Numbered.{frames_from}
+use Rattle.bufr_io.specs.ReachedLaws.{frames_from-append, frames_from-more}
 use Rattle.bufr_io.specs.WritingLaws.{fails_longer, fails_more, writes_more}
 use Rattle.bufr_ls_engine.specs.Listers.{HasListed, HoldsRow, IsUnchanged, Keeps, Stops}
 use Rattle.bufr_ls_engine.specs.Listers.{StopsListing, WritesHeld, WritesRows}
-use Rattle.bufr_ls_engine.specs.Rows.{frame_refused, refused_as, refused_of, row, rows, rows_from}
+use Rattle.bufr_ls_engine.specs.Rows.{frame_refused, refused_as, refused_of, row, rows}
 use Rattle.bufr_ls_engine.specs.declared.column.Column.{Column}
 use Rattle.bufr_ls_engine.specs.declared.lister.Lister.{Lister}
-use Rattle.bufr_ls_engine.proofs.RowFacts.{rows_from-append, rows_from-more}
 
 -- ---- counts
 
@@ -63,12 +64,12 @@ listed_more first begin p p' now frames frame h more =
       written = h.written;
       held = more.held
           ∙ ap (λ (t : List ℕ). t ++ row p.columns.now p.input (p.frames + 1) frame) h.held
-          ∙ ap (λ cs. rows_from first.columns.now first.input (1 + length h.done) h.waiting
+          ∙ ap (λ cs. frames_from (row first.columns.now first.input) (1 + length h.done) h.waiting
           ++ row cs p.input (p.frames + 1) frame) h.columns_are
-          ∙ ap (λ i. rows_from first.columns.now first.input (1 + length h.done) h.waiting
+          ∙ ap (λ i. frames_from (row first.columns.now first.input) (1 + length h.done) h.waiting
           ++ row first.columns.now i (p.frames + 1) frame) h.input_is
-          ∙ sym (rows_from-more first.columns.now first.input (1 + length h.done) (p.frames + 1)
-          h.waiting frame at);
+          ∙ sym (frames_from-more (row first.columns.now first.input) (1 + length h.done)
+          (p.frames + 1) h.waiting frame at);
       counted = more.written ∙ h.counted;
     }
 
@@ -98,7 +99,7 @@ pub rows_parted : (first : Lister) (begin : Writing) (p : Lister) (now : Writing
     ≡ rows first.columns.now first.input h.done ++ p.held.items
 rows_parted first begin p now frames h =
     ap (rows first.columns.now first.input) h.parted
-    ∙ rows_from-append first.columns.now first.input 1 h.done h.waiting
+    ∙ frames_from-append (row first.columns.now first.input) 1 h.done h.waiting
     ∙ ap (λ (t : List ℕ). rows first.columns.now first.input h.done ++ t) (sym h.held)
 
 -- ---- what is held is written
@@ -233,7 +234,7 @@ stops_further columns input before front rest frames begin now (faults.WriteFail
   s.0,
   s.1,
   subst (FailsAfter s.0 begin now)
-      (sym (ap (rows columns input) is ∙ rows_from-append columns input 1 front rest))
+      (sym (ap (rows columns input) is ∙ frames_from-append (row columns input) 1 front rest))
       (fails_longer begin now (rows columns input front) _ s.0 s.2),
 )
 stops_further columns input before front rest frames begin now fault is s = absurd s

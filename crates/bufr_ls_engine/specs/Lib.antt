@@ -1,8 +1,7 @@
 pub mod Columns
 pub mod ColumnSteps
 pub mod Rows
-pub mod SectionsLent
-pub mod Readers
+pub mod RowSteps
 pub mod Lists
 pub mod CommandLines
 pub mod Listers

@@ -10,9 +10,11 @@ use Rattle.bufr_io.specs.declared.fault.ToolFault.TheVariants as faults
 use Rattle.bufr_io.specs.Engines.{WasReadOut, HasFailed, IsEndless, HasGiven, AreAllOf}
 use Rattle.bufr_io.specs.Engines.{WritesAll, WritesAfter}
 use Rattle.bufr_io.specs.declared.fault.Tally.{Tally}
-use Rattle.bufr_ls_engine.specs.Lists.{GivesFrames, Lists}
+use Rattle.bufr_io.specs.Numbered.{frames_from}
+use Rattle.bufr_io.specs.Reached.{GivesFrames}
+use Rattle.bufr_ls_engine.specs.Lists.{Lists}
 use Rattle.bufr_io.specs.Readers.{WereReadOut}
-use Rattle.bufr_ls_engine.specs.Rows.{counted, header, listed_heads, row, rows, rows_from}
+use Rattle.bufr_ls_engine.specs.Rows.{counted, header, listed_heads, row, rows}
 use Rattle.bufr_ls_engine.specs.Rows.{frame_refused, refused_of}
 use Rattle.bufr_ls_engine.specs.declared.column.Column.{Column}
 use Rattle.bufr_ls_engine.specs.declared.lister.Lister.{Lister}
@@ -83,7 +85,8 @@ pub record HasListed (first : Lister) (begin : Writing) (p : Lister) (now : Writ
   pub waiting : List Found
   pub parted : frames ≡ done ++ waiting
   pub written : WritesAll begin now (rows first.columns.now first.input done)
-  pub held : p.held.items ≡ rows_from first.columns.now first.input (1 + length done) waiting
+  pub held : p.held.items
+      ≡ frames_from (row first.columns.now first.input) (1 + length done) waiting
   pub counted : p.written ≡ first.written + length (rows first.columns.now first.input done)
 
 -- the writer took the rows of the first of these frames, and nothing else

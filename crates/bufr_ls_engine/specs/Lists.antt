@@ -1,36 +1,19 @@
 -- What `run_ls` returns and does.
-use Rattle.std.specs.Prelude.{◌≡◌, ℕ, ◌+◌, ◌⊎◌, Bool, true, false, List, [], ◌++◌, length}
+use Rattle.std.specs.Prelude.{◌≡◌, ℕ, ◌+◌, ◌⊎◌, List, ◌++◌, length}
 use Rattle.std.specs.Prelude.{Result, Ok, Err}
 use Rattle.bufr_bits.specs.Devices.{Reading, Writing}
 use Rattle.bufr_frame.specs.declared.frames.Found.{Found}
-use Rattle.bufr_frame.specs.Streams.{cut, sure}
+use Rattle.bufr_frame.specs.Streams.{sure}
 use Rattle.bufr_io.specs.declared.fault.Input.{Input}
 use Rattle.bufr_io.specs.declared.fault.Input.TheVariants.{TableB, TableD, Number}
 use Rattle.bufr_io.specs.declared.fault.Tally.{Tally}
 use Rattle.bufr_io.specs.declared.fault.ToolFault.{ToolFault}
 use Rattle.bufr_io.specs.declared.fault.ToolFault.TheVariants as faults
-use Rattle.bufr_io.specs.Engines.{HasFailed, IsEndless, HasGiven, AreAllOf, WritesAll, FailsAfter}
-use Rattle.bufr_io.specs.Readers.{WereReadOut}
-use Rattle.bufr_ls_engine.specs.Readers.{AreTold, AreReadBefore, AreReadTo}
+use Rattle.bufr_io.specs.Engines.{HasFailed, IsEndless, HasGiven, WritesAll, FailsAfter}
+use Rattle.bufr_io.specs.Readers.{AreReadTo, AreTold, WereReadOut}
+use Rattle.bufr_io.specs.Reached.{HasReached}
 use Rattle.bufr_ls_engine.specs.Rows.{counted, listed_heads, listed_to}
 use Rattle.bufr_ls_engine.specs.declared.column.Column.{Column}
-
--- the frames of what a reader gave: the sure ones, or all at its end
-abbrev pub frames_by : Bool → List ℕ → List Found
-frames_by true read = cut read
-frames_by false read = sure read
-
--- a reader works, and the octets that it gave have these frames; at its end these octets are all
-abbrev pub GivesFrames : Reading → Reading → List Found → Type 0
-GivesFrames r r' frames = (r'.failed ≡ false) × (read : List ℕ) × HasGiven r r' read
-    × (r'.met_end ≡ true → AreAllOf r read) × (frames ≡ frames_by r'.met_end read)
-
--- The first readers had these streams and ended, and what the next gave has these frames. There are no
--- frames before the first read of the next.
-abbrev pub HasReached : List Reading → List Reading → List (List ℕ) → List Found → Type 0
-HasReached old new streams frames =
-    (AreReadBefore old new streams × (frames ≡ []))
-    ⊎ AreReadTo old new streams (λ r r'. GivesFrames r r' frames)
 
 -- Reading ended at the reader of this number, counted from 1. The writer took the header line, the rows
 -- of all readers before it, and the rows of the sure frames of what it gave, and nothing else.

@@ -1,8 +1,8 @@
 -- The rows of frames, as functions of the streams (this project's own). `envelope_of` of bufr_sections
 -- gives the sections of a message.
-use Rattle.std.specs.Prelude.{ℕ, ◌+◌, List, [], ◌∷◌, ◌++◌, length, get_or, decimal, sum_by}
-use Rattle.std.specs.Prelude.{Result, Ok, Err}
-use Rattle.std.specs.List.{join_by, flat_map}
+use Rattle.std.specs.Prelude.{◌≡◌, ℕ, ◌==◌, ◌||◌, not, Bool, true, false, List, [], ◌∷◌, ◌++◌}
+use Rattle.std.specs.Prelude.{length, get_or, decimal, sum_by, Result, Ok, Err}
+use Rattle.std.specs.List.{join_by, flat_map, list_all}
 use Rattle.std.specs.Int.{from_bool}
 use Rattle.bufr_tables.specs.Descriptors.{six_digits}
 use Rattle.bufr_sections.specs.declared.fault.Refused.{Refused}
@@ -12,6 +12,7 @@ use Rattle.bufr_sections.specs.Sections.{Envelope, envelope_of}
 use Rattle.bufr_frame.specs.declared.frames.Found.{Found}
 use Rattle.bufr_frame.specs.Streams.{cut}
 use Rattle.bufr_io.specs.declared.fault.Tally.{Tally}
+use Rattle.bufr_io.specs.Numbered.{frames_from, inputs_from, inputs_to}
 use Rattle.bufr_ls_engine.specs.Columns.{word}
 use Rattle.bufr_ls_engine.specs.declared.column.Column.{Column}
 use Rattle.bufr_ls_engine.specs.declared.column.Column.TheVariants.{Input, Message, Place, Length}
@@ -77,6 +78,24 @@ field_as Length input message frame said = decimal (length frame.bytes)
 field_as Edition input message frame said = decimal (edition_of frame.bytes)
 field_as column input message frame said = told_in column said
 
+-- the field of a column in the row of a frame with these numbers
+abbrev pub field : Column → ℕ → ℕ → Found → List ℕ
+field column input message frame =
+    field_as column input message frame (envelope_of frame.bytes)
+
+-- neither a comma, a quote nor the end of a line
+abbrev pub is_plain : ℕ → Bool
+is_plain c = not (c == 44 || c == 34 || c == 10 || c == 13)
+
+-- a text that needs no quotes
+abbrev pub IsPlain : List ℕ → Type 0
+IsPlain text = list_all is_plain text ≡ true
+
+-- a column whose field of a message has at most 40 octets: each but the descriptors
+abbrev pub is_short : Column → Bool
+is_short Descriptors = false
+is_short _ = true
+
 -- ---- a line
 
 -- the fields of a frame, with commas between them, given its sections
@@ -99,30 +118,17 @@ header columns = join_by word (44 ∷ []) columns ++ 10 ∷ []
 
 -- ---- all lines
 
--- the rows of frames of an input, from the frame of this number on
-abbrev pub rows_from : List Column → ℕ → ℕ → List Found → List ℕ
-rows_from columns input message [] = []
-rows_from columns input message (frame ∷ frames) =
-    row columns input message frame ++ rows_from columns input (message + 1) frames
-
 -- the rows of the first frames of an input
 abbrev pub rows : List Column → ℕ → List Found → List ℕ
-rows columns input frames = rows_from columns input 1 frames
-
--- the rows of inputs with these streams, from the input of this number on
-abbrev pub inputs_from : List Column → ℕ → List (List ℕ) → List ℕ
-inputs_from columns input [] = []
-inputs_from columns input (stream ∷ streams) =
-    rows columns input (cut stream) ++ inputs_from columns (input + 1) streams
+rows columns input frames = frames_from (row columns input) 1 frames
 
 -- what `bufr-ls` prints of inputs with these streams: the header line, and a row for each frame
 abbrev pub listed_heads : List Column → List (List ℕ) → List ℕ
-listed_heads columns streams = header columns ++ inputs_from columns 1 streams
+listed_heads columns streams = header columns ++ inputs_from (row columns) 1 streams
 
 -- what it prints of inputs with these streams, and of the first frames of the next input
 abbrev pub listed_to : List Column → List (List ℕ) → List Found → List ℕ
-listed_to columns streams frames =
-    listed_heads columns streams ++ rows columns (length streams + 1) frames
+listed_to columns streams frames = header columns ++ inputs_to (row columns) streams frames
 
 -- ---- counts
 

@@ -3,6 +3,7 @@
 ghost use Rattle.std.specs.Prelude.{◌≡◌, IfSome};
 ghost use Rattle.std.specs.Option.{IfNone};
 ghost use Rattle.bufr_ls_engine.specs.Columns.{IsNoColumn, all_columns, word};
+ghost use Rattle.bufr_ls_engine.specs.Rows.{is_short};
 
 /// A column of a row.
 #[derive(Clone, Copy, Debug, Drop, PartialEq, Eq)]
@@ -121,6 +122,14 @@ impl Column {
             Column::Descriptors => "descriptors",
             Column::Reason => "reason",
         }
+    }
+
+    /// Returns whether the field of a message is short: that of any column but the descriptors.
+    #[inline(always)]
+    pub(crate) fn is_short(self) -> bool
+        ensures { result ≡ is_short self }
+    {
+        !matches!(self, Column::Descriptors)
     }
 
     /// Returns all columns, in their order.

@@ -1,6 +1,7 @@
 //! The program over a runtime with files and any two writers.
 
-ghost use Rattle.std.specs.Prelude.{◌≡◌, ◌≤◌};
+ghost use Rattle.std.specs.Prelude.{◌≡◌, ◌≤◌, map, IfOk, IfSome, IfNone};
+ghost use Rattle.bufr_ls_engine.specs.Columns.{all_columns, word, words_of};
 
 use crate::column::Column;
 use crate::columns::{ColumnsFault, columns_of};
@@ -42,7 +43,11 @@ pub fn run_command<R: Files, O: Write + Drop, E: Write + Drop>(
 }
 
 /// Returns the columns of a text, or all columns.
-fn columns_asked(alloc: Global, text: Option<&str>) -> Result<Vec<Column>, ColumnsFault<'_>> {
+fn columns_asked(alloc: Global, text: Option<&str>) -> Result<Vec<Column>, ColumnsFault<'_>>
+    ensures all { IfNone text.entry (IfOk result (λ columns. columns.items ≡ all_columns)) }
+    ensures named { IfSome text.entry (λ text.
+        IfOk result (λ columns. map word columns.items ≡ words_of text.now)) }
+{
     match text {
         Some(text) => columns_of(alloc, text),
         None => match Vec::from_slice(alloc, Column::all()) {

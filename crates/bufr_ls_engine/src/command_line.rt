@@ -21,7 +21,7 @@ const VERSION: &str = "0.1.0";
 const EXAMPLE: &str = "Example: bufr-ls -c centre,category day/*.bufr | sort | uniq -c";
 
 /// A command line.
-#[derive(Debug, Drop)]
+#[derive(Drop)]
 pub struct CommandLine<'a> {
     /// The text of the columns.
     pub columns: Option<&'a str>,

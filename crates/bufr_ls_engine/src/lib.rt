@@ -9,8 +9,9 @@ mod frames;
 pub mod laws;
 mod lister;
 mod ls;
+mod numbers;
 mod row;
-mod sections;
+mod whole_row;
 mod worked_values;
 
 pub use bufr_program::words_of;

@@ -14,7 +14,7 @@ use bufr_io::{ToolFault, write_after, write_out};
 use std::alloc::Global;
 
 /// A writer of rows, which holds the rows of a piece and writes them together.
-#[derive(Debug, Drop)]
+#[derive(Drop)]
 pub(crate) struct Lister<'c> {
     /// The columns of the rows.
     pub(crate) columns: &'c [Column],

@@ -1,28 +1,27 @@
 //! The row of a frame.
 
-ghost use Rattle.std.specs.Prelude.{◌≡◌, ◌++◌, ◌∷◌, ◌<◌, [], length, take, decimal, Ok, Err};
+ghost use Rattle.std.specs.Prelude.{◌≡◌, ◌++◌, ◌∷◌, ◌≤◌, ◌+◌, [], true, length, take, vec_len, Ok, Err};
 ghost use Rattle.std.specs.Prelude.{IfOk, OnOk, OnErr};
 ghost use Rattle.std.specs.Int.{from_bool};
 ghost use Rattle.std.specs.List.{join_by};
-ghost use Rattle.bufr_base.specs.Answers.{result_map};
+ghost use Rattle.std.specs.Vec.{vec_capacity};
 ghost use Rattle.bufr_tables.specs.Descriptors.{six_digits};
 ghost use Rattle.bufr_sections.specs.Sections.{descriptors_of, two};
 ghost use Rattle.bufr_io.specs.Taking.{frame_at};
 ghost use Rattle.bufr_ls_engine.specs.Columns.{word};
-ghost use Rattle.bufr_ls_engine.specs.Rows.{edition_of, field_as, fields_as, frame_refused};
+ghost use Rattle.bufr_ls_engine.specs.Rows.{edition_of, field_as, fields_as, frame_refused, is_short};
 ghost use Rattle.bufr_ls_engine.specs.Rows.{header, row, row_as};
-ghost use Rattle.bufr_ls_engine.specs.SectionsLent.{lent};
 
 use crate::column::Column;
-use crate::sections::{LentSections, lend_sections};
-use bufr_base::{Failure, OutOfMemory};
-use bufr_sections::Refused;
+use crate::numbers::{LONGEST, push_count, push_number, push_octets, push_wide};
+use crate::whole_row::{are_all, push_all};
+use bufr_base::OutOfMemory;
+use bufr_sections::{Refused, SectionsInPlace, find_sections};
 use bufr_tables::Fxy;
-use itoa::{Buffer, Integer};
 use std::alloc::Global;
 
 /// A frame with its numbers.
-#[derive(Clone, Copy, Debug, Drop)]
+#[derive(Clone, Copy, Drop)]
 pub(crate) struct Numbered<'a> {
     /// The number of its input, counted from 1.
     pub(crate) input: u128,
@@ -35,6 +34,7 @@ pub(crate) struct Numbered<'a> {
 }
 
 /// Adds the row of a frame, and returns whether it has a refusal. If memory runs out, the text stays.
+#[inline(always)]
 pub(crate) fn hold_row(
     alloc: Global,
     text: &mut Vec<u8>,
@@ -47,13 +47,36 @@ pub(crate) fn hold_row(
         ≡ frame_refused (frame_at frame.now.place frame.now.octets.now)) }
     ensures err { OnErr result (text.new.items ≡ text.old.items) }
 {
-    let said = match lend_sections(frame.octets) {
-        Ok(said) => Ok(said),
-        Err(Failure::Fault(why)) => Err(why),
-        Err(Failure::OutOfMemory) => return Err(OutOfMemory),
-    };
+    // Takes a short way for one column, which the launcher asks for.
+    if let [column] = columns {
+        if column.is_short() {
+            if let Ok(said) = find_sections(frame.octets) {
+                text.reserve(LONGEST)?;
+                push_short(text, *column, frame, &said, b'\n');
+                return Ok(false);
+            }
+        }
+    }
+    hold_any_row(alloc, text, columns, *frame)
+}
+
+/// Does what `hold_row` does, for any columns.
+#[inline(never)]
+fn hold_any_row(
+    alloc: Global,
+    text: &mut Vec<u8>,
+    columns: &[Column],
+    frame: Numbered<'_>,
+) -> Result<bool, OutOfMemory>
+    ensures ok { OnOk result (text.new.items ≡ text.old.items ++ row columns.now frame.entry.input
+        frame.entry.message (frame_at frame.entry.place frame.entry.octets.now)) }
+    ensures told { IfOk result (λ refused. from_bool refused
+        ≡ frame_refused (frame_at frame.entry.place frame.entry.octets.now)) }
+    ensures err { OnErr result (text.new.items ≡ text.old.items) }
+{
+    let said = find_sections(frame.octets);
     let held = text.len();
-    if push_row(alloc, text, columns, frame, &said).is_err() {
+    if push_row(alloc, text, columns, &frame, &said).is_err() {
         text.truncate(held);
         return Err(OutOfMemory);
     }
@@ -86,65 +109,102 @@ fn push_words(text: &mut Vec<u8>, columns: &[Column]) -> Result<(), OutOfMemory>
     Ok(())
 }
 
+/// Adds the row of a frame, given its sections.
 fn push_row(
     alloc: Global,
     text: &mut Vec<u8>,
     columns: &[Column],
     frame: &Numbered<'_>,
-    said: &Result<LentSections<'_>, Refused>,
+    said: &Result<SectionsInPlace<'_>, Refused>,
 ) -> Result<(), OutOfMemory>
     ensures ok { OnOk result (text.new.items ≡ text.old.items
         ++ row_as columns.now frame.now.input frame.now.message
-        (frame_at frame.now.place frame.now.octets.now) (result_map lent said.now)) }
-    ensures kept { OnErr result (take (length text.old.items) text.new.items ≡ text.old.items) }
-{
-    push_fields(alloc, text, columns, frame, said)?;
-    text.push(b'\n')?;
-    Ok(())
-}
-
-/// Adds the fields of a frame, given its sections, with commas between them.
-fn push_fields(
-    alloc: Global,
-    text: &mut Vec<u8>,
-    columns: &[Column],
-    frame: &Numbered<'_>,
-    said: &Result<LentSections<'_>, Refused>,
-) -> Result<(), OutOfMemory>
-    ensures ok { OnOk result (text.new.items ≡ text.old.items
-        ++ fields_as columns.now frame.now.input frame.now.message
-        (frame_at frame.now.place frame.now.octets.now) (result_map lent said.now)) }
+        (frame_at frame.now.place frame.now.octets.now) said.now) }
     ensures kept { OnErr result (take (length text.old.items) text.new.items ≡ text.old.items) }
 {
     let [first, others @ ..] = columns else {
+        text.push(b'\n')?;
         return Ok(());
     };
-    push_field(alloc, text, *first, frame, said)?;
-    for column in others {
-        text.push(b',')?;
-        push_field(alloc, text, *column, frame, said)?;
+    let said = match said {
+        Ok(said) => said,
+        Err(why) => return push_refused(alloc, text, *first, others, frame, why),
+    };
+    if are_all(columns) {
+        return push_all(text, frame, said);
     }
-    Ok(())
+    push_said(text, *first, others, frame, said)
 }
 
-/// Adds the field of a column, given the frame's sections.
+/// Adds the row of a frame with these sections, whose columns are a first one and others.
+fn push_said(
+    text: &mut Vec<u8>,
+    first: Column,
+    others: &[Column],
+    frame: &Numbered<'_>,
+    said: &SectionsInPlace<'_>,
+) -> Result<(), OutOfMemory>
+    ensures ok { OnOk result (text.new.items ≡ text.old.items
+        ++ row_as (first ∷ others.now) frame.now.input frame.now.message
+        (frame_at frame.now.place frame.now.octets.now) (Ok said.now)) }
+    ensures kept { OnErr result (take (length text.old.items) text.new.items ≡ text.old.items) }
+{
+    let mut column = first;
+    let mut rest = others;
+    while let [next, left @ ..] = rest {
+        push_field(text, column, frame, said, b',')?;
+        column = *next;
+        rest = left;
+    }
+    push_field(text, column, frame, said, b'\n')
+}
+
+/// Adds the row of a refused frame, whose columns are a first one and others.
+fn push_refused(
+    alloc: Global,
+    text: &mut Vec<u8>,
+    first: Column,
+    others: &[Column],
+    frame: &Numbered<'_>,
+    why: &Refused,
+) -> Result<(), OutOfMemory>
+    ensures ok { OnOk result (text.new.items ≡ text.old.items
+        ++ row_as (first ∷ others.now) frame.now.input frame.now.message
+        (frame_at frame.now.place frame.now.octets.now) (Err why.now)) }
+    ensures kept { OnErr result (take (length text.old.items) text.new.items ≡ text.old.items) }
+{
+    let mut column = first;
+    let mut rest = others;
+    while let [next, left @ ..] = rest {
+        push_field_of_refused(alloc, text, column, frame, why, b',')?;
+        column = *next;
+        rest = left;
+    }
+    push_field_of_refused(alloc, text, column, frame, why, b'\n')
+}
+
+/// Adds the field of a column of sections, and the octet after it.
 #[inline(always)]
 fn push_field(
-    alloc: Global,
     text: &mut Vec<u8>,
     column: Column,
     frame: &Numbered<'_>,
-    said: &Result<LentSections<'_>, Refused>,
+    said: &SectionsInPlace<'_>,
+    end: u8,
 ) -> Result<(), OutOfMemory>
     ensures ok { OnOk result (text.new.items ≡ text.old.items
         ++ field_as column frame.now.input frame.now.message
-        (frame_at frame.now.place frame.now.octets.now) (result_map lent said.now)) }
+        (frame_at frame.now.place frame.now.octets.now) (Ok said.now) ++ end ∷ []) }
     ensures kept { OnErr result (take (length text.old.items) text.new.items ≡ text.old.items) }
 {
-    match said {
-        Ok(said) => push_said(text, column, frame, said),
-        Err(why) => push_refused(alloc, text, column, frame, why),
+    if column.is_short() {
+        text.reserve(LONGEST)?;
+        push_short(text, column, frame, said, end);
+        return Ok(());
     }
+    push_listed(text, said)?;
+    text.push(end)?;
+    Ok(())
 }
 
 fn edition_of(octets: &[u8]) -> u8
@@ -156,75 +216,95 @@ fn edition_of(octets: &[u8]) -> u8
     }
 }
 
+/// Adds a short field of sections, and the octet after it.
 #[inline(always)]
 #[tactic(auto, unfolding(crate::specs::Rows::field_as, crate::specs::Rows::said_in))]
-fn push_said(
+pub(crate) fn push_short(
     text: &mut Vec<u8>,
     column: Column,
     frame: &Numbered<'_>,
-    said: &LentSections<'_>,
-) -> Result<(), OutOfMemory>
-    ensures ok { OnOk result (text.new.items ≡ text.old.items
+    said: &SectionsInPlace<'_>,
+    end: u8,
+)
+    requires short { is_short column ≡ true }
+    requires room { vec_len text.old + 41 ≤ vec_capacity text.old }
+    ensures items { text.new.items ≡ text.old.items
         ++ field_as column frame.now.input frame.now.message
-        (frame_at frame.now.place frame.now.octets.now) (Ok (lent said.now))) }
-    ensures kept { OnErr result (take (length text.old.items) text.new.items ≡ text.old.items) }
+        (frame_at frame.now.place frame.now.octets.now) (Ok said.now) ++ end ∷ [] }
+    ensures len { vec_len text.new ≤ vec_len text.old + 41 }
+    ensures capacity { vec_capacity text.old ≤ vec_capacity text.new }
 {
     let number = match column {
-        Column::Input => return push_wide(text, frame.input),
-        Column::Message => return push_wide(text, frame.message),
-        Column::Place => return push_number(text, frame.place),
-        Column::Length => return push_number(text, frame.octets.len()),
+        Column::Input => return push_wide(text, frame.input, end),
+        Column::Message => return push_wide(text, frame.message, end),
+        Column::Place => return push_number(text, frame.place, end),
+        Column::Length => return push_number(text, frame.octets.len() as u64, end),
         Column::Edition => u16::from(edition_of(frame.octets)),
         Column::Centre => said.centre(),
         Column::SubCentre => said.sub_centre(),
-        Column::Update => said.update(),
-        Column::Category => said.category(),
-        Column::International => said.international(),
-        Column::LocalCategory => said.local_category(),
+        Column::Update => u16::from(said.update()),
+        Column::Category => u16::from(said.category()),
+        Column::International => u16::from(said.international()),
+        Column::LocalCategory => u16::from(said.local_category()),
         Column::MasterTable => 0,
-        Column::MasterVersion => said.master_version(),
-        Column::LocalVersion => said.local_version(),
+        Column::MasterVersion => u16::from(said.master_version()),
+        Column::LocalVersion => u16::from(said.local_version()),
         Column::Year => said.year(),
-        Column::Month => said.month(),
-        Column::Day => said.day(),
-        Column::Hour => said.hour(),
-        Column::Minute => said.minute(),
-        Column::Second => said.second(),
-        Column::Subsets => said.count,
-        Column::Observed => u16::from(said.observed),
-        Column::Compressed => u16::from(said.compressed),
-        Column::Descriptors => return push_descriptors(text, said.listed),
-        Column::Reason => return Ok(()),
+        Column::Month => u16::from(said.month()),
+        Column::Day => u16::from(said.day()),
+        Column::Hour => u16::from(said.hour()),
+        Column::Minute => u16::from(said.minute()),
+        Column::Second => u16::from(said.second()),
+        Column::Subsets => said.count(),
+        Column::Observed => u16::from(said.observed()),
+        Column::Compressed => u16::from(said.compressed()),
+        Column::Descriptors | Column::Reason => return text.push_reserved(end),
     };
-    push_count(text, u64::from(number))
+    push_count(text, number, end);
 }
 
+/// Adds the field of a column of a refused frame, and the octet after it.
 #[tactic(auto, unfolding(crate::specs::Rows::field_as, crate::specs::Rows::refused_in))]
-fn push_refused(
+fn push_field_of_refused(
     alloc: Global,
     text: &mut Vec<u8>,
     column: Column,
     frame: &Numbered<'_>,
     why: &Refused,
+    end: u8,
 ) -> Result<(), OutOfMemory>
     ensures ok { OnOk result (text.new.items ≡ text.old.items
         ++ field_as column frame.now.input frame.now.message
-        (frame_at frame.now.place frame.now.octets.now) (Err why.now)) }
+        (frame_at frame.now.place frame.now.octets.now) (Err why.now) ++ end ∷ []) }
     ensures kept { OnErr result (take (length text.old.items) text.new.items ≡ text.old.items) }
 {
+    text.reserve(LONGEST)?;
     match (column, why) {
-        (Column::Input, _) => push_number(text, frame.input),
-        (Column::Message, _) => push_number(text, frame.message),
-        (Column::Place, _) => push_number(text, frame.place),
-        (Column::Length, _) => push_number(text, frame.octets.len()),
-        (Column::Edition, _) => push_count(text, u64::from(edition_of(frame.octets))),
-        (Column::MasterTable, Refused::MasterTable(number)) => push_count(text, u64::from(*number)),
+        (Column::Input, _) => push_wide(text, frame.input, end),
+        (Column::Message, _) => push_wide(text, frame.message, end),
+        (Column::Place, _) => push_number(text, frame.place, end),
+        (Column::Length, _) => push_number(text, frame.octets.len() as u64, end),
+        (Column::Edition, _) => push_count(text, u16::from(edition_of(frame.octets)), end),
+        (Column::MasterTable, Refused::MasterTable(number)) => {
+            push_count(text, u16::from(*number), end);
+        }
         (Column::Reason, _) => {
             text.extend_from_slice(format!(in alloc; "{why}")?.as_bytes())?;
-            Ok(())
+            text.push(end)?;
         }
-        _ => Ok(()),
+        _ => push_octets(text, &[end]),
     }
+    Ok(())
+}
+
+/// Adds the descriptors of sections, with spaces between them.
+#[inline(always)]
+pub(crate) fn push_listed(text: &mut Vec<u8>, said: &SectionsInPlace<'_>) -> Result<(), OutOfMemory>
+    ensures ok { OnOk result (text.new.items ≡ text.old.items
+        ++ join_by six_digits (32 ∷ []) said.now.descriptors) }
+    ensures kept { OnErr result (take (length text.old.items) text.new.items ≡ text.old.items) }
+{
+    push_descriptors(text, said.listed())
 }
 
 /// Adds the descriptors of two octets each, with spaces between them.
@@ -237,68 +317,20 @@ fn push_descriptors(text: &mut Vec<u8>, octets: &[u8]) -> Result<(), OutOfMemory
     let [high, low, others @ ..] = octets else {
         return Ok(());
     };
-    push_descriptor(text, *high, *low)?;
+    text.extend_from_slice(&digits_of(*high, *low))?;
     let mut rest = others;
     while let [high, low, others @ ..] = rest {
-        text.push(b' ')?;
-        push_descriptor(text, *high, *low)?;
+        let [f, x1, x2, y1, y2, y3] = digits_of(*high, *low);
+        text.extend_from_slice(&[b' ', f, x1, x2, y1, y2, y3])?;
         rest = others;
     }
     Ok(())
 }
 
-/// Adds the six digits of the descriptor of two octets.
-fn push_descriptor(text: &mut Vec<u8>, high: u8, low: u8) -> Result<(), OutOfMemory>
-    ensures ok { OnOk result (text.new.items ≡ text.old.items ++ six_digits (two high low)) }
-    ensures kept { OnErr result (take (length text.old.items) text.new.items ≡ text.old.items) }
-{
-    let descriptor = Fxy::from_bits(256 * u16::from(high) + u16::from(low));
-    text.extend_from_slice(&descriptor.digits())?;
-    Ok(())
-}
-
-fn push_number<I: Integer>(text: &mut Vec<u8>, number: I) -> Result<(), OutOfMemory>
-    ensures ok { OnOk result (text.new.items ≡ text.old.items ++ I.text number) }
-    ensures kept { OnErr result (take (length text.old.items) text.new.items ≡ text.old.items) }
-{
-    text.extend_from_slice(Buffer::new().format(number).as_bytes())?;
-    Ok(())
-}
-
-/// Adds a number that seldom needs more than 64 bits.
-fn push_wide(text: &mut Vec<u8>, number: u128) -> Result<(), OutOfMemory>
-    ensures ok { OnOk result (text.new.items ≡ text.old.items ++ decimal number) }
-    ensures kept { OnErr result (take (length text.old.items) text.new.items ≡ text.old.items) }
-{
-    match u64::try_from(number) {
-        Ok(number) => push_count(text, number),
-        Err(_) => push_number(text, number),
-    }
-}
-
-/// Adds a number that often has one digit or two.
-fn push_count(text: &mut Vec<u8>, number: u64) -> Result<(), OutOfMemory>
-    ensures ok { OnOk result (text.new.items ≡ text.old.items ++ decimal number) }
-    ensures kept { OnErr result (take (length text.old.items) text.new.items ≡ text.old.items) }
-{
-    if number >= 100 {
-        return push_number(text, number);
-    }
-    if number >= 10 {
-        push_digit(text, number / 10)?;
-        text.push(b'0' + (number % 10) as u8)?;
-        return Ok(());
-    }
-    push_digit(text, number)
-}
-
+/// Returns the six digits of the descriptor of two octets.
 #[inline(always)]
-#[tactic(auto, using(std::proofs::lemmas::Fmt::decimal_digit))]
-fn push_digit(text: &mut Vec<u8>, digit: u64) -> Result<(), OutOfMemory>
-    requires { digit < 10 }
-    ensures ok { OnOk result (text.new.items ≡ text.old.items ++ decimal digit) }
-    ensures err { OnErr result (text.new.items ≡ text.old.items) }
+fn digits_of(high: u8, low: u8) -> [u8; 6]
+    ensures { result ≡ six_digits (two high low) }
 {
-    text.push(b'0' + digit as u8)?;
-    Ok(())
+    Fxy::from_bits(256 * u16::from(high) + u16::from(low)).digits()
 }

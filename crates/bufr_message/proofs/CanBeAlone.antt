@@ -16,6 +16,8 @@ use Rattle.bufr_sections.specs.declared.layout.Layout.TheVariants.{Edition4}
 use Rattle.bufr_sections.specs.Sections.{Ignored, spelling}
 use Rattle.bufr_sections.specs.SectionLaws.{BareSpellingsAreShortest}
 use Rattle.bufr_sections.specs.Spelt.{longest}
+use Rattle.bufr_message.specs.Below.{Below}
+use Rattle.bufr_message.specs.Laws.{Edition4AsksNoMore}
 use Rattle.bufr_message.specs.Messages.{envelope_with, octets_alone, CanBeAlone, can_be_alone}
 use Rattle.bufr_message.proofs.AloneFacts.{StandsAlone, each_alone}
 use Rattle.bufr_message.proofs.LengthFacts.{contents_hold, spelling_long}
@@ -53,3 +55,23 @@ alone_in_edition_4 law tree m contents i data_bits rest begins holds total =
     let each = each_alone tree m.compressed m.subsets data_bits holds in
     let whole = contents_hold data_bits rest contents begins in
     all_short m.descriptors tree (length data_bits) m.subsets (omega arith) each
+
+-- a message of edition 4 without the word on each subset alone, and that word
+pub edition_4_asks_no_more : Below → Edition4AsksNoMore
+edition_4_asks_no_more below tables m octets slack s =
+    record {
+      layout = Edition4;
+      contents = s.contents;
+      ignored = s.ignored;
+      fits = s.fits;
+      spelled = s.spelled;
+      tree = s.tree;
+      template = s.template;
+      data_bits = s.data_bits;
+      rest = s.rest;
+      begins = s.begins;
+      holds = s.holds;
+      after = s.after;
+      alone = alone_in_edition_4 below.shortest s.tree m s.contents s.ignored s.data_bits s.rest
+          s.begins s.holds s.fits.total;
+    }

@@ -1,18 +1,23 @@
 -- Laws on reading and writing messages.
-use Rattle.std.specs.Prelude.{◌≡◌, ℕ, ◌⊎◌, ◌<◌, ◌^◌, true, false, List, All, IfSome, Ok, Err}
+use Rattle.std.specs.Prelude.{◌≡◌, ℕ, ◌⊎◌, ◌/◌, ◌<◌, ◌^◌, Bool, true, false, List, ◌++◌, length}
+use Rattle.std.specs.Prelude.{All, IfSome, Ok, Err}
+use Rattle.bufr_bits.specs.Bits.{bits}
 use Rattle.bufr_tables.specs.Entries.{Entries}
+use Rattle.bufr_expand.specs.Flat.{IsTreeOf}
+use Rattle.bufr_expand.specs.Trees.{Tree}
 use Rattle.bufr_sections.specs.declared.message.Message.{Message}
 use Rattle.bufr_sections.specs.declared.layout.Layout.TheVariants.{Edition4}
 use Rattle.bufr_sections.specs.declared.message.Decoded.{Decoded}
 use Rattle.bufr_sections.specs.declared.fault.Refused.{Refused}
 use Rattle.bufr_fields.specs.declared.fault.MisfitFault.TheVariants.{TooLarge}
 use Rattle.bufr_data.specs.Compressed.{Column}
+use Rattle.bufr_data.specs.Data.{IsDataOf}
 use Rattle.bufr_data.specs.Compressed.Best.{CanBePacked}
 use Rattle.bufr_sections.specs.declared.fault.EncodeFault.{EncodeFault}
 use Rattle.bufr_sections.specs.declared.fault.EncodeFault.TheVariants.{Data}
 use Rattle.bufr_message.specs.Refusals.{IsFirstFault, IsFirstEncodeFault}
-use Rattle.bufr_sections.specs.Sections.{AreOctets, HeadFits}
-use Rattle.bufr_message.specs.Messages.{Spells, message_of}
+use Rattle.bufr_sections.specs.Sections.{AreOctets, HeadFits, Ignored, EnvelopeFits, spelling}
+use Rattle.bufr_message.specs.Messages.{Spells, envelope_with, message_of}
 use Rattle.bufr_message.specs.Encodings.{SpellsBare, code}
 
 -- octets spell the message that reading returns
@@ -26,6 +31,27 @@ abbrev pub MessagesSpeltAreRead : Type 0
 MessagesSpeltAreRead = (tables : Entries) (octets : List ℕ) (m : Message) (slack : ℕ)
     → Spells tables m octets slack
     → message_of tables octets ≡ Ok (record { message = m; slack_octets = slack })
+
+-- the octets are a message of edition 4, with `slack` octets of section 4 after its data: what
+-- `Spells` says, without that each subset fits a message of its own (FM 94 BUFR, sections 0 to 5)
+pub record SpellsInEdition4 (tables : Entries) (m : Message) (octets : List ℕ) (slack : ℕ)
+    : Type 0 where
+  pub contents : List ℕ
+  pub ignored : Ignored
+  pub fits : EnvelopeFits Edition4 (envelope_with m contents) ignored
+  pub spelled : octets ≡ spelling Edition4 (envelope_with m contents) ignored
+  pub tree : Tree
+  pub template : IsTreeOf tables m.descriptors tree
+  pub data_bits : List Bool
+  pub rest : List Bool
+  pub begins : bits contents ≡ data_bits ++ rest
+  pub holds : IsDataOf tree m.compressed m.subsets data_bits
+  pub after : slack ≡ length rest / 8
+
+-- in edition 4 octets that are a message so spell it: each subset fits a message of its own
+abbrev pub Edition4AsksNoMore : Type 0
+Edition4AsksNoMore = (tables : Entries) (m : Message) (octets : List ℕ) (slack : ℕ)
+    → SpellsInEdition4 tables m octets slack → Spells tables m octets slack
 
 -- a refusal of octets is their first fault
 abbrev pub RefusedForFirstFault : Type 0

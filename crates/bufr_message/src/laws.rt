@@ -9,7 +9,7 @@ ghost use Rattle.bufr_message.specs.Laws.{RefusedForFirstFault, FirstFaultIsAnsw
 ghost use Rattle.bufr_message.specs.Laws.{MessagesWrittenAreBare, BareAreWritten};
 ghost use Rattle.bufr_message.specs.Laws.{MessagesWrittenAreRead, UnwrittenForFirstFault};
 ghost use Rattle.bufr_message.specs.Laws.{FirstEncodeFaultIsAnswered, PlainSpeltAreWritten};
-ghost use Rattle.bufr_message.specs.Laws.{PackableSpeltAreWritten};
+ghost use Rattle.bufr_message.specs.Laws.{PackableSpeltAreWritten, Edition4AsksNoMore};
 ghost use Rattle.bufr_message.specs.SmallSubsets.{SubsetsAreSmall};
 
 use bufr_data::laws::data_hold_subsets;
@@ -87,6 +87,14 @@ pub fn canonical_messages_are_own()
 /// Each report of a message that octets spell, plain or compressed, has a canonical message.
 pub fn reports_have_canonical_messages()
     ensures { ReportsSpeltAreUnder }
+{
+    laws_below();
+}
+
+/// In edition 4 octets spell a message if they are its sections, its descriptors and its data. Each
+/// report then has a canonical message, so `Spells` asks for no more.
+pub fn edition_4_asks_no_more()
+    ensures { Edition4AsksNoMore }
 {
     laws_below();
 }

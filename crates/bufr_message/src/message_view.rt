@@ -41,7 +41,7 @@ const OCTETS_WITH_ROOM: usize = 64;
 
 /// A view of a message as read, which builds a subset only on request. Contracts see what `decode`
 /// returns.
-#[derive(Debug, Drop)]
+#[derive(Drop)]
 pub struct View<'a> {
     octets: &'a [u8],
     sections: Envelope<'a>,

@@ -18,7 +18,7 @@ use std::marker::Model;
 
 /// A reader of messages under the same tables. Keeps the last four lists of descriptors with their
 /// templates. Contracts see the tables.
-#[derive(Debug, Drop)]
+#[derive(Drop)]
 pub struct MessageReader<'t> {
     tables: &'t Tables,
     kept: Vec<Kept>,

@@ -1,9 +1,11 @@
-//! Reads, views and writes messages and their reports.
+//! Reads, views and writes messages, their reports, sections and listings.
 
 mod listed;
+mod listing;
 mod long;
 mod refused;
 mod samples;
+mod sections;
 mod shown;
 
 use std::fmt::Debug;

@@ -3,4 +3,6 @@
 
 mod saying;
 
-pub use saying::{cannot_open, explain, say, status_of, words_of, words_or_help};
+pub use saying::{
+    cannot_open, explain, say, say_unopened, status_of, tell, words_of, words_or_help,
+};

@@ -5,7 +5,7 @@ ghost use Rattle.bufr_program.specs.Words.{or_help};
 
 use bufr_base::OutOfMemory;
 use bufr_bits::IntoWrite;
-use bufr_io::{LazyInput, Tally, ToolFault, unopened_path, write_out};
+use bufr_io::{LazyInput, Tally, ToolFault, Unopened, unopened_path, write_out};
 use clap::Error;
 use clap::error::ErrorKind;
 use std::alloc::Global;
@@ -114,6 +114,21 @@ pub fn say<E: Write + Drop>(alloc: Global, program: &str, fault: &ToolFault, err
     tell(program, format!(in alloc; "{program}: {fault}\n"), err)
 }
 
+/// Writes to `err` why files are not there, and returns the exit status.
+pub fn say_unopened<E: Write + Drop>(
+    alloc: Global,
+    program: &str,
+    why: &Unopened<'_>,
+    err: &mut E,
+) -> u8
+    ensures { result ≡ 2 }
+{
+    match why {
+        Unopened::Path(path) => cannot_open(alloc, program, path, err),
+        Unopened::OutOfMemory => say(alloc, program, &ToolFault::OutOfMemory, err),
+    }
+}
+
 /// Writes to `err` that a file cannot open, and returns the exit status.
 pub fn cannot_open<E: Write + Drop>(alloc: Global, program: &str, path: &str, err: &mut E) -> u8
     ensures { result ≡ 2 }
@@ -125,9 +140,9 @@ pub fn cannot_open<E: Write + Drop>(alloc: Global, program: &str, path: &str, er
     )
 }
 
-/// Writes a line to `err` at once, so that lines of several programs do not mix. If memory runs
-/// out, writes that in parts.
-fn tell<E: Write + Drop>(program: &str, line: Result<String, OutOfMemory>, err: &mut E) -> u8
+/// Writes the line of a fault to `err` at once, so that lines of several programs do not mix, and
+/// returns the exit status. If memory ran out for the line, writes that in parts.
+pub fn tell<E: Write + Drop>(program: &str, line: Result<String, OutOfMemory>, err: &mut E) -> u8
     ensures { result ≡ 2 }
 {
     match &line {

@@ -1,9 +1,10 @@
 -- Section 1 by the places of its octets: if there are enough, only the master table decides.
 use Rattle.std.proofs.Common.{◌≡◌, ℕ, ◌≤◌, cond, get_or, List, ◌∷◌, length, drop, Ok, Err}
-use Rattle.std.proofs.Common.{refl, arith}
+use Rattle.std.proofs.Common.{◌≢◌, refl, arith, ◌/◌, ◌%◌}
+use Rattle.std.proofs.lemmas.Bool.{ne_eqb}
 use Rattle.std.specs.Prelude.{◌==◌, nat_le}
 use Rattle.bufr_sections.specs.declared.fault.Refused.TheVariants.{MasterTable}
-use Rattle.bufr_sections.specs.Sections.{head4_of, head3_of}
+use Rattle.bufr_sections.specs.Sections.{head4_of, head3_of, description_of, descriptors_of, two}
 use Rattle.bufr_sections.specs.SectionsRead.{head4_with, head3_with}
 
 pub head_is : (xs : List ℕ) → 19 ≤ length xs
@@ -24,3 +25,35 @@ head3_is
     (master ∷ sub_centre ∷ centre ∷ update ∷ flags ∷ category ∷ local_category ∷ master_version
     ∷ local_version ∷ year ∷ month ∷ day ∷ hour ∷ minute ∷ local) long = refl
 head3_is _ long = absurd (omega arith)
+
+-- with master table 0 the octets are a section 1
+pub head4_said : (xs : List ℕ) → 19 ≤ length xs → get_or xs 0 0 ≡ 0
+    → head4_of xs ≡ Ok (head4_with xs (drop 19 xs), nat_le 128 (get_or xs 6 0))
+head4_said xs long master = rw master at (head_is xs long)
+
+-- so they are in edition 3
+pub head3_said : (xs : List ℕ) → 14 ≤ length xs → get_or xs 0 0 ≡ 0
+    → head3_of xs ≡ Ok (head3_with xs (drop 14 xs), nat_le 128 (get_or xs 4 0))
+head3_said xs long master = rw master at (head3_is xs long)
+
+-- with another they are none
+pub head4_other : (xs : List ℕ) → 19 ≤ length xs → get_or xs 0 0 ≢ 0
+    → head4_of xs ≡ Err (MasterTable (get_or xs 0 0))
+head4_other xs long other = rw (ne_eqb (get_or xs 0 0) 0 other) at (head_is xs long)
+
+-- so they are in edition 3
+pub head3_other : (xs : List ℕ) → 14 ≤ length xs → get_or xs 0 0 ≢ 0
+    → head3_of xs ≡ Err (MasterTable (get_or xs 0 0))
+head3_other xs long other = rw (ne_eqb (get_or xs 0 0) 0 other) at (head3_is xs long)
+
+-- what section 3 says, by the places of its octets
+pub description_at : (xs : List ℕ) → 4 ≤ length xs
+    → description_of xs ≡ Ok (record {
+      count = two (get_or xs 1 0) (get_or xs 2 0);
+      observed = nat_le 128 (get_or xs 3 0);
+      compressed = get_or xs 3 0 / 64 % 2 == 1;
+      descriptors = descriptors_of (drop 4 xs);
+    })
+unfolding description_of
+description_at (ignored ∷ n1 ∷ n2 ∷ flags ∷ list) long = refl
+description_at _ long = absurd (omega arith)

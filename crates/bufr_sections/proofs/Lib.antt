@@ -7,4 +7,5 @@ pub mod LengthFacts
 pub mod BareFacts
 pub mod BehindFacts
 pub mod HeadFacts
+mod EndFacts
 pub mod RefusalFacts

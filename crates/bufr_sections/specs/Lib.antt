@@ -1,5 +1,6 @@
 pub mod Sections
 pub mod SectionsRead
+pub mod InPlace
 pub mod Spelt
 pub mod Causes
 pub mod SectionLaws

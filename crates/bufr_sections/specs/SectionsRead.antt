@@ -1,14 +1,10 @@
 -- Sections of the program as the definitions see them, and heads by the places of their octets.
-use Rattle.std.specs.Prelude.{ℕ, List, Option, Result, Ok, get_or}
-use Rattle.bufr_base.specs.Answers.{◌>>=◌}
+use Rattle.std.specs.Prelude.{ℕ, List, get_or}
 use Rattle.bufr_fields.specs.declared.field.Subset.{Subset}
 use Rattle.bufr_sections.specs.declared.message.Head.{Head}
 use Rattle.bufr_sections.specs.declared.message.Message.{Message}
 use Rattle.bufr_sections.specs.declared.envelope.Envelope.{Envelope}
 use Rattle.bufr_sections.specs.declared.lent_sections.LentSections.{LentSections}
-use Rattle.bufr_sections.specs.declared.sections.Description.{Description}
-use Rattle.bufr_sections.specs.declared.fault.Refused.{Refused}
-use Rattle.bufr_sections.specs.declared.fault.Refused.TheVariants.{Section3Length, Section4Length}
 use Rattle.bufr_sections.specs.Sections as said
 
 -- the sections as read
@@ -49,38 +45,6 @@ message_lent s subsets =
       descriptors = s.descriptors.now;
       subsets = subsets;
     }
-
--- section 3 as read
-abbrev pub description : Description → said.Description
-description s =
-    record {
-      count = s.count;
-      observed = s.observed;
-      compressed = s.compressed;
-      descriptors = said.descriptors_of s.listed.now;
-    }
-
--- the sections of a head, sections 2 and 3, and section 4 from its fifth octet on
-abbrev pub envelope_said : Head → Option (List ℕ) → said.Description → List ℕ → said.Envelope
-envelope_said head section2 description contents =
-    record {
-      head = head;
-      section2 = section2;
-      observed = description.observed;
-      compressed = description.compressed;
-      descriptors = description.descriptors;
-      count = description.count;
-      contents = contents;
-    }
-
--- the sections of a head, section 2 and the octets after it, or the first fault
-unfoldable pub envelope_behind : Head → Option (List ℕ) → List ℕ → Result said.Envelope Refused
-envelope_behind head section2 room = do
-  three ← said.section_at 9 Section3Length room
-  description ← said.description_of three.0
-  four ← said.section_at 4 Section4Length three.1
-  contents ← said.contents_of four
-  Ok (envelope_said head section2 description contents)
 
 -- the head of edition 3 from section 1 after its length: octets 5 to 17, with these octets for
 -- local use

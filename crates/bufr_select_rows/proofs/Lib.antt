@@ -3,3 +3,10 @@ mod RowFacts
 mod TextFacts
 mod WordFacts
 mod AskedFacts
+mod OnLiterals
+mod ListedFacts
+mod DigitRows
+mod SameLines
+mod BareFacts
+mod WrittenFacts
+mod NotedFacts

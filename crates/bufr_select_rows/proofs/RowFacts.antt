@@ -1,14 +1,16 @@
 -- The texts of records, by the number of their fields: the contracts of `push_row`, `push_header` and
 -- `push_alone`.
 use Rattle.std.proofs.Common.{◌≡◌, ℕ, ◌==◌, Bool, true, false, List, [], ◌∷◌, ◌++◌, length, map, refl}
-use Rattle.std.proofs.Common.{sym, ap, ◌∙◌, cond, ◌<◌, ◌≤◌, arith, drop, get_or, OnOk, Result, Ok, Err}
+use Rattle.std.proofs.Common.{sym, ap, ◌∙◌, cond, ◌+◌, ◌<◌, ◌≤◌, arith, drop, get_or, set, OnOk, Result, Ok, Err}
 use Rattle.std.proofs.lemmas.Bool.{eqb-true}
 use Rattle.std.proofs.lemmas.Bool.Decides.{nat_tests}
 use Rattle.std.proofs.Common.{append_assoc}
 use Rattle.std.proofs.Common.{take, ◌-◌}
-use Rattle.std.proofs.lemmas.List.{append-nil, take_all}
+use Rattle.std.proofs.Common.{length-append}
+use Rattle.std.proofs.lemmas.List.{append-nil, drop_all, take_all}
 use Rattle.csv.specs.Writing.{default_writer, field_text, fields_text, is_blank, needs_quotes}
 use Rattle.csv.specs.Writing.{quoted, row_text}
+use Rattle.bufr_select_rows.proofs.WrittenFacts.{octet_before}
 
 -- a record without a field
 pub row_none : (f : List ℕ → List ℕ) → row_text default_writer [] ≡ 34 ∷ 34 ∷ 10 ∷ []
@@ -110,3 +112,104 @@ one_pieces field old one new some one_is new_is =
     new_is ∙ ap (λ (t : List ℕ). t ++ 10 ∷ []) one_is
     ∙ append_assoc old (field_text default_writer field) (10 ∷ [])
     ∙ ap (λ (t : List ℕ). old ++ t) (sym (row_one field some))
+
+-- ---- a record of one field, by whether that shows an octet
+
+blank_one : (shown : List ℕ) → length shown ≡ 0
+    → shown ++ 34 ∷ 34 ∷ 10 ∷ []
+    ≡ (shown ++ []) ++ ((cond (length shown == 0) (34 ∷ 34 ∷ []) []) ++ 10 ∷ [])
+blank_one [] none = refl
+blank_one (x ∷ shown) none = absurd (omega (arith, none))
+
+-- it shows none
+pub only_blank : (field old one new : List ℕ) → one ≡ old ++ field_text default_writer field
+    → length one ≡ length old → new ≡ one ++ 34 ∷ 34 ∷ 10 ∷ []
+    → new ≡ old ++ row_text default_writer (field ∷ [])
+unfolding is_blank fields_text
+only_blank field old one new one_is same new_is =
+    let shown = field_text default_writer field in
+    new_is ∙ ap (λ (t : List ℕ). t ++ 34 ∷ 34 ∷ 10 ∷ []) one_is
+    ∙ append_assoc old shown (34 ∷ 34 ∷ 10 ∷ [])
+    ∙ ap (λ (t : List ℕ). old ++ t)
+    (blank_one shown (omega (arith, same, ap length one_is, length-append old shown)))
+
+-- or some
+pub only_ended : (field old one new : List ℕ) → one ≡ old ++ field_text default_writer field
+    → length old < length one → new ≡ one ++ 10 ∷ []
+    → new ≡ old ++ row_text default_writer (field ∷ [])
+unfolding is_blank fields_text
+only_ended field old one new one_is more new_is =
+    let shown = field_text default_writer field in
+    let some : 0 < length shown =
+    omega (arith, more, ap length one_is, length-append old shown) in
+    new_is ∙ ap (λ (t : List ℕ). t ++ 10 ∷ []) one_is ∙ append_assoc old shown (10 ∷ [])
+    ∙ ap (λ (t : List ℕ). old ++ t)
+    (sym (one_ended shown (length shown == 0) refl (some_test (length shown) some)))
+
+-- ---- a record written from its end
+
+-- the fields of a record, with one more
+fields_more : {A : Type 0} (f : A → List ℕ) (xs : List A) (x : A)
+    → fields_text default_writer (map f (xs ++ x ∷ []))
+    ≡ fields_text default_writer (map f xs) ++ 44 ∷ field_text default_writer (f x)
+unfolding fields_text
+fields_more f [] x = ap (λ (t : List ℕ). 44 ∷ t) (append-nil (field_text default_writer (f x)))
+fields_more f (y ∷ xs) x =
+    ap (λ (t : List ℕ). 44 ∷ (field_text default_writer (f y) ++ t)) (fields_more f xs x)
+    ∙ ap (λ (t : List ℕ). 44 ∷ t)
+    (sym (append_assoc (field_text default_writer (f y)) (fields_text default_writer (map f xs))
+    (44 ∷ field_text default_writer (f x))))
+
+-- one field more is written before the others
+pub field_before : {A : Type 0} (f : A → List ℕ) (left others : List A) (x : A)
+    (shown row mid new : List ℕ) (start field : ℕ) → left ≡ others ++ x ∷ [] → shown ≡ f x
+    → 0 < field → field ≤ length mid
+    → drop field mid ≡ field_text default_writer shown ++ drop start row
+    → new ≡ set mid (field - 1) 44
+    → fields_text default_writer (map f others) ++ drop (field - 1) new
+    ≡ fields_text default_writer (map f left) ++ drop start row
+field_before f left others x shown row mid new start field parted is inside within written set_is =
+    let front = fields_text default_writer (map f others) in
+    let next : (field - 1) + 1 ≡ field = omega (arith, inside) in
+    ap (λ (t : List ℕ). front ++ t)
+    (ap (drop (field - 1)) set_is ∙ octet_before mid 44 (field - 1) field next within
+    ∙ ap (λ (t : List ℕ). 44 ∷ t) written
+    ∙ ap (λ (t : List ℕ). 44 ∷ (field_text default_writer t ++ drop start row)) is)
+    ∙ sym (append_assoc front (44 ∷ field_text default_writer (f x)) (drop start row))
+    ∙ ap (λ (t : List ℕ). t ++ drop start row) (sym (fields_more f others x))
+    ∙ ap (λ xs. fields_text default_writer (map f xs) ++ drop start row)
+    (sym parted)
+
+-- no field is left
+pub none_before : {A : Type 0} (f : A → List ℕ) (left : List A) (t u : List ℕ) → length left < 1
+    → fields_text default_writer (map f left) ++ t ≡ u → t ≡ u
+unfolding fields_text
+none_before f [] t u none is = is
+none_before f (x ∷ left) t u none is = absurd (omega (arith, none))
+
+-- a room that is not empty
+pub some_room : (n : ℕ) → (n == 0) ≡ false → 0 < n
+some_room n some = grind (arith, nat_tests)
+
+-- the first field before the others and the end
+pub row_before : {A : Type 0} (f : A → List ℕ) (xs : List A) (x : A)
+    (shown row ended mid new : List ℕ) (end start begin : ℕ) → 1 ≤ length xs → x ≡ get_or xs 0 x
+    → (length (take (length xs - 1) (drop 1 xs)) == 0) ≡ false → shown ≡ f x
+    → end + 1 ≡ length row → ended ≡ set row end 10
+    → drop start mid
+    ≡ fields_text default_writer (map f (take (length xs - 1) (drop 1 xs))) ++ drop end ended
+    → drop begin new ≡ field_text default_writer shown ++ drop start mid
+    → drop begin new ≡ row_text default_writer (map f xs)
+row_before f xs x shown row ended mid new end start begin some first more is last set_is others
+    written =
+    let tail = fields_text default_writer (map f (take (length xs - 1) (drop 1 xs))) in
+    let head = field_text default_writer shown in
+    written
+    ∙ ap (λ (t : List ℕ). head ++ t)
+    (others
+    ∙ ap (λ (t : List ℕ). tail ++ t)
+    (ap (drop end) set_is ∙ octet_before row 10 end (length row) last (omega arith)
+    ∙ ap (λ (t : List ℕ). 10 ∷ t) (drop_all (length row) row (omega arith))))
+    ∙ sym (append_assoc head tail (10 ∷ []))
+    ∙ row_pieces f xs x [] head (head ++ tail) ((head ++ tail) ++ 10 ∷ []) shown some first more is
+    refl refl refl

@@ -420,7 +420,7 @@ same_if false x y absent = refl
 same_if true x y absent = absurd cc
 
 -- whether a column asks for a descriptor
-noted_other : (column : Column) (in_span : Bool) (f : Field) (c : Cell)
+pub noted_other : (column : Column) (in_span : Bool) (f : Field) (c : Cell)
     → asks_for f.fxy column ≡ false → noted_by column in_span f c ≡ c
 noted_other (columns.Told fact) in_span f c absent = refl
 noted_other (columns.First d) true f c absent = same_if (f.fxy == d) (counted f c) c absent

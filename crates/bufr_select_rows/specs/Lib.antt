@@ -1,7 +1,10 @@
 pub mod Columns
 pub mod ColumnSteps
 pub mod Values
+pub mod Texts
 pub mod Rows
 pub mod Asks
 pub mod Cells
 pub mod CellLaws
+pub mod Samples
+pub mod ListedCells

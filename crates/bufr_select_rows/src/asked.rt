@@ -1,91 +1,126 @@
 //! The descriptors that a selection asks for.
 
-ghost use Rattle.std.specs.Prelude.{◌≡◌, ℕ, true, length, IfOk};
-ghost use Rattle.bufr_select_rows.specs.Asks.{Covers, CoversColumn, CoversEach, flagged};
+ghost use Rattle.std.specs.Prelude.{◌≡◌, ℕ, ◌+◌, get_or, true, length, IfOk, IfSome};
+ghost use Rattle.bufr_select_rows.specs.Asks.{CoversEach, IsSetOf, MarksColumn, MarksFor, flagged};
+ghost use Rattle.bufr_select_rows.specs.Asks as asks;
 
 use crate::column::Column;
 use bufr_base::OutOfMemory;
+use bufr_expand::Asks;
 use bufr_tables::Fxy;
 use std::alloc::Global;
 use std::marker::Model;
 
-/// The number of descriptors.
 const DESCRIPTORS: usize = 65_536;
 
-/// A set of descriptors. Contracts see its flags.
-#[derive(Debug, Drop)]
+/// The number of cells that a mark can name.
+const MOST_NAMED: usize = 65_534;
+
+/// A set of descriptors, which knows the cell of each. Contracts see its marks.
+#[derive(Drop)]
 pub struct Asked {
-    /// Whether each descriptor is in the set.
-    flags: Vec<bool>,
+    /// The mark of each descriptor: 0 if it is not in the set, the index of its cell plus 2 if no other cell
+    /// asks for it, else 1.
+    marks: Vec<u16>,
 }
 
 impl Model for Asked {
-    ghost use Rattle.std.specs.Prelude.{Bool, List};
+    ghost use Rattle.std.specs.Prelude.{List, ℕ};
 
-    ghost Value = { List Bool };
+    ghost Value = { List ℕ };
 
-    ghost view = { λ a. a.flags.items };
+    ghost view = { λ a. a.marks.items };
 }
 
 impl Asked {
-    /// Makes the set of the descriptors of columns and of `each`.
+    /// Makes the set of a selection's descriptors.
     pub fn of(alloc: Global, columns: &[Column], each: Option<Fxy>) -> Result<Asked, OutOfMemory>
-        ensures { IfOk result (λ asked. Covers (flagged asked) each columns.now) }
+        ensures { IfOk result (λ asked. IsSetOf asked each columns.now) }
     {
-        let mut flags = Vec::new(alloc);
-        flags.resize(DESCRIPTORS, false)?;
+        let mut marks = Vec::new(alloc);
+        marks.resize(DESCRIPTORS, 0)?;
+        let mut index = 0;
         for column in columns {
-            raise_column(&mut flags, *column);
+            mark_column(&mut marks, *column, index);
+            index += 1;
         }
-        raise_each(&mut flags, each);
-        Ok(Asked { flags })
+        mark_each(&mut marks, each);
+        Ok(Asked { marks })
     }
 
-    /// Returns whether a descriptor is in the set.
+    /// Returns the index of the only cell for a descriptor. `None` if several cells may ask for it, or
+    /// none.
     #[inline(always)]
-    pub fn has(&self, fxy: Fxy) -> bool
-        ensures { result ≡ flagged self.now fxy }
+    pub(crate) fn cell_of(&self, fxy: Fxy) -> Option<usize>
+        ensures { IfSome result (λ index. get_or self.now fxy 0 ≡ index + 2) }
     {
-        match self.flags.get(usize::from(fxy.bits())) {
-            Some(flag) => *flag,
+        match self.marks.get(usize::from(fxy.bits())) {
+            Some(mark) if *mark >= 2 => Some(usize::from(*mark) - 2),
+            _ => None,
+        }
+    }
+}
+
+impl Asks for Asked {
+    ghost is_asked = { flagged };
+
+    #[inline(always)]
+    fn asks(&self, fxy: Fxy) -> bool {
+        match self.marks.get(usize::from(fxy.bits())) {
+            Some(mark) => *mark != 0,
             None => false,
         }
     }
 }
 
-/// Raises the flag of a column's descriptor.
-fn raise_column(flags: &mut Vec<bool>, column: Column)
-    requires { length flags.old.items ≡ 65536 }
-    ensures covers { CoversColumn (flagged flags.new.items) column }
-    ensures kept { (d : ℕ) → flagged flags.old.items d ≡ true → flagged flags.new.items d ≡ true }
-    ensures long { length flags.new.items ≡ length flags.old.items }
+/// Marks the descriptor of the column at an index.
+fn mark_column(marks: &mut Vec<u16>, column: Column, index: usize)
+    requires { length marks.old.items ≡ 65536 }
+    ensures marks { MarksColumn index column marks.old.items marks.new.items }
+    ensures long { length marks.new.items ≡ length marks.old.items }
 {
     match column {
         Column::Told(_) => {}
-        Column::First(fxy) => raise(flags, fxy),
-        Column::Nth(fxy, _) => raise(flags, fxy),
+        Column::First(fxy) => mark(marks, fxy, index),
+        Column::Nth(fxy, _) => mark(marks, fxy, index),
     }
 }
 
-/// Raises the flag of the descriptor whose fields open spans.
-fn raise_each(flags: &mut Vec<bool>, each: Option<Fxy>)
-    requires { length flags.old.items ≡ 65536 }
-    ensures covers { CoversEach (flagged flags.new.items) each }
-    ensures kept { (d : ℕ) → flagged flags.old.items d ≡ true → flagged flags.new.items d ≡ true }
-    ensures long { length flags.new.items ≡ length flags.old.items }
+/// Marks a descriptor for the cell at an index.
+fn mark(marks: &mut Vec<u16>, fxy: Fxy, index: usize)
+    requires { length marks.old.items ≡ 65536 }
+    ensures marks { MarksFor index fxy marks.old.items marks.new.items }
+    ensures long { length marks.new.items ≡ length marks.old.items }
 {
-    match each {
-        Some(fxy) => raise(flags, fxy),
-        None => {}
+    let place = usize::from(fxy.bits());
+    let after = mark_after(index, marks[place]);
+    marks[place] = after;
+}
+
+/// Returns the mark of a descriptor for which the cell at an index asks too.
+fn mark_after(index: usize, mark: u16) -> u16
+    ensures { result ≡ asks.mark_after index mark }
+{
+    if mark == 0 && index < MOST_NAMED {
+        index as u16 + 2
+    } else {
+        1
     }
 }
 
-/// Raises the flag of a descriptor.
-fn raise(flags: &mut Vec<bool>, fxy: Fxy)
-    requires { length flags.old.items ≡ 65536 }
-    ensures raised { flagged flags.new.items fxy ≡ true }
-    ensures kept { (d : ℕ) → flagged flags.old.items d ≡ true → flagged flags.new.items d ≡ true }
-    ensures long { length flags.new.items ≡ length flags.old.items }
+/// Marks the descriptor whose fields open spans, unless it has a mark.
+fn mark_each(marks: &mut Vec<u16>, each: Option<Fxy>)
+    requires { length marks.old.items ≡ 65536 }
+    ensures covers { CoversEach (flagged marks.new.items) each }
+    ensures kept { (d : ℕ) → flagged marks.old.items d ≡ true → flagged marks.new.items d ≡ true }
+    ensures named { (d i : ℕ) → get_or marks.new.items d 0 ≡ i + 2
+        → get_or marks.old.items d 0 ≡ i + 2 }
 {
-    flags[usize::from(fxy.bits())] = true;
+    let Some(fxy) = each else {
+        return;
+    };
+    let place = usize::from(fxy.bits());
+    if marks[place] == 0 {
+        marks[place] = 1;
+    }
 }

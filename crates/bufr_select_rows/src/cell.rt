@@ -1,4 +1,4 @@
-//! A cell of a row: what was picked of the fields for its column.
+//! The cells of a row.
 
 ghost use Rattle.std.specs.Prelude.{◌≡◌, OnOk, if◌then◌else◌};
 ghost use Rattle.bufr_select_rows.specs.Cells.{begun, counted, fresh, noted, opened, put_before, shown};
@@ -11,21 +11,19 @@ use bufr_base::OutOfMemory;
 use bufr_fields::Field;
 use std::alloc::Global;
 
-/// A cell of a row: a column, and what was picked for it of the fields so far.
-#[derive(Debug, Drop)]
+/// A column, and what was picked for it of the fields so far.
+#[derive(Drop)]
 pub struct Cell {
-    /// The column.
     pub column: Column,
-    /// The number of fields of the column up to the one that the cell shows; 0 after it.
+    /// The fields of the column up to the one to show; 0 after it.
     pub ahead: u64,
-    /// The text of the cell if its span has no such field.
+    /// The text if the span has no such field.
     pub before: Text,
-    /// The text of the field in the span.
+    /// The text of that field.
     pub here: Text,
 }
 
 impl Cell {
-    /// Makes the cell of a column.
     pub(crate) fn new(alloc: Global, column: Column) -> Cell
         ensures { result ≡ fresh column }
     {
@@ -89,7 +87,7 @@ impl Cell {
         }
     }
 
-    /// Counts a field in a span if it is of the column.
+    /// Counts a field in a span if `is`.
     #[inline(always)]
     fn count_if(&mut self, is: bool, field: &Field) -> Result<(), OutOfMemory>
         ensures { OnOk result (self.new ≡ (if is then counted field.now self.old else self.old)) }
@@ -97,7 +95,7 @@ impl Cell {
         if is { self.count(field) } else { Ok(()) }
     }
 
-    /// Puts the value of a field before all spans if it is of the column.
+    /// Puts the value of a field before all spans if `is`.
     #[inline(always)]
     fn put_if(&mut self, is: bool, field: &Field) -> Result<(), OutOfMemory>
         ensures { OnOk result (self.new ≡ (if is then put_before field.now self.old
@@ -110,7 +108,7 @@ impl Cell {
         }
     }
 
-    /// Counts a field of the column in a span, and shows it if it is the one.
+    /// Counts a field of the column, and shows it if it is the one.
     fn count(&mut self, field: &Field) -> Result<(), OutOfMemory>
         ensures { OnOk result (self.new ≡ counted field.now self.old) }
     {
@@ -126,13 +124,13 @@ impl Cell {
 
     /// Returns the text of the cell.
     #[inline(always)]
-    pub(crate) fn shown(&self) -> &[u8]
+    pub(crate) fn shown(&self) -> &Text
         ensures { result.now ≡ shown self.now }
     {
         if self.ahead == 0 {
-            self.here.as_slice()
+            &self.here
         } else {
-            self.before.as_slice()
+            &self.before
         }
     }
 }

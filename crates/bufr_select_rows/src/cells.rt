@@ -1,9 +1,11 @@
-//! The cells of a row.
+//! All cells of a row.
 
 ghost use Rattle.std.specs.Prelude.{◌≡◌, map, IfOk, OnOk};
+ghost use Rattle.bufr_select_rows.specs.Asks.{Finds};
 ghost use Rattle.bufr_select_rows.specs.Cells.{begun, fresh, noted, opened};
 ghost use Rattle.bufr_select_rows.specs.Rows.{origin};
 
+use crate::asked::Asked;
 use crate::cell::Cell;
 use crate::column::Column;
 use crate::origin::Origin;
@@ -11,7 +13,6 @@ use bufr_base::OutOfMemory;
 use bufr_fields::Field;
 use std::alloc::Global;
 
-/// Makes the cells of columns.
 pub fn cells_of(alloc: Global, columns: &[Column]) -> Result<Vec<Cell>, OutOfMemory>
     ensures { IfOk result (λ cells. cells.items ≡ map fresh columns.now) }
 {
@@ -22,7 +23,6 @@ pub fn cells_of(alloc: Global, columns: &[Column]) -> Result<Vec<Cell>, OutOfMem
     Ok(cells)
 }
 
-/// Begins a subset.
 pub fn begin_cells(cells: &mut [Cell], from: &Origin<'_>) -> Result<(), OutOfMemory>
     ensures { OnOk result (cells.new
         ≡ map (λ cell. begun (origin from.now) cell.column) cells.old) }
@@ -33,7 +33,6 @@ pub fn begin_cells(cells: &mut [Cell], from: &Origin<'_>) -> Result<(), OutOfMem
     Ok(())
 }
 
-/// Opens a span.
 pub fn open_cells(cells: &mut [Cell])
     ensures { cells.new ≡ map opened cells.old }
 {
@@ -43,7 +42,24 @@ pub fn open_cells(cells: &mut [Cell])
 }
 
 /// Notes a field of a span, or one before all spans.
-pub fn note_field(cells: &mut [Cell], in_span: bool, field: &Field) -> Result<(), OutOfMemory>
+#[inline(always)]
+pub fn note_field(
+    cells: &mut [Cell],
+    asked: &Asked,
+    in_span: bool,
+    field: &Field,
+) -> Result<(), OutOfMemory>
+    requires { Finds asked.now (map (λ c. c.column) cells.old) }
+    ensures { OnOk result (cells.new ≡ map (noted in_span field.now) cells.old) }
+{
+    match asked.cell_of(field.fxy) {
+        Some(index) if index < cells.len() => cells[index].note(in_span, field),
+        _ => note_in_all(cells, in_span, field),
+    }
+}
+
+/// Notes a field in each cell.
+fn note_in_all(cells: &mut [Cell], in_span: bool, field: &Field) -> Result<(), OutOfMemory>
     ensures { OnOk result (cells.new ≡ map (noted in_span field.now) cells.old) }
 {
     for cell in cells.iter_mut() {

@@ -17,12 +17,11 @@ pub enum Column {
     Told(Told),
     /// The first field with this descriptor.
     First(Fxy),
-    /// The n-th field with this descriptor, counted from 1.
+    /// The n-th field with this descriptor.
     Nth(Fxy, u64),
 }
 
 impl Column {
-    /// Returns the column of a word.
     pub fn from_word(text: &str) -> Option<Column>
         ensures can_be { IfSome result IsColumn }
         ensures named { IfSome result (λ column. word column ≡ text.now) }

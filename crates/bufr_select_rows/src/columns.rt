@@ -25,7 +25,7 @@ pub enum ColumnsFault<'a> {
     OutOfMemory,
 }
 
-/// Returns the columns of the words of a text, with commas between them.
+/// Returns the columns of words with commas between them.
 pub fn columns_of(alloc: Global, text: &str) -> Result<Vec<Column>, ColumnsFault<'_>>
     ensures can_be { IfOk result (λ columns. AllByRecursion IsColumn columns.items) }
     ensures named { IfOk result (λ columns. map word columns.items ≡ words_of text.now) }
@@ -70,7 +70,7 @@ fn add_column<'a>(
     }
 }
 
-/// Returns whether a column has this word.
+/// Returns whether one of the columns has this word.
 fn has_word(alloc: Global, columns: &[Column], here: &str) -> Result<bool, OutOfMemory>
     ensures { IfOk result (λ there. there
         ≡ list_any (λ column. bytes_eq (word column) here.now) columns.now) }

@@ -1,27 +1,23 @@
-//! Where a row comes from.
-
 ghost use Rattle.std.specs.Prelude.{◌≡◌};
 ghost use Rattle.bufr_select_rows.specs.Rows.{origin, told_number};
 
 use crate::told::Told;
 use bufr_sections::Head;
 
-/// Where a row comes from: a subset of a message, with what sections 1 and 3 say of it.
-#[derive(Clone, Copy, Debug)]
+/// A subset of a message, with what sections 1 and 3 say of it. Numbers count from 1.
+#[derive(Clone, Copy)]
 pub struct Origin<'a> {
-    /// The number of the input, counted from 1.
+    /// The number of the input.
     pub input: u128,
-    /// The number of the frame in its input, counted from 1.
+    /// The number of the frame in its input.
     pub message: u128,
     /// The place of the frame in its input.
     pub place: u64,
-    /// The number of the subset in its message, counted from 1.
+    /// The number of the subset in its message.
     pub subset: u64,
-    /// Section 1 of the message.
+    /// Section 1.
     pub head: &'a Head,
-    /// The flag for observed data.
     pub observed: bool,
-    /// The flag for compressed data.
     pub compressed: bool,
 }
 

@@ -1,30 +1,30 @@
 //! Rows of comma-separated values.
 
-ghost use Rattle.std.specs.Prelude.{◌≡◌, ◌++◌, ◌∷◌, [], map, OnErr, OnOk};
-ghost use Rattle.csv.specs.Writing.{default_writer, escaped, field_text, fields_text, needs_byte};
-ghost use Rattle.csv.specs.Writing.{needs_quotes, row_text};
+ghost use Rattle.std.specs.Prelude.{◌≡◌, ◌++◌, ◌∷◌, [], map, OnOk};
+ghost use Rattle.csv.specs.Writing.{default_writer, fields_text, row_text};
 ghost use Rattle.bufr_select_rows.specs.Cells.{row_of, shown};
 ghost use Rattle.bufr_select_rows.specs.Columns.{word};
 ghost use Rattle.bufr_select_rows.specs.Rows.{header};
 
 use crate::cell::Cell;
 use crate::column::Column;
+use crate::quotes::push_field;
 use bufr_base::OutOfMemory;
 use std::alloc::Global;
 
 // If memory runs out, the functions below leave a part of what they add.
 
 /// Adds the row of cells.
-pub fn push_row(text: &mut Vec<u8>, cells: &[Cell]) -> Result<(), OutOfMemory>
+pub(crate) fn push_row(text: &mut Vec<u8>, cells: &[Cell]) -> Result<(), OutOfMemory>
     ensures { OnOk result (text.new.items ≡ text.old.items ++ row_of cells.now) }
 {
     match cells {
         [] => push_blank(text),
         [first, others @ ..] => {
             if others.is_empty() {
-                return push_alone(text, first.shown());
+                return push_only(text, first);
             }
-            push_field(text, first.shown())?;
+            first.shown().push_to(text)?;
             push_others(text, others)?;
             push_end(text)
         }
@@ -40,10 +40,23 @@ fn push_others(text: &mut Vec<u8>, cells: &[Cell]) -> Result<(), OutOfMemory>
     let mut left = cells;
     while let [cell, others @ ..] = left {
         text.push(b',')?;
-        push_field(text, cell.shown())?;
+        cell.shown().push_to(text)?;
         left = others;
     }
     Ok(())
+}
+
+/// Adds the row of one cell.
+fn push_only(text: &mut Vec<u8>, cell: &Cell) -> Result<(), OutOfMemory>
+    ensures { OnOk result (text.new.items
+        ≡ text.old.items ++ row_text default_writer (shown cell.now ∷ [])) }
+{
+    let long = text.len();
+    cell.shown().push_to(text)?;
+    if text.len() == long {
+        return push_blank(text);
+    }
+    push_end(text)
 }
 
 /// Adds the header line of columns.
@@ -82,7 +95,6 @@ fn push_words(alloc: Global, text: &mut Vec<u8>, columns: &[Column]) -> Result<(
     Ok(())
 }
 
-/// Adds the row of one field.
 fn push_alone(text: &mut Vec<u8>, field: &[u8]) -> Result<(), OutOfMemory>
     ensures { OnOk result (text.new.items
         ≡ text.old.items ++ row_text default_writer (field.now ∷ [])) }
@@ -94,7 +106,6 @@ fn push_alone(text: &mut Vec<u8>, field: &[u8]) -> Result<(), OutOfMemory>
     push_end(text)
 }
 
-/// Adds the row of one empty field.
 fn push_blank(text: &mut Vec<u8>) -> Result<(), OutOfMemory>
     ensures { OnOk result (text.new.items ≡ text.old.items ++ 34 ∷ 34 ∷ 10 ∷ []) }
 {
@@ -106,50 +117,5 @@ fn push_end(text: &mut Vec<u8>) -> Result<(), OutOfMemory>
     ensures { OnOk result (text.new.items ≡ text.old.items ++ 10 ∷ []) }
 {
     text.push(b'\n')?;
-    Ok(())
-}
-
-/// Adds a field, between quotes if it needs them.
-fn push_field(text: &mut Vec<u8>, field: &[u8]) -> Result<(), OutOfMemory>
-    ensures { OnOk result (text.new.items
-        ≡ text.old.items ++ field_text default_writer field.now) }
-{
-    if !needs_quotes(field) {
-        return text.extend_from_slice(field);
-    }
-    text.push(b'"')?;
-    push_escaped(text, field)?;
-    text.push(b'"')?;
-    Ok(())
-}
-
-/// Returns whether a field needs quotes around it.
-fn needs_quotes(field: &[u8]) -> bool
-    ensures { result ≡ needs_quotes default_writer field.now }
-{
-    field.iter().any(|octet| needs_byte(*octet))
-}
-
-/// Returns whether an octet needs quotes around its field.
-fn needs_byte(octet: u8) -> bool
-    ensures { result ≡ needs_byte default_writer octet }
-{
-    octet == b',' || octet == b'"' || octet == b'\r' || octet == b'\n'
-}
-
-/// Adds the octets of a field, with each quote twice.
-#[tactic(auto, unfolding(csv::specs::Writing::escaped))]
-fn push_escaped(text: &mut Vec<u8>, field: &[u8]) -> Result<(), OutOfMemory>
-    ensures { OnOk result (text.new.items
-        ≡ text.old.items ++ escaped default_writer field.now) }
-{
-    let mut left = field;
-    while let [octet, others @ ..] = left {
-        if *octet == b'"' {
-            text.push(b'"')?;
-        }
-        text.push(*octet)?;
-        left = others;
-    }
     Ok(())
 }

@@ -1,45 +1,58 @@
 //! The text of a cell.
 
-ghost use Rattle.std.specs.Prelude.{◌≡◌, ◌++◌, [], decimal, OnOk};
+ghost use Rattle.std.specs.Prelude.{◌≡◌, ◌≤◌, ◌++◌, [], decimal, drop, length, pos, IfSome, OnOk};
+ghost use Rattle.csv.specs.Writing.{default_writer, field_text};
+ghost use Rattle.bufr_fields.specs.Values.{as_field, digits_by};
 ghost use Rattle.bufr_select_rows.specs.Values.{shown_text, shown_value};
 ghost use Rattle.bufr_select_rows.specs.Values as values;
 
+use crate::quotes::push_field;
+use crate::written::{MOST_PLACES, write_count, write_octets, write_value};
 use bufr_base::OutOfMemory;
-use bufr_fields::{Decimal, Field, Raw};
-use itoa::Buffer;
+use bufr_fields::{Decimal, Field, NumberField, Raw};
+use itoa::{Buffer, write_digits};
 use std::alloc::Global;
 use std::marker::Model;
 
-/// A text of a cell, whose room is used again. Contracts see its octets.
-#[derive(Debug, Drop)]
+/// The length of a row of digits.
+const ROW_END: usize = 31;
+
+/// What a text is.
+#[derive(Clone, Copy, Debug)]
+pub(crate) enum Standing {
+    /// The octets of the text.
+    Octets,
+    /// The value of a field with a number.
+    Number(NumberField),
+    /// The digits of a count.
+    Count(u64),
+}
+
+/// A text of a cell. It keeps a number as it is, until a row shows its digits. The room of its
+/// octets is used again. Contracts see the octets that it shows.
+#[derive(Drop)]
 pub struct Text {
+    standing: Standing,
     octets: Vec<u8>,
 }
 
 impl Model for Text {
     ghost use Rattle.std.specs.Prelude.{List, ℕ};
+    ghost use Rattle.bufr_select_rows.specs.Texts.{text_of};
 
     ghost Value = { List ℕ };
 
-    ghost view = { λ t. t.octets.items };
+    ghost view = { λ t. text_of t.standing t.octets.items };
 }
 
 impl Text {
-    /// Makes an empty text.
     pub(crate) fn new(alloc: Global) -> Text
         ensures { result ≡ [] }
     {
         Text {
+            standing: Standing::Octets,
             octets: Vec::new(alloc),
         }
-    }
-
-    /// Lends the octets.
-    #[inline(always)]
-    pub(crate) fn as_slice(&self) -> &[u8]
-        ensures { result.now ≡ self.now }
-    {
-        &self.octets
     }
 
     /// Empties the text.
@@ -47,36 +60,93 @@ impl Text {
     pub(crate) fn clear(&mut self)
         ensures { self.new ≡ [] }
     {
+        self.standing = Standing::Octets;
         self.octets.clear();
     }
 
-    /// Puts the digits of a number in place of the text.
+    /// Replaces the text by the digits of a number.
     pub(crate) fn put_number(&mut self, number: u128) -> Result<(), OutOfMemory>
         ensures { OnOk result (self.new ≡ decimal number) }
     {
-        self.octets.clear();
         match u64::try_from(number) {
-            Ok(number) => self
-                .octets
-                .extend_from_slice(Buffer::new().format(number).as_bytes()),
-            Err(_) => self
-                .octets
-                .extend_from_slice(Buffer::new().format(number).as_bytes()),
+            Ok(count) => {
+                self.standing = Standing::Count(count);
+                Ok(())
+            }
+            Err(_) => {
+                self.standing = Standing::Octets;
+                self.octets.clear();
+                self.octets
+                    .extend_from_slice(Buffer::new().format(number).as_bytes())
+            }
         }
     }
 
     /// Puts the value of a field in place of the text.
+    #[inline(always)]
     pub(crate) fn put_value(&mut self, field: &Field) -> Result<(), OutOfMemory>
         ensures { OnOk result (self.new ≡ shown_value field.now) }
     {
-        self.octets.clear();
-        push_value(&mut self.octets, field)
+        match &field.raw {
+            Raw::Number(number) => {
+                self.standing = Standing::Number(NumberField {
+                    fxy: field.fxy,
+                    spec: field.spec,
+                    number: *number,
+                });
+                Ok(())
+            }
+            Raw::Text(_) => {
+                self.standing = Standing::Octets;
+                self.octets.clear();
+                push_value(&mut self.octets, field)
+            }
+        }
+    }
+
+    /// Adds the text as a field of a row, or a part of it if memory runs out.
+    pub(crate) fn push_to(&self, text: &mut Vec<u8>) -> Result<(), OutOfMemory>
+        ensures { OnOk result (text.new.items
+            ≡ text.old.items ++ field_text default_writer self.now) }
+    {
+        match self.standing {
+            Standing::Octets => push_field(text, &self.octets),
+            Standing::Number(number) => push_value(text, &field_of(number)),
+            Standing::Count(count) => push_digits(text, count, 0),
+        }
+    }
+
+    /// Writes the text as a field of a row that goes on at `end`, and returns where it begins. `None` if the
+    /// room is short, or the text is not a small number or octets without need of quotes.
+    #[inline(always)]
+    pub(crate) fn write_to(&self, room: &mut [u8], end: usize) -> Option<usize>
+        requires { end ≤ length room.old }
+        ensures written { IfSome result (λ start. drop start room.new
+            ≡ field_text default_writer self.now ++ drop end room.old) }
+        ensures within { IfSome result (λ start. start ≤ end) }
+    {
+        match self.standing {
+            Standing::Octets => write_octets(room, end, &self.octets),
+            Standing::Number(number) => write_value(room, end, &field_of(number)),
+            Standing::Count(count) => write_count(room, end, count),
+        }
+    }
+}
+
+/// Makes a field of one with a number.
+#[inline(always)]
+fn field_of(number: NumberField) -> Field
+    ensures { result ≡ as_field number }
+{
+    Field {
+        fxy: number.fxy,
+        spec: number.spec,
+        raw: Raw::Number(number.number),
     }
 }
 
 // If memory runs out, the functions below leave a part of what they add.
 
-/// Adds the value of a field.
 fn push_value(text: &mut Vec<u8>, field: &Field) -> Result<(), OutOfMemory>
     ensures { OnOk result (text.new.items ≡ text.old.items ++ shown_value field.now) }
 {
@@ -90,11 +160,35 @@ fn push_value(text: &mut Vec<u8>, field: &Field) -> Result<(), OutOfMemory>
     }
 }
 
-/// Adds the digits of a number.
 fn push_number(text: &mut Vec<u8>, number: Decimal) -> Result<(), OutOfMemory>
     ensures { OnOk result (text.new.items ≡ text.old.items ++ values.text_of number) }
 {
-    number.push_text(text)
+    let size = number.units.unsigned_abs();
+    if size > u64::MAX as u128 || number.scale < 0 || number.scale > MOST_PLACES {
+        return number.push_text(text);
+    }
+    if number.units < 0 {
+        text.push(b'-')?;
+    }
+    push_digits(text, size as u64, number.scale as usize)
+}
+
+/// Adds the digits of `size`, `places` of them after a point.
+fn push_digits(text: &mut Vec<u8>, size: u64, places: usize) -> Result<(), OutOfMemory>
+    requires { places ≤ 20 }
+    ensures { OnOk result (text.new.items
+        ≡ text.old.items ++ digits_by (pos places) size) }
+{
+    let mut row = [b'0'; ROW_END];
+    let first = write_digits(size, &mut row, ROW_END);
+    if places == 0 {
+        return text.extend_from_slice(&row[first..]);
+    }
+    let point = ROW_END - places;
+    let start = first.min(point - 1);
+    text.extend_from_slice(&row[start..point])?;
+    row[point - 1] = b'.';
+    text.extend_from_slice(&row[point - 1..])
 }
 
 /// Returns a text without the spaces and NUL octets at its end.
@@ -111,7 +205,6 @@ fn trimmed(octets: &[u8]) -> &[u8]
     left
 }
 
-/// Returns whether an octet is a space or NUL.
 fn is_padding(octet: u8) -> bool
     ensures { result ≡ values.is_padding octet }
 {
@@ -131,14 +224,13 @@ fn push_text(text: &mut Vec<u8>, octets: &[u8]) -> Result<(), OutOfMemory>
     Ok(())
 }
 
-/// Returns whether an octet is shown as itself.
 fn is_shown_as_itself(octet: u8) -> bool
     ensures { result ≡ values.is_shown_as_itself octet }
 {
     octet >= 32 && octet <= 126 && octet != b'\\'
 }
 
-/// Adds an octet of a text: itself, or a backslash and two lower hexadecimal digits.
+/// Adds an octet of a text: itself, or a backslash and two digits.
 fn push_octet(text: &mut Vec<u8>, octet: u8) -> Result<(), OutOfMemory>
     ensures { OnOk result (text.new.items ≡ text.old.items ++ values.shown_octet octet) }
 {

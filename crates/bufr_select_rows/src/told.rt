@@ -1,23 +1,21 @@
-//! What a column can tell of a subset as a whole, and its word.
+//! Facts about a subset as a whole, and their words.
 
 ghost use Rattle.std.specs.Prelude.{◌≡◌, IfSome};
 ghost use Rattle.std.specs.Option.{IfNone};
 ghost use Rattle.bufr_select_rows.specs.Columns.{IsNoToldWord, all_told, told_word};
 
-/// A fact about a subset as a whole: where it comes from, or what sections 1 and 3 say of its message.
+/// A fact about a subset: where it comes from, or what sections 1 and 3 say. Numbers count from 1.
 #[derive(Clone, Copy, Debug, Drop, PartialEq, Eq)]
 pub enum Told {
-    /// The number of the input, counted from 1.
+    /// The number of the input.
     Input,
-    /// The number of the frame in its input, counted from 1.
+    /// The number of the frame in its input.
     Message,
     /// The place of the frame in its input.
     Place,
-    /// The number of the subset in its message, counted from 1.
+    /// The number of the subset in its message.
     Subset,
-    /// The originating centre.
     Centre,
-    /// The originating sub-centre.
     SubCentre,
     /// The update sequence number.
     Update,
@@ -31,17 +29,11 @@ pub enum Told {
     MasterVersion,
     /// The version of the local tables.
     LocalVersion,
-    /// The year.
     Year,
-    /// The month.
     Month,
-    /// The day of the month.
     Day,
-    /// The hour.
     Hour,
-    /// The minute.
     Minute,
-    /// The second.
     Second,
     /// 1 for observed data, else 0.
     Observed,
@@ -49,7 +41,6 @@ pub enum Told {
     Compressed,
 }
 
-/// All facts, in their order.
 static ALL_TOLD: [Told; 20] = [
     Told::Input,
     Told::Message,
@@ -74,7 +65,6 @@ static ALL_TOLD: [Told; 20] = [
 ];
 
 impl Told {
-    /// Returns the word of the fact.
     #[tactic(auto, unfolding(crate::specs::Columns::told_word))]
     pub fn word(self) -> &'static str
         ensures { result.now ≡ told_word self }
@@ -111,7 +101,6 @@ impl Told {
         &ALL_TOLD
     }
 
-    /// Returns the fact of a word.
     pub fn from_word(text: &str) -> Option<Told>
         ensures named { IfSome result (λ fact. told_word fact ≡ text.now) }
         ensures none { IfNone result (IsNoToldWord text.now) }

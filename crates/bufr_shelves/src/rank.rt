@@ -6,7 +6,7 @@ use bufr_entries::Key;
 
 /// A rank of an entry with a key: the update number, and then the octets. The derived order follows
 /// the order of the fields.
-#[derive(Clone, Debug, Drop, PartialEq, Eq, PartialOrd, Ord)]
+#[derive(Clone, Drop, PartialEq, Eq, PartialOrd, Ord)]
 pub(crate) struct Rank {
     pub(crate) update: u8,
     pub(crate) bytes: Items<u8>,

@@ -16,7 +16,7 @@ use std::marker::Model;
 mod file;
 
 /// A Table B: elements by descriptor.
-#[derive(Debug, Drop)]
+#[derive(Drop)]
 pub struct TableB {
     rows: BTreeMap<Fxy, Element>,
 }

@@ -9,7 +9,7 @@ use std::marker::Model;
 mod file;
 
 /// A Table D: sequences by descriptor.
-#[derive(Debug, Drop)]
+#[derive(Drop)]
 pub struct TableD {
     rows: BTreeMap<Fxy, Items<Fxy>>,
 }

@@ -8,7 +8,7 @@ use crate::table_d::TableD;
 use std::marker::Model;
 
 /// A Table B and a Table D.
-#[derive(Debug, Drop)]
+#[derive(Drop)]
 pub struct Tables {
     elements: TableB,
     sequences: TableD,

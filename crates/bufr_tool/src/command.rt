@@ -11,10 +11,9 @@ use bufr_base::OutOfMemory;
 use bufr_bits::{IntoWrite, Sink, Source};
 use bufr_engines::{run_add, run_check, run_encode, run_merge, run_show};
 use bufr_io::{
-    Input, LazyOutput, MOST_READS, Tally, ToolFault, Unopened, file_of, inputs_of, load_tables,
-    write_out,
+    Input, LazyOutput, MOST_READS, Tally, ToolFault, file_of, inputs_of, load_tables, write_out,
 };
-use bufr_program::{cannot_open, explain, say, status_of, words_or_help};
+use bufr_program::{cannot_open, explain, say, say_unopened, status_of, words_or_help};
 use bufr_tables::Tables;
 use std::alloc::Global;
 use std::fmt;
@@ -64,8 +63,7 @@ fn run_line<'a, R: Files, O: Write + Drop, E: Write + Drop>(
     };
     let mut inputs = match inputs_of(rt, alloc, &line.inputs) {
         Ok(inputs) => inputs,
-        Err(Unopened::Path(path)) => return cannot_open(alloc, NAME, path, err),
-        Err(Unopened::OutOfMemory) => return say(alloc, NAME, &ToolFault::OutOfMemory, err),
+        Err(why) => return say_unopened(alloc, NAME, &why, err),
     };
     let ended = run_under(rt, alloc, line, &mut b, &mut d, &mut inputs, out);
     status_of(alloc, NAME, &ended, &inputs, err)

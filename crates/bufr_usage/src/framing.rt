@@ -6,7 +6,7 @@ use bufr_frame::{Found, Framer, OutOfMemory};
 use std::alloc::Global;
 
 /// The frames of a stream.
-#[derive(Debug, Drop)]
+#[derive(Drop)]
 pub struct Frames {
     /// The frames that were sure before the end.
     pub sure: Vec<Found>,

@@ -1,6 +1,10 @@
 //! The callers on messages of one station. Octets are typed from the layout of messages.
 
+mod archive_face;
 mod faces;
+mod fault_face;
+mod part_face;
+mod tool_face;
 
 use super::*;
 use bufr_archive::NotAnArchive;
@@ -11,6 +15,14 @@ use std::alloc::Global;
 use std::process::Abort;
 
 const TABLE_B: &[u8] = b"FXY,BUFR_Unit,BUFR_Scale,BUFR_ReferenceValue,BUFR_DataWidth_Bits\n\
+001001,Numeric,0,0,7\n\
+001002,Numeric,0,0,10\n\
+004001,a,0,0,12\n\
+004002,mon,0,0,4\n\
+004003,d,0,0,6\n\
+004004,h,0,0,5\n\
+004005,min,0,0,6\n\
+004006,s,0,0,6\n\
 012101,K,2,0,16\n";
 
 /// 273.15 K, with an octet after the data: 50 octets.
@@ -104,6 +116,13 @@ const EMPTY: &[u8] = b"BUFR\x00\x00\x2F\x04\
 \x00\x00\x16\x00\x00\x62\x00\x00\x00\x00\x00\x02\x00\x25\x00\x07\xE8\x01\x0F\x0C\x00\x00\
 \x00\x00\x09\x00\x00\x00\x80\x0C\x65\
 \x00\x00\x04\x00\
+7777";
+
+/// Station 10384 at 2023-05-17 13:34:56, with other numbers in section 1: 68 octets.
+const STATION: &[u8] = b"BUFR\x00\x00\x44\x04\
+\x00\x00\x16\x00\x00\x62\x00\x07\x01\x00\x02\x03\x29\x25\x05\x07\xE8\x04\x0F\x0C\x1E\x2D\
+\x00\x00\x17\x00\x00\x01\x80\x01\x01\x01\x02\x04\x01\x04\x02\x04\x03\x04\x04\x04\x05\x04\x06\
+\x00\x00\x0B\x00\x14\xC0\x3F\x3A\xA2\xD8\xB8\
 7777";
 
 fn tables(rt: &impl Abort, alloc: Global) -> Tables {

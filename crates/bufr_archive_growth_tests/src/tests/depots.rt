@@ -2,7 +2,7 @@ use crate::tests::refusals::repeated;
 use crate::tests::same;
 use crate::tests::samples::{
     COLDER, MONTH_13, NEXT_IN_MONTH_13, NEXT_STATION, PAIR_BACK, PAIR_FRONT, SEQUENCES,
-    assert_holds, first, joined, tables,
+    SEQUENCES_BACK, SEQUENCES_FRONT, UPDATED, assert_holds, first, joined, tables,
 };
 use bufr_archive::{
     Answer, Depot, MapShelf, Plan, Ran, Shelf, SortedShelf, Step, StepFault, run_both,
@@ -28,25 +28,25 @@ fn feed(rt: &impl Abort, alloc: Global, slot: usize, parts: &[&[u8]]) -> Step {
     Step::Feed { slot, piece }
 }
 
-/// A step of a slot. Joins take in the first slot.
+/// A step of a slot. A join names the slot that this one takes in.
 enum Done {
     Feed(&'static [&'static [u8]]),
     End,
-    Merge,
-    Transfer,
-    Copy,
+    Merge(usize),
+    Transfer(usize),
+    Copy(usize),
 }
 
 use Done::{Copy, End, Feed, Merge, Transfer};
 
 fn step_of(rt: &impl Abort, alloc: Global, done: &Done, slot: usize) -> Step {
-    let (from, into) = (0, slot);
+    let into = slot;
     match done {
         Feed(parts) => feed(rt, alloc, slot, *parts),
         End => Step::End { slot },
-        Merge => Step::Merge { from, into },
-        Transfer => Step::Transfer { from, into },
-        Copy => Step::Copy { from, into },
+        Merge(from) => Step::Merge { from: *from, into },
+        Transfer(from) => Step::Transfer { from: *from, into },
+        Copy(from) => Step::Copy { from: *from, into },
     }
 }
 
@@ -65,7 +65,7 @@ fn answer_of(done: &Done, messages: u128, new: u128, before: u128) -> Answer {
             refused: 0,
             changed,
         },
-        Merge | Transfer | Copy => Answer::Joined,
+        Merge(_) | Transfer(_) | Copy(_) => Answer::Joined,
     }
 }
 
@@ -81,17 +81,32 @@ type Row = (
 
 /// Two messages with a stray `BUFR` between, so that the second is sure only at the end; and then
 /// each kind of join, into a slot with a report of a common key and one without a key.
-const ROWS: &[Row] = &[
+const JOINS: &[Row] = &[
     (Feed(&[PAIR_FRONT]), 0, 0, 0, &[], &[]),
     (Feed(&[PAIR_BACK, b"BUFR", MONTH_13]), 0, 1, 2, &[], TWO),
     (End, 0, 1, 1, TWO, THREE),
     (Feed(OTHERS), 1, 2, 2, &[], OTHERS),
-    (Merge, 1, 0, 0, OTHERS, ALL),
+    (Merge(0), 1, 0, 0, OTHERS, ALL),
     (Feed(OTHERS), 2, 2, 2, &[], OTHERS),
-    (Transfer, 2, 0, 0, OTHERS, ALL),
+    (Transfer(0), 2, 0, 0, OTHERS, ALL),
     (Feed(OTHERS), 3, 2, 2, &[], OTHERS),
-    (Copy, 3, 0, 0, OTHERS, ALL),
+    (Copy(0), 3, 0, 0, OTHERS, ALL),
 ];
+
+/// The first message in two pieces, a transfer to the other slot, and the update in both slots.
+const DEPOT: &[Row] = &[
+    (Feed(&[SEQUENCES_FRONT]), 0, 0, 0, &[], &[]),
+    (Feed(&[SEQUENCES_BACK]), 0, 1, 1, &[], &[SEQUENCES]),
+    (End, 0, 0, 0, &[SEQUENCES], &[SEQUENCES]),
+    (Transfer(0), 1, 0, 0, &[], &[SEQUENCES]),
+    (Feed(&[UPDATED]), 1, 1, 1, &[SEQUENCES], &[UPDATED]),
+    (End, 1, 0, 0, &[UPDATED], &[UPDATED]),
+    (Merge(1), 0, 0, 0, &[SEQUENCES], &[UPDATED]),
+    (Copy(0), 1, 0, 0, &[UPDATED], &[UPDATED]),
+];
+
+/// The slots of a depot, its steps, and what the first slot has after them.
+const DEPOTS: &[(usize, &[Row], &[&[u8]])] = &[(4, JOINS, THREE), (2, DEPOT, &[UPDATED])];
 
 /// The reports of the first slot, of another, and of that one after it takes in the first.
 const TWO: &[&[u8]] = &[SEQUENCES, NEXT_STATION];
@@ -110,9 +125,11 @@ fn assert_refused<S: Shelf>(
     row: &Row,
     joined: u128,
 ) {
-    let (_, slot, _, _, before, after) = row;
+    let (_, slot, _, new, before, after) = row;
     if joined == 0 {
         assert_slot(rt, alloc, depot, *slot, *before);
+    } else if joined == *new {
+        assert_slot(rt, alloc, depot, *slot, *after);
     } else {
         let told = (before.len() as u128).saturating_add(joined);
         assert_slot(rt, alloc, depot, *slot, first(rt, *after, told));
@@ -143,11 +160,17 @@ fn depot_of<'t, S: Shelf>(
 }
 
 fn steps<S: Shelf>(rt: &impl Abort, alloc: Global, tables: &Tables) {
-    let mut depot: Depot<S> = depot_of(rt, alloc, tables, 4);
-    for row in ROWS {
-        does(rt, alloc, &mut depot, row);
+    for (slots, rows, held) in DEPOTS {
+        let mut depot: Depot<S> = depot_of(rt, alloc, tables, *slots);
+        do_all(rt, alloc, &mut depot, *rows);
+        assert_slot(rt, alloc, &depot, 0, *held);
     }
-    assert_slot(rt, alloc, &depot, 0, THREE);
+}
+
+fn do_all<S: Shelf>(rt: &impl Abort, alloc: Global, depot: &mut Depot<S>, rows: &[Row]) {
+    for row in rows {
+        does(rt, alloc, depot, row);
+    }
 }
 
 #[test]

@@ -1,5 +1,6 @@
 //! Want of memory apart from faults.
 
+use bufr_archive::JoinFault;
 use bufr_base::{Failure, OutOfMemory};
 use std::fmt::Debug;
 use std::process::Abort;
@@ -13,6 +14,12 @@ pub(super) trait Refusal {
 impl Refusal for OutOfMemory {
     fn is_refusal(&self) -> bool {
         true
+    }
+}
+
+impl Refusal for JoinFault {
+    fn is_refusal(&self) -> bool {
+        matches!(self, JoinFault::OutOfMemory)
     }
 }
 

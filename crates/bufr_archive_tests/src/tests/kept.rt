@@ -1,4 +1,6 @@
-//! Messages added to archives, and archives read: what they keep, over both shelves.
+//! Messages added to archives, archives merged, copied and read: what they keep, over both shelves.
+ghost use Rattle.std.specs.Prelude.{◌≡◌};
+
 use super::{EDITION_5, MONTH_13, ROW_1, UPDATED, same, tables};
 use bufr_archive::{AddFault, Added, Archive, MapShelf, NotAnArchive, Shelf, SortedShelf};
 use bufr_base::Failure;
@@ -206,6 +208,117 @@ fn messages_added(rt: HostRuntime) {
     let tables = tables(&rt, rt.alloc());
     add_on::<MapShelf>(&rt, rt.alloc(), &tables);
     add_on::<SortedShelf>(&rt, rt.alloc(), &tables);
+}
+
+fn archive_of<'t, S: Shelf>(
+    rt: &impl Abort,
+    alloc: Global,
+    tables: &'t Tables,
+    text: &[u8],
+) -> Archive<'t, S>
+    ensures { result.tables ≡ tables.now }
+{
+    Archive::read(alloc, tables, text).expect(rt, "an archive")
+}
+
+/// What an archive takes in: the archive of a text, or a copy of itself.
+enum Taken {
+    Text(&'static [u8]),
+    Itself,
+}
+
+use Taken::{Itself, Text};
+
+/// What an archive takes in, and what it then holds.
+type Step = (Taken, Messages);
+
+/// A message, and what its archive takes in, one by one.
+const MERGED: &[(&'static [u8], &'static [Step])] = &[
+    (
+        &ROW_1,
+        &[
+            (Text(&UPDATED), &[&UPDATED]),
+            (Text(&MONTH_13), &[&UPDATED, &MONTH_13]),
+            (Text(&UPDATED), &[&UPDATED, &MONTH_13]),
+        ],
+    ),
+    (
+        &ROW_1,
+        &[
+            (Text(&MONTH_13), &[&ROW_1, &MONTH_13]),
+            (Text(&UPDATED), &[&UPDATED, &MONTH_13]),
+            (Text(&ROW_1), &[&UPDATED, &MONTH_13]),
+        ],
+    ),
+    (
+        &ROW_1,
+        &[
+            (Itself, &[&ROW_1]),
+            (Text(&UPDATED), &[&UPDATED]),
+            (Text(&MONTH_13), &[&UPDATED, &MONTH_13]),
+        ],
+    ),
+    (
+        &MONTH_13,
+        &[
+            (Text(b""), &[&MONTH_13]),
+            (Text(COUNT_1), &[COUNT_1, &MONTH_13]),
+            (Itself, &[COUNT_1, &MONTH_13]),
+        ],
+    ),
+];
+
+fn take_in<'t, S: Shelf>(
+    rt: &impl Abort,
+    alloc: Global,
+    tables: &'t Tables,
+    mut archive: Archive<'t, S>,
+    taken: &Taken,
+) -> Archive<'t, S>
+    requires { archive.tables ≡ tables.now }
+    ensures { result.tables ≡ tables.now }
+{
+    let other = match taken {
+        Text(text) => archive_of(rt, alloc, tables, *text),
+        Itself => archive.copy().expect(rt, "room"),
+    };
+    if let Itself = taken {
+        same(rt, other.len(), archive.len());
+    }
+    archive.merge(&other).expect(rt, "room");
+    archive
+}
+
+fn merge_all<S: Shelf>(
+    rt: &impl Abort,
+    alloc: Global,
+    tables: &Tables,
+    message: &[u8],
+    steps: &[Step],
+) {
+    let [(first, held), (second, held_then), (third, held_last)] = steps else {
+        panic!(rt; "three steps");
+    };
+    let archive: Archive<S> = archive_of(rt, alloc, tables, message);
+    let archive = take_in(rt, alloc, tables, archive, first);
+    assert_holds(rt, alloc, &archive, *held);
+    let archive = take_in(rt, alloc, tables, archive, second);
+    assert_holds(rt, alloc, &archive, *held_then);
+    let archive = take_in(rt, alloc, tables, archive, third);
+    assert_holds(rt, alloc, &archive, *held_last);
+}
+
+fn merge_on<S: Shelf>(rt: &impl Abort, alloc: Global, tables: &Tables) {
+    for (message, steps) in MERGED {
+        merge_all::<S>(rt, alloc, tables, *message, *steps);
+    }
+}
+
+#[test]
+fn archives_taken_in(rt: HostRuntime) {
+    let tables = tables(&rt, rt.alloc());
+    merge_on::<MapShelf>(&rt, rt.alloc(), &tables);
+    merge_on::<SortedShelf>(&rt, rt.alloc(), &tables);
 }
 
 /// Messages, and the place from which they are no archive, if they are none.

@@ -34,7 +34,7 @@ use Rattle.bufr_data.specs.Plain.Starts.{PassesRaw, fields_of, subset_at, Begins
 use Rattle.bufr_fields.specs.StepLaws.{asks_field, ends_there}
 use Rattle.bufr_data.proofs.AskedFacts.{one_passed, asked_from}
 use Rattle.bufr_data.proofs.ListFacts.{all_grown, map_grown}
-use Rattle.bufr_data.proofs.PlainFacts.Handed.{Handed, field_handed}
+use Rattle.bufr_data.proofs.PlainFacts.Handed.{Handed, field_handed, asked_there}
 use Rattle.bufr_data.proofs.PlainFacts.Reads.{asked_field, found_is}
 
 -- the fields laid out are those that the course asks for, none a count, up to the walk's place
@@ -194,18 +194,12 @@ first_handed (g ∷ fields) others f reader rest raw is stand read =
     (ends_of.left rest) (record { fxy = f.fxy; spec = f.spec; raw = raw }) stand
     (ap (λ fs. fields_at 1 1 (laid_course fs) (ends_of.left reader)) is ∙ step)
 
-then_there : (d : ℕ) (spec : Spec) (after : ℕ → List Bool → Result SubsetRead DataFault)
-    (found : Option (Raw × List Bool)) → IsOk (field_then 1 1 d spec after found)
-    → IsOk (raw_or_ends 1 1 found)
-then_there d spec after None ok = absurd cc
-then_there d spec after (Some x) ok = refl
-
 pub first_there : (others : List LaidField) (f : LaidField) (reader : BitPlace)
     → StandLaid (f ∷ others) reader → IsOk (raw_or_ends 1 1 (raw_at f.spec (ends_of.left reader)))
 unfolding fields_at laid_course
 first_there others f reader stand =
-    then_there f.fxy f.spec (λ n rest. fields_at 1 2 (laid_course others) rest)
-    (raw_at f.spec (ends_of.left reader)) stand
+    asked_there (laid_course (f ∷ others)) 0 f.fxy f.spec (λ n. laid_course others)
+    (ends_of.left reader) refl stand
 
 pub unmoved : (reader : BitPlace) → moved_on reader 0 ≡ reader
 unmoved reader =

@@ -16,6 +16,7 @@ use Rattle.bufr_fields.specs.declared.field.Field.{Field}
 use Rattle.bufr_data.specs.Plain.{SubsetRead, raw_at, field_number_at, fields_at}
 use Rattle.bufr_data.specs.Plain.Reads.{raw_or_ends, behind_fields}
 use Rattle.bufr_data.specs.Plain.Starts.{PassesRaw, PassesOn}
+use Rattle.bufr_fields.specs.FormLaws.{same_kind_is}
 use Rattle.bufr_data.proofs.KindFacts.{other_kind}
 use Rattle.bufr_data.proofs.PlainFacts.Reads.{behind_both}
 use Rattle.bufr_data.proofs.CompressedFacts.Passed.{number_raw, minimum_there, octets_none, text_raw}
@@ -23,6 +24,10 @@ use Rattle.bufr_data.proofs.CompressedFacts.Passed.{number_raw, minimum_there, o
 -- a spec of no text
 abbrev IsOther : Spec → Type 0
 IsOther spec = spec.kind ≡ kinds.Text → ⊥
+
+-- a count is no text
+pub other_than_text : (spec : Spec) → same_kind spec.kind kinds.Count ≡ true → IsOther spec
+other_than_text spec count text = absurd (let same = same_kind_is spec.kind kinds.Count count in cc)
 
 eight_times : (b w : ℕ) → b ≡ 8 * w → b ≡ w * 8
 eight_times b w e = omega (arith, e)

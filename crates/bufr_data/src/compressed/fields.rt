@@ -1,8 +1,9 @@
 //! Hands out the fields of a compressed subset.
 
-ghost use Rattle.std.specs.Prelude.{◌≡◌, ◌++◌, true, IfOk, IfSome, OnOk};
+ghost use Rattle.std.specs.Prelude.{◌≡◌, ◌++◌, true, IfOk, IfSome, OnOk, OnErr};
 ghost use Rattle.std.specs.Bool.{OnTrue, OnFalse};
 ghost use Rattle.bufr_data.specs.Handed.{HandsOut, HandsOutAsked, FirstIsAsked, PassesFirst};
+ghost use Rattle.bufr_data.specs.Handed.{PassesUnasked};
 ghost use Rattle.bufr_data.specs.Plain.{plain};
 ghost use Rattle.bufr_data.specs.Subsets.{Extends, has_own_form};
 
@@ -16,7 +17,7 @@ use std::alloc::Global;
 use std::marker::Model;
 
 /// A reader of the fields left in a compressed subset: one value of each column.
-#[derive(Debug, Drop)]
+#[derive(Drop)]
 pub(crate) struct ColumnFields<'v> {
     pub(crate) octets: &'v [u8],
     pub(crate) subsets: u16,
@@ -39,8 +40,9 @@ impl<'v> Model for ColumnFields<'v> {
 impl<'v> ColumnFields<'v> {
     /// Hands out the next field, or `None` at the end. After `OutOfMemory` it is still left.
     pub(crate) fn next(&mut self, alloc: Global) -> Result<Option<Field>, OutOfMemory>
-        ensures first { IfOk result (λ found. HandsOut self.old found self.new) }
+        ensures found { IfOk result (λ found. HandsOut self.old found self.new) }
         ensures formed { IfOk result (λ found. IfSome found (λ f. has_own_form f ≡ true)) }
+        ensures err { OnErr result (self.new ≡ self.old) }
     {
         let Some((place, others)) = self.places.split_first() else {
             return Ok(None);
@@ -60,8 +62,9 @@ impl<'v> ColumnFields<'v> {
         alloc: Global,
         asked: &A,
     ) -> Result<Option<Field>, OutOfMemory>
-        ensures { IfOk result (λ found.
+        ensures found { IfOk result (λ found.
             HandsOutAsked (A.is_asked asked.now) self.old found self.new) }
+        ensures err { OnErr result (PassesUnasked (A.is_asked asked.now) self.old self.new) }
     {
         while self.pass_first(asked) {}
         self.next(alloc)

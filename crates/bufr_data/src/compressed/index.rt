@@ -33,7 +33,7 @@ use std::alloc::Global;
 use std::marker::Model;
 
 /// A place of a column: its field and its first bit.
-#[derive(Clone, Copy, Debug, PartialEq)]
+#[derive(Clone, Copy, PartialEq)]
 pub(crate) struct Place {
     pub(crate) fxy: Fxy,
     pub(crate) spec: Spec,
@@ -41,7 +41,7 @@ pub(crate) struct Place {
 }
 
 /// An index of the columns of compressed subsets.
-#[derive(Debug, Drop)]
+#[derive(Drop)]
 pub struct Columns<'a> {
     octets: &'a [u8],
     subsets: u16,

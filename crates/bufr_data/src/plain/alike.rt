@@ -10,7 +10,7 @@ use bufr_expand::{Step, Template, Walk};
 use std::alloc::Global;
 
 /// A size that all plain subsets have.
-#[derive(Clone, Copy, Debug, PartialEq)]
+#[derive(Clone, Copy, PartialEq)]
 pub(crate) struct Alike {
     pub(crate) bits: u64,
     pub(crate) items: u64,
@@ -21,7 +21,7 @@ const _: () = prove!(size_of::<Alike>() == 16);
 
 /// A common size, if known. `Unasked` may also mean that too few bits were there; `Varied` that
 /// there is none.
-#[derive(Clone, Copy, Debug, PartialEq)]
+#[derive(Clone, Copy, PartialEq)]
 pub(crate) enum FixedSize {
     Unasked,
     Same(Alike),

@@ -1,22 +1,33 @@
 //! Hands out the fields of a plain subset along a walk.
 
-ghost use Rattle.std.specs.Prelude.{IfOk};
-ghost use Rattle.bufr_data.specs.Handed.{HandsOut, HandsOutAsked};
+ghost use Rattle.std.specs.Prelude.{◌≡◌, IfOk, IfErr, OnErr};
+ghost use Rattle.bufr_data.specs.Handed.{HandsOut, HandsOutAsked, PassesUnasked};
+ghost use Rattle.bufr_data.specs.Handed.{StandAhead, StepsTo, StepsToNone};
 
-use crate::plain::read::read_field;
+use crate::plain::layout::LaidField;
+use crate::plain::read::{read_count, read_number, read_raw};
 use bufr_base::OutOfMemory;
 use bufr_bits::BitReader;
-use bufr_expand::{Asks, Walk};
-use bufr_fields::Field;
+use bufr_expand::{Asks, Step, Walk};
+use bufr_fields::{Field, Raw};
 use std::alloc::Global;
 use std::marker::Model;
 
+/// What comes next in a plain subset: a step of the walk, a text that the walk has passed, or
+/// nothing.
+#[derive(Clone, Copy)]
+pub(crate) enum Due {
+    Step,
+    Text(LaidField),
+    Nothing,
+}
+
 /// A reader of the fields left in a plain subset, by a walk over the template.
-#[derive(Debug, Drop)]
+#[derive(Drop)]
 pub(crate) struct PlainFields<'v> {
     pub(crate) walk: Walk<'v>,
     pub(crate) reader: BitReader<'v>,
-    pub(crate) done: bool,
+    pub(crate) due: Due,
 }
 
 impl<'v> Model for PlainFields<'v> {
@@ -26,44 +37,53 @@ impl<'v> Model for PlainFields<'v> {
 
     ghost Value = { List Field };
 
-    ghost view = { λ s. fields_ahead s.done s.walk s.reader };
+    ghost view = { λ s. fields_ahead s.due s.walk s.reader };
 
-    ghost invariant = { λ s. StandAhead s.done s.walk s.reader };
+    ghost invariant = { λ s. StandAhead s.due s.walk s.reader };
 }
 
 impl<'v> PlainFields<'v> {
-    /// Hands out the next field, or `None` at the end. After `OutOfMemory` no field is left.
+    /// Hands out the next field, or `None` at the end. After `OutOfMemory` it is still left.
     pub(crate) fn next(&mut self, alloc: Global) -> Result<Option<Field>, OutOfMemory>
-        ensures { IfOk result (λ found. HandsOut self.old found self.new) }
+        ensures found { IfOk result (λ found. HandsOut self.old found self.new) }
+        ensures err { OnErr result (self.new ≡ self.old) }
     {
-        if self.done {
-            return Ok(None);
+        match step(self.due, &mut self.walk, &mut self.reader) {
+            Ok(field) => return Ok(Some(field)),
+            Err(due) => self.due = due,
         }
-        match read_field(alloc, &mut self.walk, &mut self.reader, 1) {
-            Ok(Some(field)) => Ok(Some(field)),
-            Ok(None) => {
-                self.done = true;
-                Ok(None)
+        let Due::Text(text) = self.due else {
+            return Ok(None);
+        };
+        match read_raw(alloc, text.spec, &mut self.reader, 1) {
+            Ok(raw) => {
+                self.due = Due::Step;
+                Ok(Some(Field {
+                    fxy: text.fxy,
+                    spec: text.spec,
+                    raw,
+                }))
             }
-            Err(_) => {
-                self.done = true;
-                Err(OutOfMemory)
-            }
+            Err(_) => Err(OutOfMemory),
         }
     }
 
-    /// Hands out the next chosen field; stops early if the walk shows that none is left.
+    /// Hands out the next chosen field; stops early if the walk shows that none is left. After
+    /// `OutOfMemory` it is still left.
     pub(crate) fn next_asked<A: Asks>(
         &mut self,
         alloc: Global,
         asked: &A,
     ) -> Result<Option<Field>, OutOfMemory>
-        ensures { IfOk result (λ found.
+        ensures found { IfOk result (λ found.
             HandsOutAsked (A.is_asked asked.now) self.old found self.new) }
+        ensures err { OnErr result (PassesUnasked (A.is_asked asked.now) self.old self.new) }
     {
-        if !self.done && self.walk.tells_no_more(asked) {
-            self.done = true;
-            return Ok(None);
+        if let Due::Step = self.due {
+            if self.walk.tells_no_more(asked) {
+                self.due = Due::Nothing;
+                return Ok(None);
+            }
         }
         while let Some(field) = self.next(alloc)? {
             if asked.asks(field.fxy) {
@@ -71,5 +91,40 @@ impl<'v> PlainFields<'v> {
             }
         }
         Ok(None)
+    }
+}
+
+/// Steps to the next field and reads it if it is a number. At a text and at the end it returns what
+/// comes next then.
+fn step(due: Due, walk: &mut Walk, reader: &mut BitReader) -> Result<Field, Due>
+    requires { StandAhead due walk.old reader.old }
+    ensures found { IfOk result (λ field.
+        StepsTo field due walk.old reader.old due walk.new reader.new) }
+    ensures others { IfErr result (λ later.
+        StepsToNone due walk.old reader.old later walk.new reader.new) }
+{
+    match due {
+        Due::Step => {}
+        _ => return Err(due),
+    }
+    let next = match walk.next() {
+        Ok(next) => next,
+        Err(_) => return Err(Due::Nothing),
+    };
+    match next {
+        Step::End => Err(Due::Nothing),
+        Step::Field(fxy, spec) => match read_number(spec, reader) {
+            Some(number) => {
+                let raw = Raw::Number(number);
+                Ok(Field { fxy, spec, raw })
+            }
+            None => Err(Due::Text(LaidField { fxy, spec })),
+        },
+        Step::Count(fxy, spec) => {
+            let number = read_count(spec, reader);
+            walk.count(number);
+            let raw = Raw::Number(number);
+            Ok(Field { fxy, spec, raw })
+        }
     }
 }

@@ -13,7 +13,7 @@ ghost use Rattle.bufr_data.specs.Plain.Starts.{PassesSubset, AllBegin, subset_fr
 
 use crate::fields::{FieldSource, Fields};
 use crate::plain::alike::Alike;
-use crate::plain::fields::PlainFields;
+use crate::plain::fields::{Due, PlainFields};
 use crate::plain::laid_fields::LaidFields;
 use crate::plain::layout::Layout;
 use crate::plain::pass::pass_subset;
@@ -33,7 +33,7 @@ use std::rc::Rc;
 const MOST_COUNTED_OCTETS: usize = usize::MAX / 8;
 
 /// A subset's first bit, the bit after it, and the items of the message before it.
-#[derive(Clone, Copy, Debug, PartialEq)]
+#[derive(Clone, Copy, PartialEq)]
 pub(crate) struct SubsetStart {
     pub(crate) bit: u128,
     pub(crate) end: u128,
@@ -41,7 +41,7 @@ pub(crate) struct SubsetStart {
 }
 
 /// An index of the plain subsets in some octets, with their layout if there is one.
-#[derive(Debug, Drop)]
+#[derive(Drop)]
 pub(crate) struct PlainSubsets<'a> {
     pub(crate) octets: &'a [u8],
     pub(crate) template: Template,
@@ -89,7 +89,7 @@ impl<'a> PlainSubsets<'a> {
                 let met = PlainFields {
                     walk,
                     reader,
-                    done: false,
+                    due: Due::Step,
                 };
                 Ok(Fields {
                     standing: FieldSource::Plain(met),

@@ -1,8 +1,7 @@
 //! Hands out the fields of a plain subset by its layout.
 
-ghost use Rattle.std.specs.Prelude.{◌≡◌, ◌≤◌, Bool, List, length, drop, Some, Ok, IfOk, IsOk, IfSome, IfNone};
+ghost use Rattle.std.specs.Prelude.{◌≡◌, ◌≤◌, Bool, List, length, drop, Some, IfOk, IsOk, IfSome, IfNone, OnErr};
 ghost use Rattle.bufr_bits.specs.Ends.{left};
-ghost use Rattle.bufr_fields.specs.declared.field.Raw.TheVariants.{Number};
 ghost use Rattle.bufr_data.specs.Handed.{HandsOut, HandsOutAsked, FirstIsAsked, PassesUnasked};
 ghost use Rattle.bufr_data.specs.Handed.{PassesLaid, StandLaid, fields_laid, moved_on};
 ghost use Rattle.bufr_fields.specs.Values.{as_field};
@@ -12,17 +11,16 @@ ghost use Rattle.bufr_data.specs.Plain.Starts.{PassesRaw};
 
 use crate::plain::layout::LaidField;
 use crate::plain::pass::bits_of;
-use crate::plain::read::read_raw;
+use crate::plain::read::{read_number, read_raw};
 use bufr_base::OutOfMemory;
 use bufr_bits::BitReader;
 use bufr_expand::{Asks, Spec};
 use bufr_fields::{Field, NumberField};
-use bufr_tables::Kind;
 use std::alloc::Global;
 use std::marker::Model;
 
 /// A reader of the fields left in a plain subset with a layout. Contracts see the list of fields.
-#[derive(Debug, Drop)]
+#[derive(Drop)]
 pub struct LaidFields<'v> {
     pub(crate) fields: &'v [LaidField],
     pub(crate) reader: BitReader<'v>,
@@ -41,11 +39,12 @@ impl<'v> Model for LaidFields<'v> {
 }
 
 impl<'v> LaidFields<'v> {
-    /// Hands out the next field, or `None` at the end. After `OutOfMemory` no field is left.
+    /// Hands out the next field, or `None` at the end. After `OutOfMemory` it is still left.
     // A call would move each field through memory.
     #[inline(always)]
     pub(crate) fn next(&mut self, alloc: Global) -> Result<Option<Field>, OutOfMemory>
-        ensures { IfOk result (λ found. HandsOut self.old found self.new) }
+        ensures found { IfOk result (λ found. HandsOut self.old found self.new) }
+        ensures err { OnErr result (self.new ≡ self.old) }
     {
         let Some((field, others)) = self.fields.split_first() else {
             return Ok(None);
@@ -60,15 +59,12 @@ impl<'v> LaidFields<'v> {
                     raw,
                 }))
             }
-            Err(_) => {
-                self.fields = &[];
-                Err(OutOfMemory)
-            }
+            Err(_) => Err(OutOfMemory),
         }
     }
 
     /// Hands out the next chosen field, or `None` if none is left, and skips the others unread.
-    /// After `OutOfMemory` no field is left.
+    /// After `OutOfMemory` it is still left.
     // A call would move each field through memory.
     #[inline(always)]
     pub fn next_asked<A: Asks>(
@@ -76,8 +72,9 @@ impl<'v> LaidFields<'v> {
         alloc: Global,
         asked: &A,
     ) -> Result<Option<Field>, OutOfMemory>
-        ensures { IfOk result (λ found.
+        ensures found { IfOk result (λ found.
             HandsOutAsked (A.is_asked asked.now) self.old found self.new) }
+        ensures err { OnErr result (PassesUnasked (A.is_asked asked.now) self.old self.new) }
     {
         self.pass_unasked(asked);
         self.next(alloc)
@@ -133,20 +130,6 @@ fn by_parts(spec: Spec) -> Spec
         scale,
         reference,
         width,
-    }
-}
-
-/// Reads a number that is there; at a text returns `None` without moving.
-#[inline(always)]
-fn read_number(spec: Spec, reader: &mut BitReader) -> Option<u64>
-    requires { IsOk (raw_or_ends 1 1 (raw_at spec (left reader.old))) }
-    ensures found { IfSome result (λ number.
-        raw_or_ends 1 1 (raw_at spec (left reader.old)) ≡ Ok (Number number, left reader.new)) }
-    ensures unmoved { IfNone result (reader.new ≡ reader.old) }
-{
-    match spec.kind {
-        Kind::Text => None,
-        _ => Some(reader.take_left(spec.width)),
     }
 }
 

@@ -16,14 +16,14 @@ use std::alloc::Global;
 const MOST_LAID_FIELDS: usize = 4096;
 
 /// A field of every subset.
-#[derive(Clone, Copy, Debug, PartialEq)]
+#[derive(Clone, Copy, PartialEq)]
 pub(crate) struct LaidField {
     pub(crate) fxy: Fxy,
     pub(crate) spec: Spec,
 }
 
 /// A layout: the fields of every subset in order, and the number of its items.
-#[derive(Debug, Drop)]
+#[derive(Drop)]
 pub(crate) struct Layout {
     pub(crate) fields: Items<LaidField>,
     pub(crate) items: u64,

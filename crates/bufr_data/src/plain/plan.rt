@@ -14,7 +14,7 @@ const MANY_SUBSETS: u16 = 8;
 
 /// A template's layout, if it pays. Many templates serve one message, so a first one of few subsets
 /// gets none.
-#[derive(Debug, Drop)]
+#[derive(Drop)]
 pub(crate) enum FieldLayout {
     Unserved,
     Served,

@@ -1,10 +1,13 @@
 //! Reads one plain subset.
 
-ghost use Rattle.std.specs.Prelude.{◌≡◌, ◌≤◌, ℕ, Bool, List, Err, OnErr, OnSome, IfOk, IfErr};
+ghost use Rattle.std.specs.Prelude.{◌≡◌, ◌≤◌, ℕ, Bool, true, List, Ok, Err, OnErr, OnSome, IfOk, IfErr, IfSome, IfNone, IsOk};
 ghost use Rattle.bufr_bits.specs.Ends.{left};
 ghost use Rattle.bufr_base.specs.Answers.{Gives, Fails};
 ghost use Rattle.bufr_expand.specs.Courses.{course};
 ghost use Rattle.bufr_expand.specs.Walks as walks;
+ghost use Rattle.bufr_tables.specs.declared.element.Kind.TheVariants as kinds;
+ghost use Rattle.bufr_tables.specs.Elements.{same_kind};
+ghost use Rattle.bufr_fields.specs.declared.field.Raw.TheVariants.{Number};
 ghost use Rattle.bufr_data.specs.Compressed.Reading.{ColumnsFound};
 ghost use Rattle.bufr_data.specs.Plain.{SubsetRead, raw_at, stopped, fields_at};
 ghost use Rattle.bufr_data.specs.Plain.Reads.{raw_or_ends, Reads};
@@ -121,6 +124,7 @@ pub(crate) fn read_raw(
         (raw_or_ends 1 i (raw_at spec (left reader.old))) }
     ensures octets { reader.new.octets ≡ reader.old.octets }
     ensures onward { reader.old.place ≤ reader.new.place }
+    ensures err { OnErr result (reader.new ≡ reader.old) }
 {
     let ends = Failure::Fault(DataFault::DataEnds(1, i));
     match spec.kind {
@@ -137,4 +141,28 @@ pub(crate) fn read_raw(
             Some(number) => Ok(Raw::Number(number)),
         },
     }
+}
+
+/// Reads a number that is there; at a text returns `None` without moving.
+#[inline(always)]
+pub(crate) fn read_number(spec: Spec, reader: &mut BitReader) -> Option<u64>
+    requires { IsOk (raw_or_ends 1 1 (raw_at spec (left reader.old))) }
+    ensures found { IfSome result (λ number.
+        raw_or_ends 1 1 (raw_at spec (left reader.old)) ≡ Ok (Number number, left reader.new)) }
+    ensures unmoved { IfNone result (reader.new ≡ reader.old) }
+{
+    match spec.kind {
+        Kind::Text => None,
+        _ => Some(reader.take_left(spec.width)),
+    }
+}
+
+/// Reads a count that is there.
+#[inline(always)]
+pub(crate) fn read_count(spec: Spec, reader: &mut BitReader) -> u64
+    requires count { same_kind spec.kind kinds.Count ≡ true }
+    requires there { IsOk (raw_or_ends 1 1 (raw_at spec (left reader.old))) }
+    ensures { raw_or_ends 1 1 (raw_at spec (left reader.old)) ≡ Ok (Number result, left reader.new) }
+{
+    reader.take_left(spec.width)
 }

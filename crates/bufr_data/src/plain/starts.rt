@@ -7,14 +7,14 @@ use crate::plain::index::SubsetStart;
 use std::marker::Model;
 
 /// A spacing of starts: a list, or the first bit, the common size and the number of subsets.
-#[derive(Debug, Drop)]
+#[derive(Drop)]
 pub(crate) enum Spacing {
     Listed(Vec<SubsetStart>),
     Even(u64, Alike, usize),
 }
 
 /// A list of the starts of all subsets. Contracts see it as a list.
-#[derive(Debug, Drop)]
+#[derive(Drop)]
 pub(crate) struct Starts {
     pub(crate) spacing: Spacing,
 }

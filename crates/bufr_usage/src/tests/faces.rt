@@ -1,12 +1,14 @@
-//! The public calls of the faces, each by its path and with its parameters, on one message.
+//! The public calls of the faces below bufr_archive, each by its path and with its parameters.
+ghost use Rattle.std.specs.Prelude.{◌≡◌, true};
+ghost use Rattle.bufr_expand.specs.Walks.{IsBelowCount, left, waits};
 
-use super::{BARE, tables};
+use super::{BARE, TABLE_B, tables};
 use bufr_tables::{Element, Fxy, Kind, Tables};
 use std::alloc::Global;
 use std::process::Abort;
 
 /// The listing of `BARE`.
-const BARE_LISTED: &[u8] = b"message\n\
+pub(super) const BARE_LISTED: &[u8] = b"message\n\
 section1 98 0 0 0 2 0 37 0\n\
 time 2024 1 15 12 0 0\n\
 flags observed\n\
@@ -15,12 +17,34 @@ subset\n\
 012101 273.15\n\
 end\n";
 
-/// The descriptor of an air temperature.
 fn temperature(rt: &impl Abort) -> Fxy {
     Fxy::new(0, 12, 101).expect(rt, "a descriptor")
 }
 
-/// The template of one air temperature.
+#[test]
+fn descriptors(rt: HostRuntime) {
+    let fxy = temperature(&rt);
+    assert!(rt; fxy.f() == 0 && fxy.x() == 12 && fxy.y() == 101);
+    assert!(rt; Fxy::from_text(b"012101") == Some(fxy));
+}
+
+const TABLE_D: &[u8] = b"FXY1,FXY2\n301250,012101\n";
+
+#[test]
+fn tables_looked_up(rt: HostRuntime) {
+    let alloc = rt.alloc();
+    let b: Result<bufr_tables::TableB, bufr_tables::Failure<bufr_tables::TableFault>> =
+        bufr_tables::TableB::parse(alloc, TABLE_B);
+    let d: Result<bufr_tables::TableD, bufr_tables::Failure<bufr_tables::TableFault>> =
+        bufr_tables::TableD::parse(alloc, TABLE_D);
+    let wanted: Tables = Tables::new(b.expect(&rt, "a table"), d.expect(&rt, "a table"));
+    let element: &Element = wanted.element(temperature(&rt)).expect(&rt, "an element");
+    assert!(rt; element.kind == Kind::Quantity);
+    let sequence = Fxy::from_text(b"301250").expect(&rt, "a descriptor");
+    assert!(rt; wanted.sequence(sequence) == Some(&[temperature(&rt)]));
+    assert!(rt; wanted.same(&wanted) && !wanted.same(&tables(&rt, alloc)));
+}
+
 fn template(rt: &impl Abort, alloc: Global, tables: &Tables) -> bufr_expand::Template {
     bufr_expand::Template::build(alloc, tables, &[temperature(rt)]).expect(rt, "a template")
 }
@@ -59,7 +83,6 @@ fn devices(rt: HostRuntime) {
     assert!(rt; sink.into_inner().as_slice() == b"AB".as_slice());
 }
 
-/// Which step a walk takes.
 fn is_field(step: Result<bufr_expand::Step, bufr_expand::WalkFault>) -> bool {
     match step {
         Ok(bufr_expand::Step::Field(_, _)) => true,
@@ -80,6 +103,14 @@ fn walks(rt: HostRuntime) {
     );
     assert!(rt; is_field(walk.next()));
     assert!(rt; walk.items() == 1);
+}
+
+/// Gives a walk the number of its count; bufr_expand_tests takes the steps before and after it.
+fn count(walk: &mut bufr_expand::Walk<'_>, number: u64)
+    requires asked { waits walk.old ≡ true }
+    requires fits { IsBelowCount (left walk.old) number }
+{
+    walk.count(number);
 }
 
 #[test]
@@ -106,6 +137,13 @@ fn operators(rt: HostRuntime) {
             width: 18,
         },)
     );
+}
+
+#[test]
+fn decimals(rt: HostRuntime) {
+    let parsed = bufr_data::Decimal::parse(b"-0.01", 2);
+    let decimal: bufr_data::Decimal = parsed.expect(&rt, "a decimal");
+    assert!(rt; decimal.units == -1 && decimal.scale == 2);
 }
 
 /// The one plain subset of octets.
@@ -212,7 +250,6 @@ fn views(rt: HostRuntime) {
     assert!(rt; descriptors.len() == 1 && subset.fields.len() == 1);
 }
 
-/// Writes the listing of a message.
 fn listed(rt: &impl Abort, alloc: Global, message: &bufr_message::Message) -> Vec<u8> {
     let mut sink = bufr_bits::IntoWrite::new(Vec::new(alloc));
     let written: Result<(), bufr_message::listing::ListingWriteFault> =

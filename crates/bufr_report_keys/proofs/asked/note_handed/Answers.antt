@@ -6,7 +6,7 @@ use Rattle.bufr_report_keys.proofs.asked.note_handed.Goals as goal
 
 pub loop-left-preserved : goal.loop-left-preserved
 loop-left-preserved c =
-    let handed = rw c.in-Some.is at c.in_ok-field-in-Err.ensures in
+    let handed = rw c.in-Some.is at c.in_ok-field-in-Err.ensures.found in
     ap (all_noted c.next_asked.new.self) c.note.ensures
     ∙ sym (next_noted c.loop-left.left c.next_asked.new.self c.in-Some.field
     c.loop-left.values handed)
@@ -15,5 +15,5 @@ loop-left-preserved c =
 pub returns-in_default : goal.returns-in_default
 returns-in_default c =
     sym (none_left c.loop-left.left c.next_asked.new.self c.in_ok-field-in-Err.field-0
-    c.loop-left.values c.in_ok-field-in-Err.ensures c.in_default.not-Some)
+    c.loop-left.values c.in_ok-field-in-Err.ensures.found c.in_default.not-Some)
     ∙ c.loop-left.invariant

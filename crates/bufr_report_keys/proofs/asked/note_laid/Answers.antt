@@ -14,7 +14,7 @@ loop-number-preserved-in-Some c =
 
 pub loop-number-preserved : goal.loop-number-preserved
 loop-number-preserved c =
-    let handed = rw c.in-Some-2.is at c.in_ok-field.ensures in
+    let handed = rw c.in-Some-2.is at c.in_ok-field.ensures.found in
     ap (all_noted c.next_asked.new.self) c.note.ensures
     ∙ sym (next_noted c.next_asked_number.new.self c.next_asked.new.self c.in-Some-2.field
     c.loop-number.values handed)
@@ -25,7 +25,7 @@ loop-number-preserved c =
 pub returns-in_default-2 : goal.returns-in_default-2
 returns-in_default-2 c =
     sym (none_left c.next_asked_number.new.self c.next_asked.new.self c.in_ok-field.field-0
-    c.loop-number.values c.in_ok-field.ensures c.in_default-2.not-Some)
+    c.loop-number.values c.in_ok-field.ensures.found c.in_default-2.not-Some)
     ∙ sym (all_passed c.loop-number.fields c.next_asked_number.new.self c.loop-number.values
     c.in_default.ensures.others)
     ∙ c.loop-number.invariant

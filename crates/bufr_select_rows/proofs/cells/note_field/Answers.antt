@@ -1,16 +1,17 @@
--- The loop of `note_field`: one cell more.
-use Rattle.std.proofs.Common.{◌≡◌, ◌∙◌, ap, ◌+◌, ◌++◌, drop, map, slice_set, subst, sym, take}
-use Rattle.std.proofs.lemmas.List.Edits.{map_over_more}
-use Rattle.bufr_select_rows.specs.Cells.{noted}
+-- The clause of `note_field`: the only cell that asks for the field notes it.
+use Rattle.std.proofs.Common.{◌∙◌, ap, slice_set}
 use Rattle.bufr_select_rows.specs.declared.cell.Cell.{Cell}
+use Rattle.bufr_select_rows.proofs.NotedFacts.{one_noted}
+use Rattle.bufr_select_rows.proofs.RowFacts.{on_ok_then}
 use Rattle.bufr_select_rows.proofs.cells.note_field.Goals as goal
 
-pub loop-cell-preserved : goal.loop-cell-preserved
-loop-cell-preserved c =
-    subst
-    (λ (x : Cell). slice_set c.loop-cell.cells c.loop-cell.cell-index x
-    ≡ map (noted c.args.in_span c.args.field.now) (take (c.loop-cell.cell-index + 1) c.args.cells.now)
-    ++ drop (c.loop-cell.cell-index + 1) c.args.cells.now)
-    (sym (c.in_ok-note.ensures ∙ ap (noted c.args.in_span c.args.field.now) (sym c.cell-item.is)))
-    (map_over_more (noted c.args.in_span c.args.field.now) c.args.cells.now c.loop-cell.cells c.loop-cell.cell-index c.cell-item.result
-    c.loop-cell-test.true c.loop-cell.invariant c.cell-item.is)
+pub returns-in-Some : goal.returns-in-Some
+returns-in-Some c =
+    let cells = c.args.cells.now in
+    let i = c.in-Some.index in
+    let f = c.args.field.now in
+    on_ok_then c.note.result
+    (λ e. ap (λ (x : Cell). slice_set cells i x) e
+    ∙ one_noted c.args.in_span f i cells c.index-cells-index.result
+    (c.requires f.fxy i c.in-Some.ensures) c.if-index-cells.true)
+    c.note.ensures

@@ -14,8 +14,8 @@ pub returns-in_ok-push_others-in-len1-up : goal.returns-in_ok-push_others-in-len
 returns-in_ok-push_others-in-len1-up c =
     on_ok_then c.push_end.result
     (row_pieces shown c.args.cells.now c.first-item.result c.args.text.now.items
-    c.push_field.new.text.items c.push_others.new.text.items c.push_end.new.text.items
-    c.shown-in-len1-up.result.now c.in-len1-up.len_at_least c.first-item.is
-    (sym c.is_empty.ensures ∙ c.if-is_empty.false) c.shown-in-len1-up.ensures
-    c.in_ok-push_field-in-len1-up.ensures c.in_ok-push_others-in-len1-up.ensures)
+    c.push_to.new.text.items c.push_others.new.text.items c.push_end.new.text.items
+    c.shown.result.now c.in-len1-up.len_at_least c.first-item.is
+    (sym c.is_empty.ensures ∙ c.if-is_empty.false) c.shown.ensures
+    c.in_ok-push_to-in-len1-up.ensures c.in_ok-push_others-in-len1-up.ensures)
     c.push_end.ensures

@@ -33,7 +33,7 @@ fields-preserved-in_ok-write_long-in-Ok-Some g c =
     record {
       amid = field_more _ _ _ field c.args.self.now p c.write_long.new.self _ _ _
           c.in_ok-write_long-in-Ok-Some.field-0
-          (rw (c.in-Ok-Some.is, so) at c.next-next.ensures) c.fields.invariant.amid
+          (rw (c.in-Ok-Some.is, so) at c.next-next.ensures.found) c.fields.invariant.amid
           (adds_written (line (field_line field)) p q c.write_long.new.self mid mid _
           (Ok c.in_ok-write_long-in-Ok-Some.field-0) held e.writes);
       keeps = keeps_both _ _ _ c.fields.invariant.keeps
@@ -61,7 +61,7 @@ fields-preserved-in_ok-write_long-in-Ok-Some-2 g c =
     record {
       amid = field_more _ _ _ field c.args.self.now p c.write_long.new.self _ _ _
           c.in_ok-write_long-in-Ok-Some.field-0
-          (rw (c.in-Ok-Some.is, so) at c.next-next.ensures) c.fields.invariant.amid
+          (rw (c.in-Ok-Some.is, so) at c.next-next.ensures.found) c.fields.invariant.amid
           (adds_written (line (field_line field)) p q c.write_long.new.self mid mid _
           (Ok c.in_ok-write_long-in-Ok-Some.field-0) held e.writes);
       keeps = keeps_both _ _ _ c.fields.invariant.keeps
@@ -89,7 +89,7 @@ fields-preserved-in_ok-write_long-in-Ok-Some-3 g c =
     record {
       amid = field_more _ _ _ field c.args.self.now p c.write_long.new.self _ _ _
           c.in_ok-write_long-in-Ok-Some.field-0
-          (rw (c.in-Ok-Some.is, so) at c.next-next.ensures) c.fields.invariant.amid
+          (rw (c.in-Ok-Some.is, so) at c.next-next.ensures.found) c.fields.invariant.amid
           (adds_written (line (field_line field)) p q c.write_long.new.self mid mid _
           (Ok c.in_ok-write_long-in-Ok-Some.field-0) held e.writes);
       keeps = keeps_both _ _ _ c.fields.invariant.keeps
@@ -165,7 +165,7 @@ returns-in_err-write_long-in-Ok-Some-clause-prints g c =
     c.from_residual-in_err-write_long-in-Ok-Some.result e
     c.from_residual-in_err-write_long-in-Ok-Some.ensures.1
     (field_stopped _ _ _ field c.args.self.now p c.write_long.new.self _ _ _ e
-    (rw (c.in-Ok-Some.is, so) at c.next-next.ensures) c.fields.invariant.amid
+    (rw (c.in-Ok-Some.is, so) at c.next-next.ensures.found) c.fields.invariant.amid
     (adds_written (line (field_line field)) p q c.write_long.new.self mid mid _ (Err e) held
     c.in_err-write_long-in-Ok-Some.ensures.writes))
 

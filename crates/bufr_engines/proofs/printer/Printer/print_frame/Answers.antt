@@ -3,7 +3,7 @@
 use Rattle.std.proofs.Common.{◌++◌, ap, subst, sym, arith}
 use Rattle.bufr_io.specs.Taking.{frame_at}
 use Rattle.bufr_engines.specs.declared.printer.Printer.{Printer}
-use Rattle.bufr_engines.specs.Lines.{AreWholeLines}
+use Rattle.bufr_io.specs.Lines.{AreWholeLines}
 use Rattle.bufr_engines.specs.Output.{frame_text}
 use Rattle.bufr_engines.specs.StreamEngines.{PrintsFrame, WritesAllBut}
 use Rattle.bufr_io.specs.PassingLaws.{passed}

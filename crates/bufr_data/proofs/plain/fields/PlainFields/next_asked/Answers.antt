@@ -1,23 +1,33 @@
 -- A field that is not chosen is one more of those skipped.
-use Rattle.std.proofs.Common.{refl, sym, ◌∙◌}
-use Rattle.bufr_data.proofs.AskedFacts.{none_ahead, one_passed}
+use Rattle.std.proofs.Common.{refl, sym, subst, ◌∙◌}
+use Rattle.bufr_data.specs.Handed.{PassesUnasked}
+use Rattle.bufr_data.proofs.AskedFacts.{none_ahead, one_passed, on_refusal}
 use Rattle.bufr_data.proofs.plain.fields.PlainFields.next_asked.Goals as goal
 
-pub returns-then-tells_no_more : goal.returns-then-tells_no_more
-returns-then-tells_no_more g c = (
-  none_ahead (g.A.Asks.is_asked c.args.asked.now) c.self.inside.done c.self.inside.walk c.self.inside.reader
-      c.args.self.now c.if-not-self.true c.self.view_is c.if-tells_no_more.ensures,
+pub returns-then-tells_no_more-clause-found : goal.returns-then-tells_no_more-clause-found
+returns-then-tells_no_more-clause-found g c = (
+  none_ahead (g.A.Asks.is_asked c.args.asked.now) c.self.inside.due c.self.inside.walk
+      c.self.inside.reader c.args.self.now c.in-Step.is c.self.view_is
+      c.if-tells_no_more.ensures,
   refl,
 )
 
 pub loop-field-preserved-else-asks : goal.loop-field-preserved-else-asks
 loop-field-preserved-else-asks g c =
-    let first = rw c.in-Some.is at c.in_ok-field.ensures in
-    one_passed (g.A.Asks.is_asked c.args.asked.now) c.args.self.now c.loop-field.self c.next.new.self
-    c.loop-field.invariant (c.in-Some.field, sym c.asks.ensures ∙ c.if-asks.false, first)
+    let first = rw c.in-Some.is at c.in_ok-field.ensures.found in
+    one_passed (g.A.Asks.is_asked c.args.asked.now) c.args.self.now c.loop-field.self
+    c.next.new.self c.loop-field.invariant
+    (c.in-Some.field, sym c.asks.ensures ∙ c.if-asks.false, first)
 
 pub loop-field-preserved : goal.loop-field-preserved
 loop-field-preserved g c =
-    let first = rw c.in-Some.is at c.in_ok-field.ensures in
-    one_passed (g.A.Asks.is_asked c.args.asked.now) c.args.self.now c.loop-field.self c.next.new.self
-    c.loop-field.invariant (c.in-Some.field, sym c.asks.ensures ∙ c.if-asks.false, first)
+    let first = rw c.in-Some.is at c.in_ok-field.ensures.found in
+    one_passed (g.A.Asks.is_asked c.args.asked.now) c.args.self.now c.loop-field.self
+    c.next.new.self c.loop-field.invariant
+    (c.in-Some.field, sym c.asks.ensures ∙ c.if-asks.false, first)
+
+pub returns-in_err-field-clause-err : goal.returns-in_err-field-clause-err
+returns-in_err-field-clause-err g c =
+    on_refusal _
+    (subst (PassesUnasked (g.A.Asks.is_asked c.args.asked.now) c.args.self.now)
+    (sym c.in_err-field.ensures.err) c.loop-field.invariant)

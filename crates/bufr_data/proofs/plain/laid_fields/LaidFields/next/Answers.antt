@@ -1,9 +1,10 @@
-use Rattle.std.proofs.Common.{[], refl, sym, ◌∙◌}
+use Rattle.std.proofs.Common.{sym, ap, subst, ◌∙◌}
+use Rattle.bufr_data.specs.Handed.{StandLaid, fields_laid}
 use Rattle.bufr_data.proofs.PlainFacts.Layouts.{none_left, first_handed}
 use Rattle.bufr_data.proofs.plain.laid_fields.LaidFields.next.Goals as goal
 
-pub returns-in_default : goal.returns-in_default
-returns-in_default c =
+pub returns-in_default-clause-found : goal.returns-in_default-clause-found
+returns-in_default-clause-found c =
     let none = none_left c.self.inside.fields.now c.self.inside.reader c.in_default.ensures.cases in
     let empty = sym c.self.view_is ∙ none.1 in (empty, empty)
 
@@ -14,12 +15,17 @@ invariant_of-self c =
     c.self.invariant c.in-Ok.ensures.exact).there
 
 pub invariant_of-self-in-Err : goal.invariant_of-self-in-Err
-invariant_of-self-in-Err c = (none_left [] c.read_raw.new.reader refl).0
+invariant_of-self-in-Err c =
+    subst (StandLaid c.self.inside.fields.now) (sym c.in-Err.ensures.err) c.self.invariant
 
-pub returns-in-Ok : goal.returns-in-Ok
-returns-in-Ok c =
+pub returns-in-Ok-clause-found : goal.returns-in-Ok-clause-found
+returns-in-Ok-clause-found c =
     rw c.by_parts.ensures
     (sym c.self.view_is
     ∙ (first_handed c.self.inside.fields.now c.in-Some.others.now c.in-Some.field.now
     c.self.inside.reader c.read_raw.new.reader c.in-Ok.raw c.in-Some.ensures.cases.0
     c.self.invariant c.in-Ok.ensures.exact).is)
+
+pub returns-in-Err-clause-err : goal.returns-in-Err-clause-err
+returns-in-Err-clause-err c =
+    ap (fields_laid c.self.inside.fields.now) c.in-Err.ensures.err ∙ c.self.view_is

@@ -1,0 +1,136 @@
+//! Fields handed out one at a time. After a refusal the field is still left.
+
+ghost use Rattle.std.specs.Prelude.{◌==◌};
+
+use crate::tests::refusals::repeated;
+use crate::tests::same;
+use crate::tests::samples::tables;
+use bufr_bits::BitReader;
+use bufr_data::{Asks, DataTemplate, Field, Fields, LaidFields, Raw, SubsetIndex};
+use bufr_expand::Template;
+use bufr_tables::Fxy;
+use std::alloc::Global;
+use std::process::Abort;
+
+/// Two characters, a temperature, and three characters: 205002 012101 205003.
+const DESCRIPTORS: [u16; 3] = [0x8502, 0x0C65, 0x8503];
+
+/// One subset: `AB`, 273.15 K, and `CDE`.
+const PLAIN: &[u8] = b"AB\x6A\xB3CDE";
+
+/// Two subsets: `AB` and `FG`, 273.15 K and 273.16 K, `CDE` and `HIJ`.
+const PACKED: &[u8] =
+    b"\x00\x00\x09\x05\x09\x19\x1D\xAA\xCC\x21\x00\x00\x00\x0D\x0D\x11\x15\x21\x25\x28";
+
+/// The three characters, 205003.
+struct LastText;
+
+impl Asks for LastText {
+    ghost is_asked = { λ _ d. d == 34051 };
+
+    fn asks(&self, fxy: Fxy) -> bool {
+        fxy.bits() == 0x8503
+    }
+}
+
+fn text_of(field: &Field) -> &[u8] {
+    match &field.raw {
+        Raw::Number(_) => &[],
+        Raw::Text(text) => text.as_slice(),
+    }
+}
+
+fn has_text(rt: &impl Abort, found: Option<Field>, text: &[u8]) {
+    same(rt, text_of(&found.expect(rt, "a field")), text);
+}
+
+fn has_number(rt: &impl Abort, found: Option<Field>, number: u64) {
+    match found.expect(rt, "a field").raw {
+        Raw::Number(raw) => same(rt, raw, number),
+        Raw::Text(_) => panic!(rt; "a number"),
+    }
+}
+
+/// All three fields come, one after the other.
+fn all_come(rt: &impl Abort, alloc: Global, mut fields: Fields<'_>) {
+    has_text(rt, repeated!(rt, fields.next(alloc)), b"AB");
+    has_number(rt, repeated!(rt, fields.next(alloc)), 27315);
+    has_text(rt, repeated!(rt, fields.next(alloc)), b"CDE");
+    same(rt, repeated!(rt, fields.next(alloc)), None);
+}
+
+/// The last text comes, and no other field.
+fn last_comes(rt: &impl Abort, alloc: Global, mut fields: Fields<'_>) {
+    has_text(
+        rt,
+        repeated!(rt, fields.next_asked(alloc, &LastText)),
+        b"CDE",
+    );
+    same(rt, repeated!(rt, fields.next_asked(alloc, &LastText)), None);
+}
+
+fn last_comes_laid(rt: &impl Abort, alloc: Global, mut fields: LaidFields<'_>) {
+    has_text(
+        rt,
+        repeated!(rt, fields.next_asked(alloc, &LastText)),
+        b"CDE",
+    );
+    same(rt, repeated!(rt, fields.next_asked(alloc, &LastText)), None);
+}
+
+/// The first subset of an index hands out its fields, by a layout or not.
+fn hands_out(rt: &impl Abort, alloc: Global, index: &SubsetIndex, laid: bool) {
+    assert!(rt; 0 < index.count());
+    let fields = repeated!(rt, index.fields(alloc, 0));
+    all_come(rt, alloc, fields);
+    match repeated!(rt, index.fields(alloc, 0)).laid() {
+        Ok(fields) => {
+            same(rt, laid, true);
+            last_comes_laid(rt, alloc, fields);
+        }
+        Err(fields) => {
+            same(rt, laid, false);
+            last_comes(rt, alloc, fields);
+        }
+    }
+}
+
+fn template(rt: &impl Abort, alloc: Global) -> Template {
+    let tables = tables(rt, alloc);
+    let list = DESCRIPTORS.map(Fxy::from_bits);
+    repeated!(rt, Template::build(alloc, &tables, &list))
+}
+
+/// Reads a message without a layout, plain or compressed.
+fn come_unlaid(rt: &impl Abort, alloc: Global, compressed: bool, octets: &[u8], count: u16) {
+    let mut reader = BitReader::new(octets);
+    let index = repeated!(
+        rt,
+        SubsetIndex::index(alloc, template(rt, alloc), compressed, &mut reader, count),
+        same(rt, reader.place(), 0)
+    );
+    hands_out(rt, alloc, &index, false);
+}
+
+/// Reads the second message of a template, which has a layout.
+fn come_laid(rt: &impl Abort, alloc: Global) {
+    let mut kept = DataTemplate::new(template(rt, alloc));
+    for message in 0..2 {
+        let mut reader = BitReader::new(PLAIN);
+        let index = repeated!(
+            rt,
+            kept.index(alloc, false, &mut reader, 1),
+            same(rt, reader.place(), 0)
+        );
+        if message == 1 {
+            hands_out(rt, alloc, &index, true);
+        }
+    }
+}
+
+#[test]
+fn fields_handed_out(rt: HostRuntime) {
+    come_unlaid(&rt, rt.alloc(), false, PLAIN, 1);
+    come_unlaid(&rt, rt.alloc(), true, PACKED, 2);
+    come_laid(&rt, rt.alloc());
+}

@@ -1,0 +1,9 @@
+-- The clause of `value`: the value that an argument has in the matches.
+use Rattle.std.proofs.Common.{◌∙◌}
+use Rattle.clap.specs.Words.{found_of}
+use Rattle.clap.proofs.WalkLemmas.{first_value-rows}
+use Rattle.bufr_select_engine.proofs.command_line.value.Goals as goal
+
+pub returns : goal.returns
+returns c =
+    c.get_str.ensures ∙ first_value-rows (found_of c.args.matches.now) c.args.id.now
