@@ -286,7 +286,7 @@ def encoded(version, options, blocks):
     try:
         while listing:
             listing = listing[os.write(file, listing):]
-        process = Process([program("bufr"), "encode", *options, *tables_of(version), "/dev/stdin"], (1, 2), file)
+        process = Process([program("bufr"), "encode", *options, *tables_of(version), "/dev/stdin"], (1, 2), {0: file})
         octets, said = process.rest_of(1), process.rest_of(2)
     finally:
         os.close(file)

@@ -11,10 +11,11 @@ from .given import Files as Files
 from .given import Given
 from .heads import GROUPS as GROUPS
 from .heads import Faults, Heads, refused_by_heads
-from .lister import Counts, Lumps, finish, head_of, start
+from .lister import Counts, Lumps, finish, head_of
 from .progress import Progress
 from .shown import Running, words_to_show
 from .skipped import losses_of
+from .starting import start
 
 if TYPE_CHECKING:
     from .subsets import Element, Report
@@ -105,7 +106,7 @@ class Contents(Heads):
 
     def list(self) -> Counts:
         """Take what bufr-ls prints, and count it but for the places."""
-        lister = start(self.files, "place,")
+        lister = start([each.path for each in self.files], "place,")
         known: Dict[bytes, bytes] = {}
         try:
             lumps = Lumps(lister)

@@ -2,10 +2,10 @@
 package; it is handed on by the caller."""
 from __future__ import annotations
 
-import io
 import os
-from typing import TYPE_CHECKING, Any, Callable, Dict, List, Optional, Sequence, Tuple
+from typing import TYPE_CHECKING, Any, Callable, List, Sequence, Tuple
 
+from .moments import PARTS, TIME, moments_of
 from .progress import Progress, positions
 from .selecting import Plan, Selection
 
@@ -13,8 +13,6 @@ if TYPE_CHECKING:
     from .reading import Column
 
 Maker = Callable[[Any], Any]
-# More places than a file has.
-PLACES = 1 << 44
 
 
 class Framer:
@@ -22,7 +20,8 @@ class Framer:
     row."""
 
     def __init__(self, pandas: Any, plan: Plan, files: List[str]) -> None:
-        self.pandas, self.plan, self.files, self.is_able = pandas, plan, files, True
+        import numpy
+        self.pandas, self.numpy, self.plan, self.files, self.is_able = pandas, numpy, plan, files, True
         templates = plan.templates.all()
         self.met = frozenset(word for template in templates for word in template.all())
         self.long = frozenset(word for template in templates for word in template.long)
@@ -56,87 +55,71 @@ class Framer:
         else:
             self.plan.ask(word)
             is_flag = word in ("observed", "compressed")
-            self.makers.append(lambda table: table[word].astype(bool) if is_flag else table[word])
+            self.makers.append(lambda table: table[word].to_numpy("bool" if is_flag else None))
 
-    def add_time(self, words: Sequence[str], parts: Sequence[str], there: List[Any], moment_of: Callable[[List[Any], Any], Any]) -> None:
-        """Add the column of the times of some fields. `there` has which of `parts`, the last of them, templates have; the one of a
-        message is found by its place if there are several."""
-        self.is_able = self.is_able and not self.long.intersection(words) and not self.plan.texts.intersection(words)
-        for word in [*words, *(("input", "place") if len(there) > 1 else ())]:
+    def add_time(self) -> None:
+        """Add the column of the times of the fields of TIME."""
+        there = list(dict.fromkeys(template.has(PARTS) for template in self.plan.templates.all()))
+        self.is_able = self.is_able and len(there) > 0 and not (self.long | self.plan.texts).intersection(TIME)
+        asked = [word for word in TIME if word in self.met]
+        # a minute that is missing counts as 0 if the template of the message has none
+        where = ["input", "message"] if len(self.files) > 1 else ["message"]
+        for word in asked + where * (len(there) > 1):
             self.plan.ask(word)
 
         def made(table: Any) -> Any:
-            key: Any = 0
-            kinds = []
-            for word in words:
-                codes, kept = self.pandas.factorize(table[word])
-                # 0 is what is missing
-                key = key * (len(kept) + 1) + codes.astype("int64") + 1
-                kinds.append([None, *kept.tolist()])
-            kinds.append(there)
-            key = self.pandas.Series(key * len(there) + (self.kinds(table, parts, there) if len(there) > 1 else 0))
-            return self.mapped(key, lambda number: moment_of(*split(number, kinds)), is_time=True)
+            is_there = self.numpy.array(there)[self.kinds(table, there) if len(there) > 1 else 0]
+            found = moments_of(self.numpy, [table[word].to_numpy() if word in asked else None for word in TIME], is_there.T)
+            return found if asked else found.repeat(len(table))
         self.makers.append(made)
 
-    def kinds(self, table: Any, parts: Sequence[str], there: List[Any]) -> Any:
+    def kinds(self, table: Any, there: List[Tuple[bool, ...]]) -> Any:
         """Return for each row which of `there` the template of its message has."""
-        template_at = self.plan.templates.places()
-        codes, kept = self.pandas.factorize(table["input"].astype("int64") * PLACES + table["place"])
-        found = [there.index(template_at(*divmod(place, PLACES)).has(parts)) for place in kept.tolist()]
-        return self.pandas.Series(found).take(codes).to_numpy()
+        templates = self.plan.templates
+        templates.renew()
+        found = [templates.of(row) for row in templates.rows]
+        kinds = self.numpy.array([there.index(each.has(PARTS)) if each is not None else 0 for each in found])
+        firsts = self.numpy.array(templates.firsts)[table["input"].to_numpy() - 1] if len(self.files) > 1 else 0
+        messages = firsts + table["message"].to_numpy() - 1
+        return kinds[self.numpy.frombuffer(templates.order, templates.order.typecode)[messages]]
 
-    def mapped(self, cells: Any, cell_of: Callable[[Any], Any], is_time: bool = False) -> Any:
+    def mapped(self, cells: Any, cell_of: Callable[[Any], Any]) -> Any:
         """Return what cells become, each made once."""
         codes, kept = self.pandas.factorize(cells)
-        found = self.pandas.Series([cell_of(cell) for cell in kept.tolist()], dtype="object")
-        if is_time:
-            found = self.pandas.to_datetime(found, errors="coerce")
-        return found.take(codes).reset_index(drop=True)
+        return self.numpy.array([cell_of(cell) for cell in kept.tolist()], dtype="object")[codes]
 
     def nothing(self, table: Any) -> Any:
         """Return a column that has nothing but None."""
-        import numpy
-        return self.pandas.Series(numpy.empty(len(table), dtype="object"))
+        return self.numpy.empty(len(table), dtype="object")
 
     def numbers(self, cells: Any) -> Any:
         """Return a column of numbers; one that has none has None."""
-        return self.nothing(cells) if cells.isna().all() else cells
+        found = cells.to_numpy()
+        return self.nothing(found) if found.dtype.kind == "f" and self.numpy.isnan(found).all() else found
 
-    def table(self, octets: bytes) -> Any:
-        """Return the table that the program prints."""
+    def table(self, path: str) -> Any:
+        """Return the table that the program has written into a file."""
+        # no number has more than 15 digits, and these come back; an empty text stays one
         numbers = [word for word in self.plan.words if word not in self.texts]
-        # no number has more than 15 digits, and these come back
-        return self.pandas.read_csv(
-            io.BytesIO(octets), dtype={word: str for word in self.texts}, keep_default_na=False,
-            na_values={word: [""] for word in numbers}, float_precision="high", low_memory=False, encoding="ascii")
+        return self.pandas.read_csv(path, dtype={word: str for word in self.texts}, keep_default_na=False,
+                                    na_values={word: [""] for word in numbers}, float_precision="high", low_memory=False)
 
-    def columns(self, octets: bytes) -> Tuple[List[Any], List[bool]]:
+    def columns(self, path: str) -> Tuple[List[Any], List[bool]]:
         """Return the columns, and whether each has a value."""
-        table = self.table(octets)
+        table = self.table(path)
         made = [maker(table) for maker in self.makers]
-        return made, [bool(each.notna().any()) for each in made]
+        return made, [each.dtype.kind in "biu" or bool(self.pandas.notna(each).any()) for each in made]
 
 
-def split(number: int, kinds: List[List[Any]]) -> Tuple[List[Any], Any]:
-    """Return what a number stands for: one of each kind, the last by itself."""
-    found = []
-    for kept in reversed(kinds):
-        number, at = divmod(number, len(kept))
-        found.append(kept[at])
-    return found[:0:-1], found[0]
-
-
-def octets_of(selection: Selection, files: List[str], quiet: bool) -> bytes:
-    """Return all that the program prints."""
+def wait_for(selection: Selection, files: Sequence[str], quiet: bool) -> None:
+    """Wait for the end of the program, and say how far it is."""
     known = {os.path.realpath(file): number for number, file in reversed(list(enumerate(files)))}
     sizes = [os.path.getsize(file) for file in files]
-    progress, pieces = Progress("bufr", sum(sizes), quiet), []
+    progress = Progress("bufr", sum(sizes), quiet)
     try:
-        for piece in selection.pieces():
-            pieces.append(piece)
-            if progress.next is not None:
-                for number, octets in positions(selection.process.pid, known):
-                    progress.at(sum(sizes[:number]) + octets)
+        while progress.next is not None and not selection.process.has_ended(within=0.1):
+            for number, octets in positions(selection.process.number, known):
+                progress.at(sum(sizes[:number]) + octets)
+        selection.finish()
     finally:
         progress.end()
-    return b"".join(pieces)

@@ -1,8 +1,9 @@
 """What is in BUFR files by the heads of their messages, that is by sections 0, 1 and 3, as `bufr-ls` prints them."""
 import os
 
-from .lister import LUMP, Counts, Lumps, Tally, finish, start
+from .lister import LUMP, Counts, Lumps, Moments, Tally, finish
 from .processes import Process, program
+from .starting import start
 from .versions import table_paths, version_of
 
 TYPE_CHECKING = False
@@ -56,7 +57,7 @@ class Heads:
         try:
             counts = self.counts_of(listers, faults)
             if counts is None:
-                again = [start(self.files)]
+                again = [start([each.path for each in self.files])]
                 counts = self.counts_of(again, faults)
                 assert counts is not None
             kinds = self.kinds(counts)
@@ -71,23 +72,21 @@ class Heads:
         """Count the messages. The faults of the first templates are looked for meanwhile. Return nothing if heads and times are listed
         apart, and a file grew before the second of them."""
         heads, *times = map(Lumps, listers)
-        tally, moments, number, size = Tally(), set(), 0, LUMP
+        tally, moments, size = Tally(), Moments(), LUMP
         text, said = heads.first(), b""
         faults.ask(map(self.kind_of, Counts(dict.fromkeys(text.splitlines(True), 1), not times).heads))
         while text or said:
             if text:
                 size = tally.take(text)
             if said:
-                rows = said.splitlines()
-                moments.update(rows)
-                number += len(rows)
+                moments.take(said)
             text, said = heads.next(size), times[0].next() if times else b""
         for each in listers:
             finish(each)
         counts = Counts(tally.rows, not times)
         if times:
-            counts.moments = {row.partition(b",")[2] for row in moments if row[:1] != b","}
-        return counts if not times or number == sum(tally.rows.values()) else None
+            counts.moments = moments.known()
+        return counts if not times or moments.number == sum(tally.rows.values()) else None
 
     def kind_of(self, head: bytes) -> bytes:
         """Return a head without length and subsets."""
@@ -163,7 +162,7 @@ class Faults:
                 file.write(b"".join(message_of(words.split()) for _, words in templates))
                 file.flush()
                 words = [program("bufr"), "check", "-b", tables[0], "-d", tables[1], "/dev/stdin"]
-                self.checkers.append((Process(words, (1, 2), file.fileno()), templates))
+                self.checkers.append((Process(words, (1, 2), {0: file.fileno()}), templates))
 
     def of(self, template: "Tuple[int, str]") -> str:
         """Return the fault of a template that was asked for, or nothing."""

@@ -1,8 +1,9 @@
-"""`bufr-ls` on the files of a call, and what it prints, many rows at once. Nothing here takes long to load."""
+"""What `bufr-ls` prints, many rows at once. Nothing here takes long to load."""
 import os
 from time import sleep
 
-from .processes import Process, program
+from .processes import Process
+from .starting import widen
 
 try:
     # what Counter counts with: to load that takes long
@@ -15,53 +16,19 @@ except ImportError:
 
 TYPE_CHECKING = False
 if TYPE_CHECKING:
-    from typing import Dict, List, Optional, Set, Tuple
+    from typing import Dict, List, Set, Tuple
 
-    from .given import Given
-
-# What bufr-ls is asked for: the head of a message, which is its length, its subsets and its kind, and its time.
-OWN, KIND = "length,subsets", "edition,centre,category,master_version,local_version,descriptors,reason"
-TIME = "year,month,day,hour,minute,second"
 # How many octets of rows are read at once. The pipe has room for many times more; while fewer are there, this program sleeps for some
 # seconds: it takes less to wake once for many rows.
-LUMP, ROOM, NAP = 1 << 16, 1 << 20, 0.0004
-F_SETPIPE_SZ = 1031
-# Of how many messages that begin in so many octets the times differ, if there are many.
-MANY = 10
-
-
-def start(files: "List[Given]", first: str = "", last: str = f",{TIME}") -> Process:
-    """Start `bufr-ls`. Each column takes its time: without first columns the number of an only file is not asked for."""
-    columns = f"{first}{OWN},{'input,' * (first != '' or len(files) > 1)}{KIND}{last}"
-    return Process([program("bufr-ls"), "-c", columns, "--", *(each.path for each in files)], (1, 2))
-
-
-def start_all(files: "List[Given]") -> "List[Process]":
-    """Start `bufr-ls`: twice side by side, for heads and for times, if the messages seem to have many times and there are processors for
-    that. Together they print fewer rows that differ, and shorter ones."""
-    with open(files[0].path, "rb", buffering=0) as file:
-        begun = file.read(LUMP).split(b"BUFR")
-    # the octets of section 1 that have the time in each edition
-    if len({each[16:26] for each in begun}) < MANY or len(os.sched_getaffinity(0)) < 3:
-        return [start(files)]
-    heads = start(files, last="")
-    try:
-        return [heads, Process([program("bufr-ls"), "-c", f"subsets,{TIME}", "--", *(each.path for each in files)], (1, 2))]
-    except BaseException:
-        heads.end()
-        raise
+LUMP, NAP = 1 << 16, 0.0004
 
 
 class Lumps:
     """The rows that a program prints after its first line, in lumps of about so many octets, or of one longer row."""
 
     def __init__(self, process: Process) -> None:
-        import fcntl
         self.pipe, self.rest = process.pipes[1], b""
-        try:
-            self.nap = NAP if fcntl.fcntl(self.pipe, F_SETPIPE_SZ, ROOM) >= ROOM else 0
-        except OSError:
-            self.nap = 0
+        self.nap = NAP if widen(self.pipe) else 0
         text = os.read(self.pipe, LUMP)
         while text and b"\n" not in text:
             more = os.read(self.pipe, LUMP)
@@ -100,6 +67,13 @@ class Lumps:
         return text[:stop]
 
 
+def alike(text: bytes) -> "Tuple[bytes, int]":
+    """Return the first row of a lump, and how often it comes if the rows are all alike, or else 0. They are compared at once."""
+    row = text[:text.index(b"\n") + 1]
+    times = len(text) // len(row)
+    return row, times if text == row * times else 0
+
+
 class Tally:
     """How often each row comes."""
 
@@ -107,10 +81,9 @@ class Tally:
         self.rows: "Dict[bytes, int]" = {}
 
     def take(self, text: bytes) -> int:
-        """Take a lump, and return how long the next one is best. Rows of a lump that are all alike are compared at once."""
-        row = text[:text.index(b"\n") + 1]
-        times = len(text) // len(row)
-        if text == row * times:
+        """Take a lump, and return how long the next one is best."""
+        row, times = alike(text)
+        if times:
             self.rows[row] = self.rows.get(row, 0) + times
         else:
             count_rows(self.rows, text.splitlines(True))
@@ -118,13 +91,27 @@ class Tally:
         return LUMP - LUMP % len(row) or LUMP
 
 
-def counted(lumps: Lumps) -> "Dict[bytes, int]":
-    """Return how often each row comes."""
-    tally = Tally()
-    text = lumps.next()
-    while text:
-        text = lumps.next(tally.take(text))
-    return tally.rows
+class Moments:
+    """The times of rows that have a time and then subsets, and how many rows there are."""
+
+    def __init__(self) -> None:
+        self.rows: "Set[bytes]" = set()
+        self.number = 0
+
+    def take(self, text: bytes) -> None:
+        """Take a lump."""
+        row, times = alike(text)
+        if times:
+            self.rows.add(row[:-1])
+        else:
+            rows = text[:-1].split(b"\n")
+            times = len(rows)
+            self.rows.update(rows)
+        self.number += times
+
+    def known(self) -> "Set[bytes]":
+        """Return the times of messages that have subsets."""
+        return {row.rpartition(b",")[0] for row in self.rows if row[-1:] != b","}
 
 
 def head_of(row: bytes) -> bytes:
@@ -145,10 +132,20 @@ class Counts:
                 self.moments.add(row[len(head) + 1:-1])
 
     def span(self) -> "List[Tuple[int, ...]]":
-        """Return the first and the last time, if there is one."""
-        numbers = map(int, b",".join(self.moments).split(b",")) if self.moments else iter(())
-        found = list(zip(*[numbers] * 6))
-        return [min(found), max(found)] if found else []
+        """Return the first and the last time, if there is one. Only those of the first and the last hour are compared, since it takes
+        long to make numbers of all."""
+        hours: "Dict[bytes, List[bytes]]" = {}
+        for moment in self.moments:
+            hours.setdefault(moment.rsplit(b",", 2)[0], []).append(moment)
+        if not hours:
+            return []
+        first, last = min(hours, key=numbers_of), max(hours, key=numbers_of)
+        return [min(map(numbers_of, hours[first])), max(map(numbers_of, hours[last]))]
+
+
+def numbers_of(moment: bytes) -> "Tuple[int, ...]":
+    """Return the numbers of a time."""
+    return tuple(map(int, moment.split(b",")))
 
 
 def finish(process: Process) -> None:

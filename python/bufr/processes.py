@@ -33,22 +33,21 @@ def program(name):
 
 
 class Process:
-    """A program that runs beside this one, with pipes at those of its files 0 to 2 that are named, or a file at 0. It inherits the
-    files that this one inherited. It is in RUNNING from its start to its end, whatever signal comes meanwhile. The module
-    subprocess does not do that, and takes long to load."""
+    """A program that runs beside this one, with pipes at those of its files 0 to 2 that are named, and the files that `given` has for
+    others. It inherits the files that this one inherited. It is in RUNNING from its start to its end, whatever signal comes
+    meanwhile. The module subprocess does not do that, and takes long to load."""
 
-    def __init__(self, words, piped, given=None):
+    def __init__(self, words, piped, given=None, environment=None):
         self.words, self.status, self.pipes, theirs = words, None, {}, {}
         for file in piped:
             ours, other = os.pipe()
             self.pipes[file], theirs[file] = (other, ours) if file == 0 else (ours, other)
         actions = [(os.POSIX_SPAWN_DUP2, theirs[file], file) for file in theirs]
-        if given is not None:
-            actions.append((os.POSIX_SPAWN_DUP2, given, 0))
+        actions += [(os.POSIX_SPAWN_DUP2, ours, file) for file, ours in (given or {}).items()]
         mask = signal.pthread_sigmask(signal.SIG_BLOCK, HALTING)
         try:
-            self.number = os.posix_spawnp(words[0], words, os.environ, setsigdef=[signal.SIGPIPE], setsigmask=mask,
-                                          file_actions=actions)
+            self.number = os.posix_spawnp(words[0], words, os.environ if environment is None else environment,
+                                          setsigdef=[signal.SIGPIPE], setsigmask=mask, file_actions=actions)
             RUNNING.append(self)
         except OSError as error:
             for file in piped:
@@ -84,6 +83,16 @@ class Process:
             finally:
                 signal.pthread_sigmask(signal.SIG_SETMASK, mask)
         return self.status
+
+    def has_ended(self, within):
+        """Waits for its end for some seconds, and returns whether it has come."""
+        from time import monotonic, sleep
+        until = monotonic() + within
+        while self.status is None and not os.waitid(os.P_PID, self.number, os.WEXITED | os.WNOWAIT | os.WNOHANG):
+            if monotonic() >= until:
+                return False
+            sleep(within / 10)
+        return True
 
     def end(self):
         """Ends it, if it still runs."""

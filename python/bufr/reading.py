@@ -11,8 +11,9 @@ from typing import (TYPE_CHECKING, AbstractSet, Any, Callable, Dict, FrozenSet, 
                     NamedTuple, Optional, Sequence, Tuple, Union)
 
 from .errors import BufrError, Fault, Missing, Refused
-from .framing import Framer, octets_of
+from .framing import Framer, wait_for
 from .levels import Leading
+from .moments import PARTS, TIME, moment_of
 from .processes import program
 from .progress import Progress
 from .selecting import Plan, Selection, plan_of
@@ -35,9 +36,6 @@ HEADS = {"centre": ("section1", 1), "sub_centre": ("section1", 2), "update": ("s
          "minute": ("time", 5), "second": ("time", 6)}
 FLAGS = ("observed", "compressed")
 WHERE = ("file", "message", "place", "subset")
-TIME = ("004001", "004002", "004003", "004004", "004005", "004006")
-# Those of TIME that count as 0 if no field has them.
-PARTS = TIME[4:]
 ESCAPE = re.compile(r"\\([0-9a-f]{2})")
 COLUMN = re.compile(r"(\d{6})(?:#([1-9]\d*))?", re.A)
 DESCRIPTOR = re.compile(r"\d{6}", re.A)
@@ -104,7 +102,7 @@ ELEMENTS: Dict[str, FrozenSet[str]] = {}
 def has_element(path: str, descriptor: str) -> bool:
     """Return whether a file of Table B has an element. Table D, which is longer, is not read."""
     if path not in ELEMENTS:
-        ELEMENTS[path] = frozenset(record["FXY"] for record in records(path, ["FXY"]))
+        ELEMENTS[path] = frozenset(descriptor for descriptor, in records(path, ["FXY"]))
     return descriptor in ELEMENTS[path]
 
 
@@ -348,18 +346,6 @@ class Rows:
         return moment_of([self.field(word, 0, span, before) for word in TIME], [word in span or word in before for word in PARTS])
 
 
-def moment_of(parts: Sequence[Value], is_there: Sequence[bool]) -> Optional[datetime.datetime]:
-    """Return the time of the fields of TIME. A minute or a second that no field has is 0; one that a field has as missing is not
-    known."""
-    if None in parts[:4] or any(part is None and each for part, each in zip(parts[-len(PARTS):], is_there)) or \
-            not all(isinstance(part, (int, float)) for part in parts if part is not None):
-        return None
-    try:
-        return datetime.datetime(*(int(part or 0) for part in parts))  # type: ignore[arg-type]
-    except ValueError:
-        return None
-
-
 def rows(files: Union[PathLike, Iterable[PathLike]], columns: Columns, each: Optional[str] = None, tables: TablesLike = None,
          *, time: bool = False, strict: bool = False, quiet: bool = True,
          refusals: Optional[List[Tuple[str, int, str]]] = None) -> Iterator[Tuple[Any, ...]]:
@@ -475,12 +461,7 @@ def _settle(plan: Plan, selection: Selection, files: List[str], columns: List[Co
             refusals: List[Tuple[str, int, str]], empty: AbstractSet[str], depth: int) -> None:
     """Tell what is refused and skipped, and warn, after the last row. `empty` are the words that no row has a value of."""
     plan.templates.check()
-    heads = Heads(plan.templates.names, plan.templates.paths)
-    try:
-        numbers = {name: number for number, name in enumerate(plan.templates.names)}
-        told = [*selection.told.refusals, *((numbers[name], loss.place, loss.reason) for name, loss in heads.losses())]
-    finally:
-        heads.close()
+    told = [*selection.told.refusals, *_lost(plan)]
     here = {file: number for number, file in enumerate(files)}
     told.sort(key=lambda each: (here[files[each[0]]], each[1]))
     if strict and told:
@@ -495,14 +476,24 @@ def _settle(plan: Plan, selection: Selection, files: List[str], columns: List[Co
     _warn(columns, each, {word for word in empty if not plan.has(word)}, leading, depth + 1)
 
 
+def _lost(plan: Plan) -> List[Tuple[int, int, str]]:
+    """Return the files, the places and the reasons of what is skipped and a loss."""
+    if plan.templates.is_whole():
+        return []
+    heads = Heads(plan.templates.names, plan.templates.paths)
+    try:
+        numbers = {name: number for number, name in enumerate(plan.templates.names)}
+        return [(numbers[name], loss.place, loss.reason) for name, loss in heads.losses()]
+    finally:
+        heads.close()
+
+
 def _framed(pandas: Any, plan: Plan, files: List[str], columns: List[Column], each: Optional[str], time: bool, quiet: bool,
             refusals: List[Tuple[str, int, str]], depth: int) -> Optional[List[Any]]:
     """Return the columns of a DataFrame by `bufr-select`, or nothing if rows have to be made one by one."""
     framer = Framer(pandas, plan, files)
     if time:
-        there = list(dict.fromkeys(template.has(PARTS) for template in plan.templates.all()))
-        framer.is_able = len(there) > 0
-        framer.add_time(TIME, PARTS, there, moment_of)
+        framer.add_time()
     for column in columns:
         framer.add(column, text_of)
     if not framer.is_able:
@@ -510,17 +501,14 @@ def _framed(pandas: Any, plan: Plan, files: List[str], columns: List[Column], ea
     if not plan.words:
         # there is a row for each subset, though no column has a value
         plan.ask("input")
-    selection = plan.start()
-    try:
-        octets = octets_of(selection, files, quiet)
-        if octets.count(b"\n", 0, 1 << 20) < 2:
+    with plan.kept(lambda selection: wait_for(selection, files, quiet)) as selection:
+        path = selection.path()
+        if path is None:
             return None
-        made, are_met = framer.columns(octets)
+        made, are_met = framer.columns(path)
         empty = {column.word for column, is_met in zip(columns, are_met[int(time):]) if column.word[:1].isdigit() and not is_met}
         _settle(plan, selection, files, columns, each, time, False, refusals, empty, depth + 1)
         return made
-    finally:
-        selection.close()
 
 
 def _cell_of(plan: Plan, files: List[str], column: Column) -> Callable[[List[str]], Any]:
@@ -550,11 +538,10 @@ def _time_of(plan: Plan) -> Callable[[List[str]], Optional[datetime.datetime]]:
         is_there = next(iter(there), (False, False))
         return lambda row: moment_of(parts(row), is_there)
     # it depends on the template of the message
-    number, place = plan.ask("input"), plan.ask("place")
-    template_at = plan.templates.places()
+    number, message = plan.ask("input"), plan.ask("message")
 
     def time_of(row: List[str]) -> Optional[datetime.datetime]:
-        return moment_of(parts(row), template_at(int(row[number]), int(row[place])).has(PARTS))
+        return moment_of(parts(row), plan.templates.at(int(row[number]), int(row[message])).has(PARTS))
     return time_of
 
 

@@ -7,14 +7,19 @@ import csv
 import os
 import re
 import shutil
-from subprocess import DEVNULL, PIPE, Popen
+from array import array
+from collections import Counter
+from contextlib import contextmanager
+from itertools import accumulate
 from typing import Callable, Dict, FrozenSet, Iterator, List, NamedTuple, Optional, Sequence, Set, Tuple
 
 from .errors import BufrError, Fault
-from .lister import Lumps, counted, finish
+from .few_tables import FewTables
+from .lister import Lumps, alike, finish
 from .processes import Process, program
 from .shown import Running, error_of, words_to_show
 from .skipped import is_regular
+from .starting import lister, widen
 from .tables import BEGIN, END, TEXT_UNIT, TURN, Field, Tables, TablesByVersion
 from .versions import VERSIONS, table_paths, version_of
 
@@ -82,6 +87,31 @@ def is_long(field: Field) -> bool:
     return max(digits, field.scale + 1) > 13 if field.scale > 0 else digits - field.scale > 18
 
 
+# The templates of versions and descriptors under the standard's tables, for each `each`: a stream has the same ones again and again.
+MADE: Dict[Tuple[bytes, FrozenSet[str]], Optional[Template]] = {}
+MOST_MADE = 1000
+
+
+class Order(Dict[bytes, int]):
+    """The rows that messages have, numbered as they come first, and the number of each message's row, in the order of the messages."""
+
+    def __init__(self) -> None:
+        super().__init__()
+        self.numbers = array("I")
+
+    def __missing__(self, row: bytes) -> int:
+        self[row] = number = len(self)
+        return number
+
+    def take(self, text: bytes) -> None:
+        """Take the rows that come next."""
+        row, times = alike(text)
+        if times:
+            self.numbers.extend(array("I", [self[row]]) * times)
+        else:
+            self.numbers.extend(map(self.__getitem__, text.splitlines(True)))
+
+
 class Templates:
     """The templates of files by the versions of their tables and their descriptors, in the order in which they come first."""
 
@@ -89,28 +119,72 @@ class Templates:
         self.names, self.paths, self.each = names, paths, each
         self.by_version = TablesByVersion(paths)
         self.known: Dict[bytes, Optional[Template]] = {}
-        # the versions whose tables are named, and the sizes of the files
+        # the versions whose tables are named, what few rows of them are for, and the sizes of the files
         self.named: Set[int] = set()
-        self.sizes = list(map(os.path.getsize, names))
+        self.asked: Optional[Set[bytes]] = None
+        self.sizes: List[int] = []
+        # the octets that messages have, the versions and descriptors of messages, and which of these each message has
+        self.length = 0
+        self.rows: List[bytes] = []
+        self.order = array("I")
+        # of all messages, which is the first one of each file
+        self.firsts: List[int] = []
 
     def list(self, columns: str) -> Process:
-        return Process([program("bufr-ls"), "-c", columns, "--", *self.names], (1, 2))
+        return lister(self.names, columns)
 
     def read(self) -> None:
         """Read the heads of all messages."""
-        lister = self.list("master_version,descriptors")
+        self.sizes = list(map(os.path.getsize, self.names))
+        order, process = Order(), self.list("input,length,master_version,descriptors")
         try:
-            for row in counted(Lumps(lister)):
-                self.of(row)
-            finish(lister)
+            lumps = Lumps(process)
+            text = lumps.next()
+            while text:
+                order.take(text)
+                text = lumps.next()
+            finish(process)
         finally:
-            lister.end()
+            process.end()
+        self.count(order)
+
+    def count(self, order: Order) -> None:
+        """Take what the rows of all messages say."""
+        rows = [row.split(b",", 2) for row in order]
+        counts = Counter(order.numbers)
+        messages = [0] * len(self.names)
+        self.length = 0
+        for number, (at, length, _) in enumerate(rows):
+            messages[int(at) - 1] += counts[number]
+            self.length += counts[number] * int(length)
+        self.order, self.rows = order.numbers, [row for _, _, row in rows]
+        self.firsts = [0, *accumulate(messages)]
+        for row in self.rows:
+            self.of(row)
+
+    def is_whole(self) -> bool:
+        """Return whether messages are all that the files have, as far as they were read."""
+        return self.length == sum(self.sizes)
+
+    def renew(self) -> None:
+        """Read the heads again if a file has changed since."""
+        if self.sizes != list(map(os.path.getsize, self.names)):
+            self.read()
 
     def of(self, row: bytes) -> Optional[Template]:
         """Return the template of a version and descriptors; nothing of messages that are refused for them."""
         if row not in self.known:
-            self.known[row] = self.made(row)
+            self.known[row] = self.made(row) if self.paths is not None else self.made_once(row)
         return self.known[row]
+
+    def made_once(self, row: bytes) -> Optional[Template]:
+        key = row, self.each
+        if key in MADE:
+            return MADE[key]
+        if len(MADE) >= MOST_MADE:
+            MADE.clear()
+        MADE[key] = found = self.made(row)
+        return found
 
     def made(self, row: bytes) -> Optional[Template]:
         tables, descriptors = self.parts(row)
@@ -133,23 +207,33 @@ class Templates:
         found = {version_of(int(row.partition(b",")[0] or b"255")) for row in self.known}
         return {version for version in found if version is not None}
 
-    def options(self) -> List[str]:
-        """Return the options that name the tables: no others, since to load them takes long."""
+    def options(self, few: Optional[FewTables] = None) -> List[str]:
+        """Return the options that name the tables, and no others, since to load them takes long: with all rows, or with those `few`
+        that the messages ask for."""
         if self.paths is not None:
             return ["-b", self.paths[0], "-d", self.paths[1]]
-        self.named = self.versions() or {VERSIONS[-1]}
+        self.named, self.asked = self.versions() or {VERSIONS[-1]}, set(self.known) if few is not None else None
         found = []
         for version in sorted(self.named):
-            b_path, d_path = table_paths(version)
-            found += ["-v", str(version), "-b", b_path, "-d", d_path]
+            if few is not None:
+                parts = [row.decode().rstrip("\n").partition(",") for row in self.known]
+                found += few.options(version, [word for named, _, words in parts if named and version_of(int(named)) == version
+                                               for word in words.split()])
+            else:
+                b_path, d_path = table_paths(version)
+                found += ["-v", str(version), "-b", b_path, "-d", d_path]
         return found
+
+    def have_grown(self) -> bool:
+        """Return whether a message has come for which the few rows of the tables were not asked."""
+        self.renew()
+        return self.asked is not None and not self.asked.issuperset(self.known)
 
     def check(self) -> None:
         """Raise that a file has changed since its heads were read, if a message then takes other tables."""
-        if self.paths is None and self.sizes != list(map(os.path.getsize, self.names)):
-            self.read()
-            if not self.versions() <= self.named:
-                raise BufrError("a file has changed while it was read")
+        self.renew()
+        if self.paths is None and not self.versions() <= self.named:
+            raise BufrError("a file has changed while it was read")
 
     def all(self) -> List[Template]:
         return [each for each in self.known.values() if each is not None]
@@ -162,33 +246,29 @@ class Templates:
             if tables is not None and self.of(row) is not None:
                 yield tables, descriptors
 
-    def places(self) -> Callable[[int, int], Template]:
-        """Return what finds the templates of messages by their inputs and places, which have to come in order."""
-        stream = self.stream()
-        kept: List[Tuple[int, int, bytes]] = [(0, 0, b"")]
-
-        def at(number: int, place: int) -> Template:
-            while kept[0][:2] != (number, place):
-                kept[0] = next(stream)
-            found = self.of(kept[0][2])
-            assert found is not None
-            return found
-        return at
+    def at(self, number: int, message: int) -> Template:
+        """Return the template of a message of a file, both counted from 1, that is not refused."""
+        if self.firsts[number - 1] + message > self.firsts[number]:
+            # the file has grown
+            self.read()
+        found = self.of(self.rows[self.order[self.firsts[number - 1] + message - 1]])
+        assert found is not None
+        return found
 
     def stream(self) -> Iterator[Tuple[int, int, bytes]]:
         """Yield the input, the place and the version with the descriptors of each message."""
-        lister = self.list("input,place,master_version,descriptors")
+        process = self.list("input,place,master_version,descriptors")
         try:
-            lumps = Lumps(lister)
+            lumps = Lumps(process)
             text = lumps.next()
             while text:
                 for line in text.splitlines(True):
                     number, place, row = line.split(b",", 2)
                     yield int(number), int(place), row
                 text = lumps.next()
-            finish(lister)
+            finish(process)
         finally:
-            lister.end()
+            process.end()
 
 
 class Told:
@@ -229,24 +309,39 @@ class Told:
 
 
 class Selection:
-    """A run of the program. `words` are its columns."""
+    """A run of the program. `words` are its columns. What it prints comes through a pipe, or is kept in a file."""
 
-    def __init__(self, path: str, names: List[str], words: List[str], each: Optional[str], tables: List[str]) -> None:
+    def __init__(self, path: str, names: List[str], words: List[str], each: Optional[str], tables: List[str],
+                 is_kept: bool = False) -> None:
         self.told = Told()
         self.words = [path, *tables, "-c", ",".join(words), *(["-e", each] if each else []), "--", *names]
         environment = {key: value for key, value in os.environ.items() if key not in ("BUFR_TABLES", "BUFR_VERBOSE")}
+        self.kept = os.memfd_create("rows") if is_kept else None
+        given = {2: self.told.file} if self.kept is None else {1: self.kept, 2: self.told.file}
         try:
-            self.process = Popen(self.words, stdin=DEVNULL, stdout=PIPE, stderr=self.told.file, env=environment, bufsize=0)
-        except OSError as error:
-            self.told.close()
-            raise BufrError(f"cannot run {path}: {error.strerror}") from None
+            with open(os.devnull, "rb") as nothing:
+                self.process = Process(self.words, (1,) if self.kept is None else (), {0: nothing.fileno(), **given}, environment)
+        except Fault as fault:
+            self.shut()
+            raise BufrError(str(fault)) from None
+
+    def path(self) -> Optional[str]:
+        """Return a path of what is kept, or nothing if there is no row after the first one."""
+        assert self.kept is not None
+        return f"/proc/self/fd/{self.kept}" if os.pread(self.kept, PIECE, 0).count(b"\n") > 1 else None
 
     def pieces(self) -> Iterator[bytes]:
         """Yield what the program prints as it comes."""
-        piece = self.process.stdout.read(PIECE)  # type: ignore[union-attr]
+        pipe = self.process.pipes[1]
+        widen(pipe)
+        piece = os.read(pipe, PIECE)
         while piece:
             yield piece
-            piece = self.process.stdout.read(PIECE)  # type: ignore[union-attr]
+            piece = os.read(pipe, PIECE)
+        self.finish()
+
+    def finish(self) -> None:
+        """Wait for the end of the program, and raise what went wrong."""
         status = self.process.wait()
         self.told.read()
         if status not in (0, 1):
@@ -267,12 +362,16 @@ class Selection:
                 del lines[0]
             yield from csv.reader(lines)
 
-    def close(self) -> None:
-        if self.process.poll() is None:
-            self.process.kill()
-            self.process.wait()
-        self.process.stdout.close()  # type: ignore[union-attr]
+    def shut(self) -> None:
+        """Close the files."""
         self.told.close()
+        if self.kept is not None:
+            os.close(self.kept)
+
+    def close(self) -> None:
+        """End the program, if it still runs."""
+        self.process.end()
+        self.shut()
 
 
 class Plan:
@@ -299,7 +398,28 @@ class Plan:
         return any(is_shown(Running(words_to_show(group, templates.paths), through=["grep", "-aEm1", pattern])) for group in groups)
 
     def start(self) -> Selection:
+        """Start the program. What it prints comes through a pipe."""
         return Selection(self.path, self.templates.names, self.words, self.each, self.templates.options())
+
+    @contextmanager
+    def kept(self, wait_for: Callable[[Selection], None]) -> Iterator[Selection]:
+        """Run the program to its end. What it prints is kept. Tables of few rows are loaded, or all of them if a file grew meanwhile by a
+        message that asks for others."""
+        few: Optional[FewTables] = FewTables() if self.templates.paths is None else None
+        while True:
+            try:
+                selection = Selection(self.path, self.templates.names, self.words, self.each, self.templates.options(few), True)
+                try:
+                    wait_for(selection)
+                    if few is None or not self.templates.have_grown():
+                        yield selection
+                        return
+                finally:
+                    selection.close()
+            finally:
+                if few is not None:
+                    few.close()
+            few = None
 
 
 def plan_of(names: List[str], columns: Sequence[str], each: Optional[str], paths: Optional[List[str]],

@@ -10,19 +10,23 @@ import os
 import sys
 
 from .commands import called, entry
-from .given import Files
-from .lister import start_all
+from .starting import start_all, start_early
+
+TYPE_CHECKING = False
+if TYPE_CHECKING:
+    from .given import Files
 
 # The most octets whose data are read unasked, which takes a second or so.
 MOST_READ = 4_000_000
 
 
-def read(files, tables=None, element=None, with_data=None, with_places=False, name="bufr", quiet=True, with_values=False):
-    """The contents of files and their reports, which are None if no data were read."""
+def read(files: "Files", tables=None, element=None, with_data=None, with_places=False, name="bufr", quiet=True, with_values=False,
+         listers=()):
+    """The contents of files and their reports, which are None if no data were read. `listers` are those that run."""
     is_read = files.octets <= MOST_READ if with_data is None else with_data
     if files.given and not is_read and not with_places:
         # bufr-ls runs while the rest is loaded
-        listers = start_all(files.given)
+        listers = listers or start_all([each.path for each in files.given])
         from . import summary_text  # noqa: F401
         from .heads import Heads
         contents = Heads(files.given, tables)
@@ -71,7 +75,17 @@ def parsed():
 
 
 def main():
-    name, words = called("summary"), sys.argv[1:]
+    listers = start_early(sys.argv[1:], MOST_READ)
+    try:
+        return summarize(called("summary"), sys.argv[1:], listers)
+    finally:
+        for each in listers:
+            each.end()
+
+
+def summarize(name, words, listers):
+    """Prints what is in files, and returns the status. `listers` run if the words are no options."""
+    from .given import Files
     has_options = any(word.startswith("-") and word != "-" for word in words)
     arguments = parsed() if has_options else Plain(words or ["-"])
     paths = None
@@ -80,7 +94,7 @@ def main():
         paths = TablesByVersion.chosen(arguments).paths
     with Files(arguments.files, name) as files:
         contents, reports = read(files, paths, with_data=arguments.data or None, with_places=arguments.headings, name=name,
-                                 quiet=arguments.quiet)
+                                 quiet=arguments.quiet, listers=listers)
         if arguments.json:
             import json
             print(json.dumps(json_of(contents, reports, arguments.headings)))

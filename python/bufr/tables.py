@@ -64,9 +64,9 @@ class TablesByVersion:
         return STANDARD[version]
 
 
-def records(path, needed):
-    """The records of a table file by the names of their columns, as `bufr` reads them: headers that come
-    again and records whose needed fields are empty are passed over."""
+def records(path, needed, last=None):
+    """The records of a table file, as `bufr` reads them: the cells of the columns `needed`, and at last of one that may not be there.
+    Headers that come again and records whose needed cells are empty are passed over."""
     import csv
     try:
         with open(path, encoding="utf-8-sig", errors="replace", newline="") as file:
@@ -75,11 +75,15 @@ def records(path, needed):
             missing = [name for name in needed if name not in header]
             if missing:
                 raise Fault(f"{path} has no column {missing[0]}")
+            # of a name that comes twice the first column counts
+            places = [header.index(name) for name in [*needed, last] if name in header]
+            rest = [""] * (last is not None and last not in header)
             for row in rows:
-                row = [field.strip(" ") for field in row]
-                record = dict(reversed(list(zip(header, row))))
-                if row and row != header and any(record.get(name) for name in needed):
-                    yield record
+                row += [""] * (len(header) - len(row))
+                cells = [row[at].strip(" ") for at in places]
+                is_header = cells[0] == needed[0] and [cell.strip(" ") for cell in row] == header
+                if (cells[0] or any(cells[:len(needed)])) and not is_header:
+                    yield cells + rest
     except OSError as error:
         raise Fault(f"cannot open {path}: {error.strerror}") from error
 
@@ -92,17 +96,15 @@ class Tables:
         self.members = {}
         self.titles = {}
         needed = ["FXY", "BUFR_Unit", "BUFR_Scale", "BUFR_ReferenceValue", "BUFR_DataWidth_Bits"]
-        for record in records(b_path, needed):
+        for descriptor, unit, scale, reference, width, name in records(b_path, needed, "ElementName_en"):
             try:
-                numbers = [int(record[name]) for name in needed[2:]]
+                self.elements[descriptor] = Element(name, unit, int(scale), int(reference), int(width))
             except ValueError as error:
-                raise Fault(f"{b_path}: the row of {record['FXY']} has a number that is none") from error
-            self.elements[record["FXY"]] = Element(record.get("ElementName_en", ""), record["BUFR_Unit"], *numbers)
-        for record in records(d_path, ["FXY1", "FXY2"]):
-            self.members.setdefault(record["FXY1"], []).append(record["FXY2"])
-            title = record.get("Title_en", "")
-            if title and record["FXY1"] not in self.titles:
-                self.titles[record["FXY1"]] = title
+                raise Fault(f"{b_path}: the row of {descriptor} has a number that is none") from error
+        for sequence, member, title in records(d_path, ["FXY1", "FXY2"], "Title_en"):
+            self.members.setdefault(sequence, []).append(member)
+            if title:
+                self.titles.setdefault(sequence, title)
 
     def name(self, descriptor):
         """The name of an element; of a field of 205 and of a local one, what it is."""

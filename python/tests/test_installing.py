@@ -105,6 +105,19 @@ def test_the_runner_of_a_checkout(folder):
                PYTHONSAFEPATH="1")[:2] == (0, "") or sys.version_info < (3, 11)
 
 
+def test_a_checkout_keeps_what_python_compiles(folder):
+    """As far as it may: a script does, and not the package where it is installed, whose files a list names."""
+    for name in ("python", "scripts", "tables"):
+        shutil.copytree(f"{TOP}/{name}", f"{folder}/{name}", ignore=shutil.ignore_patterns("__pycache__"))
+    variables = {key: value for key, value in os.environ.items() if key != "PYTHONDONTWRITEBYTECODE"}
+    kept = f"{folder}/python/bufr/__pycache__"
+    for words, more, is_kept in (([f"{folder}/scripts/bufr-skeleton"], {"PYTHONDONTWRITEBYTECODE": "1"}, False),
+                                 ([f"{folder}/python/bufr/__main__.py", "skeleton"], {}, False), ([f"{folder}/scripts/bufr-skeleton"], {}, True)):
+        done = subprocess.run([sys.executable, *words, "012101"], capture_output=True, text=True, env={**variables, **more})
+        assert (done.returncode, done.stderr) == (0, "") and done.stdout.endswith("\n012101 missing\nend\n")
+        assert os.path.exists(kept) == is_kept
+
+
 def test_the_package_imports_nothing_of_weight():
     """Neither the package nor by-version loads what takes long: their start counts for each message of a pipe."""
     heavy = {"argparse", "csv", "json", "subprocess", "tempfile", "pandas", "typing", "threading", "shutil", "logging", "datetime"}

@@ -149,6 +149,17 @@ def encoded(folder, listing):
     return write(f"{folder}/encoded", done.stdout)
 
 
+def test_records_of_a_table_file(folder):
+    """Columns in any order, of which the first counts if one comes twice; headers again, short rows and rows without what is needed."""
+    from bufr.tables import records
+    path = write(f"{folder}/table", "\xef\xbb\xbfx, FXY ,BUFR_Unit,FXY\n1, 001001,m ,009009\n2\nx,FXY,BUFR_Unit ,FXY\n3,001002\n4,,,\nx,FXY,K,FXY\n")
+    assert list(records(path, ["FXY", "BUFR_Unit"], "none")) == [["001001", "m", ""], ["001002", "", ""], ["FXY", "K", ""]]
+    assert list(records(path, ["BUFR_Unit"], "FXY")) == [["m", "001001"], ["K", "FXY"]]
+    assert list(records(path, ["x"])) == [["1"], ["2"], ["3"], ["4"], ["x"]]
+    with pytest.raises(Exception, match=f"^{path} has no column none$"):
+        list(records(path, ["FXY", "none"]))
+
+
 def test_levels_of_replications():
     """Each replication is a list of its turns: fixed, delayed, within each other, and without a turn."""
     listing = LISTING.replace("012101\nsubset\n012101 273.15", "103002 101000 031001 012101 101000 031001 002001 102002 005002 006002"

@@ -6,12 +6,13 @@ import random
 import subprocess
 import warnings
 
+import numpy
 import pandas
 import pytest
 
 import bufr
 import makers
-from bufr import reading, selecting, versions
+from bufr import few_tables, framing, moments, processes, progress, reading, selecting, versions
 from bufr.tables import Tables
 from conftest import TOP, message, read, write
 
@@ -132,6 +133,27 @@ def test_a_minute_that_is_missing_and_one_that_is_not_there(program, folder, mon
     assert found == [(moment, 1), (None, 2), (moment.replace(minute=7), 2), (moment, 3)]
 
 
+def test_times_of_columns_are_those_of_rows():
+    """Of random parts: missing ones, of columns that no message has, outside their ranges, days of leap years, and years that pandas
+    does not know."""
+    rng, nan = random.Random(7), float("nan")
+    ranges = [(0, 10000), (-1, 14), (-1, 33), (-1, 25), (-1, 61), (-1, 61)]
+    rows = [[nan if rng.random() < 0.05 else rng.randint(*each) for each in ranges] for _ in range(3000)]
+    rows += [[year, month, day, 0, 0, 0] for year in (1900, 2000, 2023, 2024) for month in range(1, 13) for day in (28, 29, 30, 31)]
+    rows += [[1677, 9, 21, 0, 12, second] for second in (43, 44)] + [[2262, 4, 11, 23, 47, second] for second in (16, 17)]
+    rows += [[2024, 1, 15, 12.75, 1e14, 0], [1e14, 1, 1, 0, 0, 0], [-5, 1, 1, 0, 0, 0], [1, 1, 1, 0, 0, 0], [9999, 12, 31, 23, 59, 59]]
+    for is_there in ((True, True), (True, False), (False, False)):
+        for lacks in ((), (5,), (4, 5), (0,)):
+            parts = [None if at in lacks else numpy.array([row[at] for row in rows], "float64") for at in range(6)]
+            found = moments.moments_of(numpy, parts, is_there)
+            cells = [[None if at in lacks or part != part else part for at, part in enumerate(row)] for row in rows]
+            wanted = pandas.to_datetime(pandas.Series([moments.moment_of(row, is_there) for row in cells], dtype=object), errors="coerce")
+            pandas.testing.assert_series_equal(pandas.Series(found), wanted)
+    whole = [numpy.array([year, year]) for year in (2024, 2, 29, 23, 59, 58)]
+    assert moments.moments_of(numpy, whole, (True, True)).tolist() == [1709251198 * 10 ** 9] * 2
+    assert moments.moment_of([2024, 2, 29, 23, 59, 58], (True, True)) == datetime.datetime(2024, 2, 29, 23, 59, 58)
+
+
 def test_a_minute_in_a_replication_is_left_to_listings(program, folder, monkeypatch):
     template = "004001 004002 004003 004004 101000 031001 004005"
     path = encoded(folder, listing(template, f"{DAY}; 031001 0", f"{DAY}; 031001 1; 004005 missing"))
@@ -207,3 +229,101 @@ def test_without_the_program_and_of_pipes_listings_tell(folder, monkeypatch):
     assert feeder.wait() == 0
     with pytest.raises(bufr.BufrError, match=f"^cannot run {folder}/no program: No such file or directory$"):
         list(bufr.rows(SAMPLES[:1], ["012101"]))
+
+
+def counting(folder, monkeypatch, name):
+    """Makes calls run a program by a script that counts its runs. Returns the file that has a line for each."""
+    variable = name.upper().replace("-", "_")
+    path = write(f"{folder}/{name}", f"#!/bin/sh\necho >>{folder}/{name}.runs\nexec {selecting.program(name)} \"$@\"\n")
+    os.chmod(path, 0o755)
+    monkeypatch.setenv(variable, path)
+    return f"{folder}/{name}.runs"
+
+
+def test_heads_are_listed_once_if_there_is_nothing_else(program, folder, monkeypatch):
+    """Of messages with and without a field for the minute; what is between messages is looked for in a second run."""
+    day = "004001 004002 004003 004004"
+    path = encoded(folder, (listing(day, DAY) + listing(f"{day} 004005", f"{DAY}; 004005 7", f"{DAY}; 004005 missing")) * 3)
+    runs, noise = counting(folder, monkeypatch, "bufr-ls"), write(f"{folder}/noise", read(path) + b"BUFR\0\0\x40\4 and no more")
+    other = write(f"{folder}/other", read(path)[:int.from_bytes(read(path)[4:7], "big")])
+    moment = pandas.Timestamp(2024, 1, 15, 12)
+    wanted = {other: [(1, moment)]}
+    wanted[path] = wanted[noise] = [*zip([1, 2, 2, 3, 4, 4, 5, 6, 6], [moment, moment.replace(minute=7), pandas.NaT] * 3)]
+    for times, files in enumerate(([path], [path, path], [other, path], [path, noise]), 1):
+        frame = bufr.read(files, ["message"], time=True)
+        assert list(zip(frame["message"], frame["time"])) == [row for file in files for row in wanted[file]]
+        assert len(read(runs)) == times + (noise in files)
+    assert [each[1] for each in frame.attrs["refusals"]] == [os.path.getsize(path)]
+
+
+def test_a_file_that_grows_while_it_is_read(program, folder, monkeypatch):
+    """The messages that came meanwhile have their rows and times, also if they ask for other rows of the tables. Only an iterator, whose
+    rows were handed out, can't read those of a version whose tables were not named."""
+    day, start = "004001 004002 004003 004004", selecting.Selection.__init__
+    path = encoded(folder, listing(day, DAY) + listing(f"{day} 004005", f"{DAY}; 004005 7"))
+    octets, moments_here = read(path), [datetime.datetime(2024, 1, 15, 12, minute) for minute in (0, 7)]
+    for more, wanted in ((octets * 2, moments_here * 3), (message(46), [*moments_here, None]), (message(13), [*moments_here, None])):
+        for is_frame in (True, False):
+            write(path, octets)
+
+            def grown(*words):
+                with open(path, "ab") as file:
+                    file.write(more if os.path.getsize(path) == len(octets) else b"")
+                return start(*words)
+            monkeypatch.setattr(selecting.Selection, "__init__", grown)
+            if is_frame:
+                found = bufr.read(path, ["message"], time=True)["time"]
+                assert [None if each is pandas.NaT else each for each in found] == wanted
+            elif more == message(13):
+                with pytest.raises(bufr.BufrError, match="^a file has changed while it was read$"):
+                    list(bufr.rows(path, ["message"], time=True))
+            else:
+                assert [row[0] for row in bufr.rows(path, ["message"], time=True)] == wanted
+
+
+def test_tables_of_few_rows():
+    """The rows of elements and sequences that descriptors ask for, with those of sequences in sequences; others are passed over."""
+    found = few_tables.rows_of(Tables(*versions.table_paths(46)), ["301011", "301001", "012101", "101000", "031001", "206008", "063001"])
+    assert found == ([("001001", "Numeric", 0, 0, 7), ("001002", "Numeric", 0, 0, 10), ("004001", "a", 0, 0, 12), ("004002", "mon", 0, 0, 4),
+                      ("004003", "d", 0, 0, 6), ("012101", "K", 2, 0, 16), ("031001", "Numeric", 0, 0, 8)],
+                     [("301001", "001001"), ("301001", "001002"), ("301011", "004001"), ("301011", "004002"), ("301011", "004003")])
+
+
+def test_a_long_read_says_how_far_it_is(program, folder, monkeypatch, capsys):
+    """While the program runs, which is looked at again and again."""
+    path = write(f"{folder}/program", f"#!/bin/sh\nsleep 0.5\nexec {program} \"$@\"\n")
+    os.chmod(path, 0o755)
+    monkeypatch.setenv("BUFR_SELECT", path)
+    monkeypatch.setattr(progress, "FIRST", 0.0)
+    monkeypatch.setattr(progress.os, "isatty", lambda file: True)
+    monkeypatch.setattr(framing, "positions", lambda *_: iter([(0, 7)]))
+    assert bufr.read(f"{TOP}/examples/sequences.bufr", ["012101"])["012101"].tolist() == [273.15]
+    assert capsys.readouterr().err.startswith("\rbufr: 7 of 62 octets\x1b[K")
+    process = processes.Process(["sleep", "900"], ())
+    assert not process.has_ended(0.01)
+    process.end()
+    assert process.has_ended(0.01)
+
+
+def test_rows_have_numbers_in_their_order():
+    order = selecting.Order()
+    for text in (b"a\n" * 3, b"b\na\n", b"b\n"):
+        order.take(text)
+    assert dict(order) == {b"a\n": 0, b"b\n": 1} and order.numbers.tolist() == [0, 0, 0, 1, 0, 1]
+
+
+def test_templates_of_the_standard_are_made_once(monkeypatch):
+    """For each `each`; there is an end to how many are kept. Those of other tables are made for each call."""
+    made = []
+    monkeypatch.setattr(selecting, "MADE", {})
+    monkeypatch.setattr(selecting, "MOST_MADE", 2)
+    monkeypatch.setattr(selecting, "template_of", lambda _, descriptors, each: made.append((*descriptors, *each)))
+
+    def ask(word, paths=None, each=()):
+        selecting.Templates([], paths, frozenset(each)).of(f"46,{word}\n".encode())
+        return len(made), len(selecting.MADE)
+    assert [ask("012101"), ask("012101"), ask("012101", None, ["007004"])] == [(1, 1), (1, 1), (2, 2)]
+    assert [ask("012103"), ask("012101")] == [(3, 1), (4, 2)]
+    named = versions.table_paths(46)
+    assert [ask("012101", named), ask("012101", named)] == [(5, 2), (6, 2)]
+    assert made == [("012101",), ("012101", "007004"), ("012103",), ("012101",), ("012101",), ("012101",)]

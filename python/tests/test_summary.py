@@ -13,9 +13,11 @@ import pytest
 
 import bufr
 import makers
-from bufr import contents, lister, subsets, summary
+from bufr import contents, given, lister, starting, subsets, summary
+from bufr.errors import Fault
+from bufr.processes import RUNNING
 from bufr.programs import launcher
-from conftest import TOP, command, message, named, read, run, write
+from conftest import TOP, command, inside, message, named, read, run, write
 
 SAMPLES = sorted(glob.glob(f"{TOP}/examples/*.bufr") + glob.glob(f"{TOP}/examples/standard/*.bufr"))
 HEADING = b"\x01\r\r\n123\r\r\nISMD01 EDZW 151200 RRA\r\r\n"
@@ -271,12 +273,14 @@ def test_heads_and_times_are_counted_together_or_apart(folder, monkeypatch):
 
     def counted(processors, second=None):
         """With so many processors; the second run of bufr-ls may be of other files."""
-        def start_all(given):
-            listers = lister.start_all(given)
+        def start_all(paths):
+            listers = starting.start_all(paths)
             started.append(len(listers))
             if second:
                 listers.pop().end()
-                listers.append(lister.start_all(second)[1])
+                unused, other = starting.start_all(second)
+                unused.end()
+                listers.append(other)
             return listers
         with monkeypatch.context() as patched, contents.Files(paths) as files:
             patched.setattr(os, "sched_getaffinity", lambda _: set(range(processors)))
@@ -285,13 +289,53 @@ def test_heads_and_times_are_counted_together_or_apart(folder, monkeypatch):
     started = []
     found = counted(1)
     assert counted(3) == found
-    with contents.Files([paths[0], grown]) as files:
-        assert counted(3, files.given) == found
-    paths.reverse()
-    write(paths[0], message(46) * 2000)
-    counted(3)
-    assert started == [1, 2, 2, 1]
+    assert counted(3, [paths[0], grown]) == found
+    assert started == [1, 2, 2]
     assert found["time"] == ["2024-01-15 00:07:00", "2024-01-15 23:59:00"] and found["messages"] == 4004
+
+
+def test_bufr_ls_runs_while_the_rest_is_loaded(folder, monkeypatch):
+    """On the files of a call that are read by their heads unasked. Nothing else is started for other words, and no pipe is read."""
+    path, short = write(f"{folder}/file", message(46) * 81633), write(f"{folder}/short", message(46))
+    loaded = []
+
+    class Noted(given.Files):
+        def __init__(self, *words):
+            loaded.append([each.words[-1] for each in RUNNING])
+            super().__init__(*words)
+            if len(loaded) > 1:
+                raise Fault("none")
+    monkeypatch.setattr(given, "Files", Noted)
+    monkeypatch.setattr(os, "sched_getaffinity", lambda _: {0, 1, 2})
+    assert inside("summary", short, path)[0] == 0 and loaded == [[path]]
+    # they end with the call
+    assert inside("summary", path) == (2, "", "bufr-summary: none\n") and not RUNNING
+    assert inside("summary", short)[0] == 2 and inside("summary", "--quiet", path)[0] == 2 and loaded[2:] == [[], []]
+    os.mkfifo(f"{folder}/pipe")
+    for words in ([f"{folder}/pipe", path], [folder, path], [f"{folder}/none", path], [f"{path}\0"], ["-", path], []):
+        assert starting.start_early(words, 4_000_000) == []
+    # an option is one, though a file is called so
+    monkeypatch.chdir(folder)
+    os.link(path, "--json")
+    assert starting.start_early(["--json"], 4_000_000) == []
+
+
+def test_times_are_counted_in_lumps():
+    """Of rows that are alike and of others: the times of messages that have subsets, and how many rows there are."""
+    moments = lister.Moments()
+    for text in (b"2024,1,15,12,0,0,1\n" * 3, b"2024,1,15,12,0,0,1\n", b"2024,1,15,12,0,0,1\n,,,,,,\n2024,1,15,12,7,0,20\n", b",,,,,,\n" * 2):
+        moments.take(text)
+    assert moments.number == 9 and moments.known() == {b"2024,1,15,12,0,0", b"2024,1,15,12,7,0"}
+
+
+def test_the_first_and_the_last_time():
+    """Numbers are compared, and not their digits."""
+    counts = lister.Counts({}, False)
+    assert counts.span() == []
+    for moments, first, last in (([b"2024,2,15,9,5,0"], 0, 0), ([b"2024,2,15,9,50,0", b"2024,2,15,9,6,0", b"2024,2,15,10,1,0"], 1, 2),
+                                 ([b"2024,12,1,0,0,0", b"2024,2,3,4,5,60", b"2024,2,3,4,5,7", b"2024,12,1,0,10,0", b"2024,12,1,0,9,0"], 2, 3)):
+        counts.moments = set(moments)
+        assert counts.span() == [tuple(map(int, moments[at].split(b","))) for at in (first, last)]
 
 
 def test_rows_are_counted_without_what_python_has_for_itself(monkeypatch):
