@@ -1,10 +1,10 @@
-"""Columns of DataFrames of what `bufr-select` prints. pandas reads the numbers, since it does that many times faster than this
-package; it is handed on by the caller."""
+"""Columns of DataFrames of what `bufr-select` prints. pandas is handed on by the caller."""
 from __future__ import annotations
 
 import os
-from typing import TYPE_CHECKING, Any, Callable, List, Sequence, Tuple
+from typing import TYPE_CHECKING, Any, Callable, Dict, List, Sequence, Tuple
 
+from .decimals import columns_of
 from .moments import PARTS, TIME, moments_of
 from .progress import Progress, positions
 from .selecting import Plan, Selection
@@ -12,7 +12,9 @@ from .selecting import Plan, Selection
 if TYPE_CHECKING:
     from .reading import Column
 
-Maker = Callable[[Any], Any]
+# The columns that the program prints, by their words.
+Table = Dict[str, Any]
+Maker = Callable[[Table], Any]
 
 
 class Framer:
@@ -55,7 +57,7 @@ class Framer:
         else:
             self.plan.ask(word)
             is_flag = word in ("observed", "compressed")
-            self.makers.append(lambda table: table[word].to_numpy("bool" if is_flag else None))
+            self.makers.append(lambda table: table[word].astype("bool") if is_flag else table[word])
 
     def add_time(self) -> None:
         """Add the column of the times of the fields of TIME."""
@@ -67,20 +69,20 @@ class Framer:
         for word in asked + where * (len(there) > 1):
             self.plan.ask(word)
 
-        def made(table: Any) -> Any:
+        def made(table: Table) -> Any:
             is_there = self.numpy.array(there)[self.kinds(table, there) if len(there) > 1 else 0]
-            found = moments_of(self.numpy, [table[word].to_numpy() if word in asked else None for word in TIME], is_there.T)
-            return found if asked else found.repeat(len(table))
+            found = moments_of(self.numpy, [table[word] if word in asked else None for word in TIME], is_there.T)
+            return found if asked else found.repeat(count_of(table))
         self.makers.append(made)
 
-    def kinds(self, table: Any, there: List[Tuple[bool, ...]]) -> Any:
+    def kinds(self, table: Table, there: List[Tuple[bool, ...]]) -> Any:
         """Return for each row which of `there` the template of its message has."""
         templates = self.plan.templates
         templates.renew()
         found = [templates.of(row) for row in templates.rows]
         kinds = self.numpy.array([there.index(each.has(PARTS)) if each is not None else 0 for each in found])
-        firsts = self.numpy.array(templates.firsts)[table["input"].to_numpy() - 1] if len(self.files) > 1 else 0
-        messages = firsts + table["message"].to_numpy() - 1
+        firsts = self.numpy.array(templates.firsts)[table["input"] - 1] if len(self.files) > 1 else 0
+        messages = firsts + table["message"] - 1
         return kinds[self.numpy.frombuffer(templates.order, templates.order.typecode)[messages]]
 
     def mapped(self, cells: Any, cell_of: Callable[[Any], Any]) -> Any:
@@ -88,34 +90,46 @@ class Framer:
         codes, kept = self.pandas.factorize(cells)
         return self.numpy.array([cell_of(cell) for cell in kept.tolist()], dtype="object")[codes]
 
-    def nothing(self, table: Any) -> Any:
+    def nothing(self, table: Table) -> Any:
         """Return a column that has nothing but None."""
-        return self.numpy.empty(len(table), dtype="object")
+        return self.numpy.empty(count_of(table), dtype="object")
 
     def numbers(self, cells: Any) -> Any:
         """Return a column of numbers; one that has none has None."""
-        found = cells.to_numpy()
-        return self.nothing(found) if found.dtype.kind == "f" and self.numpy.isnan(found).all() else found
+        is_empty = cells.dtype.kind == "f" and self.numpy.isnan(cells).all()
+        return self.numpy.empty(len(cells), dtype="object") if is_empty else cells
 
-    def table(self, path: str) -> Any:
+    def table(self, path: str) -> Table:
         """Return the table that the program has written into a file."""
+        found = columns_of(self.numpy, path, len(self.plan.words)) if not self.texts else None
+        return self.read(path) if found is None else dict(zip(self.plan.words, found))
+
+    def read(self, path: str) -> Table:
+        """Return a table that may have texts."""
         # no number has more than 15 digits, and these come back; an empty text stays one
         numbers = [word for word in self.plan.words if word not in self.texts]
-        return self.pandas.read_csv(path, dtype={word: str for word in self.texts}, keep_default_na=False,
-                                    na_values={word: [""] for word in numbers}, float_precision="high", low_memory=False)
+        table = self.pandas.read_csv(path, dtype={word: str for word in self.texts}, keep_default_na=False,
+                                     na_values={word: [""] for word in numbers}, float_precision="high", low_memory=False)
+        return {word: table[word].to_numpy() for word in self.plan.words}
 
     def columns(self, path: str) -> Tuple[List[Any], List[bool]]:
         """Return the columns, and whether each has a value."""
         table = self.table(path)
         made = [maker(table) for maker in self.makers]
-        return made, [each.dtype.kind in "biu" or bool(self.pandas.notna(each).any()) for each in made]
+        return made, [each.dtype.kind in "biufM" or bool(self.pandas.notna(each).any()) for each in made]
+
+
+def count_of(table: Table) -> int:
+    """Return how many rows a table has."""
+    return len(next(iter(table.values())))
 
 
 def wait_for(selection: Selection, files: Sequence[str], quiet: bool) -> None:
     """Wait for the end of the program, and say how far it is."""
-    known = {os.path.realpath(file): number for number, file in reversed(list(enumerate(files)))}
     sizes = [os.path.getsize(file) for file in files]
     progress = Progress("bufr", sum(sizes), quiet)
+    is_told = progress.next is not None
+    known = {os.path.realpath(file): number for number, file in reversed(list(enumerate(files)))} if is_told else {}
     try:
         while progress.next is not None and not selection.process.has_ended(within=0.1):
             for number, octets in positions(selection.process.number, known):

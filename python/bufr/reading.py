@@ -117,6 +117,7 @@ class Names:
     def __init__(self, tables: Optional[List[str]]) -> None:
         self.tables = tables
         self.by_version = TablesByVersion(tables)
+        self.b_path = (tables or table_paths(VERSIONS[-1]))[0]
         self.found: Optional[Dict[str, List[str]]] = None
 
     def all(self) -> Iterator[Tables]:
@@ -176,7 +177,7 @@ class Names:
 
     def check(self, descriptor: str) -> None:
         """Raise what is wrong with a descriptor of which a listing has no field."""
-        if has_element((self.tables or table_paths(VERSIONS[-1]))[0], descriptor):
+        if has_element(self.b_path, descriptor):
             return
         kind, x, y = descriptor[0], int(descriptor[1:3]), int(descriptor[3:])
         # a local element may be behind 206, and 205 is a field of characters
@@ -194,7 +195,6 @@ class Names:
 
 def columns_of(columns: Columns, tables: Optional[List[str]]) -> List[Column]:
     """Return the columns that a caller names."""
-    names = Names(tables)
     try:
         pairs = list(columns.items()) if isinstance(columns, Mapping) else [(word, word) for word in columns]
     except TypeError:
@@ -209,6 +209,7 @@ def columns_of(columns: Columns, tables: Optional[List[str]]) -> List[Column]:
             raise BufrError(f"the name of a column comes first: write {{{word!r}: {name!r}}} for {{{name!r}: {word!r}}}")
     found = []
     try:
+        names = Names(tables)
         for name, word in pairs:
             if word == "time":
                 raise BufrError("time is no element: time=True makes it the first column; year to second are those of section 1")

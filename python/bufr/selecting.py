@@ -315,6 +315,7 @@ class Selection:
                  is_kept: bool = False) -> None:
         self.told = Told()
         self.words = [path, *tables, "-c", ",".join(words), *(["-e", each] if each else []), "--", *names]
+        self.first = len(",".join(words) + "\n")
         environment = {key: value for key, value in os.environ.items() if key not in ("BUFR_TABLES", "BUFR_VERBOSE")}
         self.kept = os.memfd_create("rows") if is_kept else None
         given = {2: self.told.file} if self.kept is None else {1: self.kept, 2: self.told.file}
@@ -328,7 +329,7 @@ class Selection:
     def path(self) -> Optional[str]:
         """Return a path of what is kept, or nothing if there is no row after the first one."""
         assert self.kept is not None
-        return f"/proc/self/fd/{self.kept}" if os.pread(self.kept, PIECE, 0).count(b"\n") > 1 else None
+        return f"/proc/self/fd/{self.kept}" if os.fstat(self.kept).st_size > self.first else None
 
     def pieces(self) -> Iterator[bytes]:
         """Yield what the program prints as it comes."""

@@ -78,6 +78,19 @@ def test_samples(program, columns, each, how, monkeypatch):
     assert (chosen[0] is None) == (columns is NAMED or each in ("PRESSURE", "063001"))
 
 
+@pytest.mark.parametrize("columns", [["001002", "012101", "message", "observed"], ["006001"]])
+def test_both_readers(program, columns, monkeypatch):
+    """pandas reads the tables whose points differ, and the DataFrame is the same."""
+    read = lambda: bufr.read(SAMPLES, columns, time=len(columns) > 1, quiet=True)
+    found, said, by_pandas = read(), [], framing.Framer.read
+    monkeypatch.setattr(framing.Framer, "read", lambda framer, path: said.append(path) or by_pandas(framer, path))
+    pandas.testing.assert_frame_equal(read(), found)
+    assert not said
+    monkeypatch.setattr(framing, "columns_of", lambda *words: None)
+    pandas.testing.assert_frame_equal(read(), found)
+    assert len(said) == 1
+
+
 @pytest.mark.parametrize("path", SAMPLES, ids=os.path.basename)
 def test_each_sample(program, path, monkeypatch):
     for columns, each, how in CALLS[:4]:

@@ -81,6 +81,25 @@ const EDITION_5: [u8; 62] = [
     0x00, 0x14, 0xC0, 0x3F, 0x40, 0x9E, 0xC0, 0x1A, 0xAC, 0xC0, 0x37, 0x37, 0x37, 0x37,
 ];
 
+/// The first message and the next station as two plain subsets.
+const PAIR: &[u8] = b"BUFR\x00\x00\x46\x04\
+\x00\x00\x16\x00\x00\x62\x00\x00\x00\x00\x00\x02\x00\x25\x00\x07\xE8\x01\x0F\x0C\x00\x00\
+\x00\x00\x0F\x00\x00\x02\x80\xC1\x01\xC1\x0B\xC1\x0C\x0C\x65\
+\x00\x00\x15\x00\x14\xC0\x3F\x40\x9E\xC0\x1A\xAC\xC5\x30\x2F\xD0\x27\xB0\x06\xAB\x30\
+7777";
+
+/// The archive of its two reports.
+const PAIR_PARTED: &[u8] = b"BUFR\x00\x00\x3E\x04\
+\x00\x00\x16\x00\x00\x62\x00\x00\x00\x00\x00\x02\x00\x25\x00\x07\xE8\x01\x0F\x0C\x00\x00\
+\x00\x00\x0F\x00\x00\x01\x80\xC1\x01\xC1\x0B\xC1\x0C\x0C\x65\
+\x00\x00\x0D\x00\x14\xC0\x3F\x40\x9E\xC0\x1A\xAC\xC0\
+7777\
+BUFR\x00\x00\x3E\x04\
+\x00\x00\x16\x00\x00\x62\x00\x00\x00\x00\x00\x02\x00\x25\x00\x07\xE8\x01\x0F\x0C\x00\x00\
+\x00\x00\x0F\x00\x00\x01\x80\xC1\x01\xC1\x0B\xC1\x0C\x0C\x65\
+\x00\x00\x0D\x00\x14\xC0\xBF\x40\x9E\xC0\x1A\xAC\xC0\
+7777";
+
 /// A step: a slot's stream goes on or ends, or one slot merges into another, directly, by its text
 /// or by a copy.
 enum Done {
@@ -253,7 +272,7 @@ const MISSING: &[Row] = &[
 ];
 
 /// The counts have frames that spell no message, also those that only an end brings; an end adds its
-/// messages.
+/// messages. The last message has one new report of two.
 const FRAMES: &[Row] = &[
     (Feed(0, &EDITION_5), Fed(0, 1, 0), &[]),
     (Feed(0, b"BUFR"), Fed(0, 0, 0), &[]),
@@ -264,6 +283,7 @@ const FRAMES: &[Row] = &[
     (Feed(0, &EDITION_5), Fed(0, 0, 0), &[]),
     (End(0), Ended(2, 3, 1), &[]),
     (Feed(0, &ROW_1), Fed(1, 0, 0), &[(0, &ROW_1)]),
+    (Feed(0, PAIR), Fed(1, 0, 1), &[(0, PAIR_PARTED)]),
 ];
 
 /// The last of a thousand slots takes in a message.

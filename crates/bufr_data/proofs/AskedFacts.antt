@@ -1,7 +1,7 @@
 -- Skipping fields one by one up to the first chosen one; a walk ahead that finds no chosen field.
 use Rattle.std.proofs.Common.{◌≡◌, ℕ, ◌+◌, Bool, true, false, List, [], ◌∷◌, ◌++◌, sym, subst}
 use Rattle.std.proofs.Common.{Option, Some, None, Result, Ok, Err}
-use Rattle.std.specs.Prelude.{OnErr}
+use Rattle.std.specs.Prelude.{OnErr, IfSome, IfNone}
 use Rattle.std.proofs.Common.{ap, ◌∙◌, append_assoc, append-nil}
 use Rattle.bufr_bits.specs.Ends.{BitPlace, left}
 use Rattle.bufr_base.specs.Answers.{◌>>=◌}
@@ -13,6 +13,8 @@ use Rattle.bufr_expand.specs.Asked.{TellsNone}
 use Rattle.bufr_expand.specs.Courses.{Course, ends, stops, asks}
 use Rattle.bufr_expand.specs.Walks as walks
 use Rattle.bufr_fields.specs.declared.field.Field.{Field}
+use Rattle.bufr_fields.specs.declared.field.NumberField.{NumberField}
+use Rattle.bufr_fields.specs.Values.{as_field}
 use Rattle.bufr_fields.specs.declared.field.Raw.{Raw}
 use Rattle.bufr_fields.specs.declared.fault.DataFault.{DataFault}
 use Rattle.bufr_data.specs.Handed.{HandsOut, HandsOutAsked, NoneAsked, FirstIsAsked, PassesFirst}
@@ -47,6 +49,23 @@ asked_handed P all old new None so_far first handed =
     let none : all ≡ so_far.0 =
     so_far.2 ∙ ap (λ fields. so_far.0 ++ fields) handed.0 ∙ append-nil so_far.0 in
     (subst (NoneAsked P) (sym none) so_far.1, handed.1)
+
+-- a number that comes next
+pub number_handed : (P : ℕ → Bool) (all old new : List Field) (found : Option NumberField)
+    → PassesUnasked P all old → FirstIsAsked P old
+    → IfSome found (λ n. HandsOut old (Some (as_field n)) new)
+    → IfSome found (λ n. HandsOutAsked P all (Some (as_field n)) new)
+number_handed P all old new (Some n) so_far first handed =
+    asked_handed P all old new (Some (as_field n)) so_far first handed
+number_handed P all old new None so_far first handed = tt
+
+-- or none does
+pub number_refused : (P : ℕ → Bool) (all old new : List Field) (found : Option NumberField)
+    → PassesUnasked P all old → IfNone found (new ≡ old)
+    → IfNone found (PassesUnasked P all new)
+number_refused P all old new (Some n) so_far unmoved = tt
+number_refused P all old new None so_far unmoved =
+    subst (PassesUnasked P all) (sym unmoved) so_far
 
 asked_in_front : (P : ℕ → Bool) (f : Field) (r : Result SubsetRead DataFault) → P f.fxy ≡ true
     → FirstIsAsked P (fields_of (r >>= λ found. Ok (record found { fields = f ∷ found.fields })))

@@ -20,7 +20,8 @@ use Rattle.bufr_data.specs.Plain.{raw_bits, raw_at}
 use Rattle.bufr_data.specs.Compressed.{Pairwise, HasIncrement, HasText, IsColumn, equal}
 use Rattle.bufr_data.specs.Compressed.{numbers as number_column, texts as text_column, above, missing}
 use Rattle.bufr_data.specs.Compressed.{filled as is_filled, ones as ones_text}
-use Rattle.bufr_data.specs.Compressed.Reading.{or_ends, raised, value_then, all_raised, filled}
+use Rattle.bufr_fields.specs.Increments.{raised}
+use Rattle.bufr_data.specs.Compressed.Reading.{or_ends, value_then, all_raised, filled}
 use Rattle.bufr_data.specs.Compressed.Reading.{text_then, texts_then, texts_at, values_at, column_at}
 use Rattle.bufr_data.specs.Compressed.Causes.{Heads}
 use Rattle.bufr_fields.specs.FormLaws.{form_passes, form_is}

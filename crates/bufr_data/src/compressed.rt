@@ -2,7 +2,7 @@
 
 pub(crate) mod best;
 pub(crate) mod fields;
-pub(crate) mod increment;
+pub(crate) mod head;
 pub(crate) mod index;
 pub(crate) mod pass;
 pub(crate) mod places;

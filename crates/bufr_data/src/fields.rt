@@ -1,6 +1,7 @@
 //! Hands out the fields of a subset one at a time.
 
-ghost use Rattle.std.specs.Prelude.{◌≡◌, IfOk, IfErr, OnErr};
+ghost use Rattle.std.specs.Prelude.{◌≡◌, Some, IfOk, IfErr, IfSome, IfNone, OnErr};
+ghost use Rattle.bufr_fields.specs.Values.{as_field};
 ghost use Rattle.bufr_data.specs.Handed.{HandsOut, HandsOutAsked, PassesUnasked};
 
 use crate::compressed::fields::ColumnFields;
@@ -8,7 +9,7 @@ use crate::plain::fields::PlainFields;
 use crate::plain::laid_fields::LaidFields;
 use bufr_base::{Items, OutOfMemory};
 use bufr_expand::Asks;
-use bufr_fields::Field;
+use bufr_fields::{Field, NumberField};
 use std::alloc::Global;
 use std::marker::Model;
 
@@ -69,6 +70,21 @@ impl<'v> Fields<'v> {
             FieldSource::Plain(fields) => fields.next_asked(alloc, asked),
             FieldSource::Laid(fields) => fields.next_asked(alloc, asked),
             FieldSource::Compressed(fields) => fields.next_asked(alloc, asked),
+        }
+    }
+
+    /// Hands out the next chosen field if it is a number. Else returns `None`, for `next_asked` to
+    /// take it.
+    #[inline(always)]
+    pub fn next_asked_number<A: Asks>(&mut self, asked: &A) -> Option<NumberField>
+        ensures found { IfSome result (λ number.
+            HandsOutAsked (A.is_asked asked.now) self.old (Some (as_field number)) self.new) }
+        ensures others { IfNone result (PassesUnasked (A.is_asked asked.now) self.old self.new) }
+    {
+        match &mut self.standing {
+            FieldSource::Plain(fields) => fields.next_asked_number(asked),
+            FieldSource::Laid(fields) => fields.next_asked_number(asked),
+            FieldSource::Compressed(fields) => fields.next_asked_number(asked),
         }
     }
 

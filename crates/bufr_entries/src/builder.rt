@@ -53,8 +53,15 @@ impl ShelfBuilder {
         ShelfBuilder {
             alloc,
             settled: Vec::new(alloc),
-            left: PagesLeft::new(alloc),
-            waiting: Waiting::new(alloc),
+            left: PagesLeft {
+                page: Page::new(alloc),
+                pages: Vec::new(alloc),
+            },
+            waiting: Waiting {
+                entries: Vec::new(alloc),
+                octets: Vec::new(alloc),
+                ahead: Vec::new(alloc),
+            },
             count: 0,
         }
     }

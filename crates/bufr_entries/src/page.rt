@@ -1,5 +1,5 @@
 //! Pages: sorted entries, with their octets in one vector.
-ghost use Rattle.std.specs.Prelude.{◌≡◌, ◌+◌, ◌<◌, ◌≤◌, ◌++◌, ◌∷◌, [], true, false, drop, length, reverse, IfOk, IfErr, OnOk, OnErr, vec_len};
+ghost use Rattle.std.specs.Prelude.{◌≡◌, ◌+◌, ◌<◌, ◌≤◌, ◌++◌, ◌∷◌, [], true, false, drop, length, reverse, IfErr, OnOk, OnErr, vec_len};
 ghost use Rattle.std.specs.Option.{option_map, option_to_list};
 ghost use Rattle.bufr_entries.specs.Keeping.{first_of};
 ghost use Rattle.bufr_entries.specs.Pages.{paged, octets_of, mark_of, seen, EndsBefore};
@@ -13,13 +13,13 @@ use std::alloc::Global;
 use std::marker::Model;
 
 /// The number of entries of a full page.
-const MOST_ENTRIES: usize = 512;
+pub(crate) const MOST_ENTRIES: usize = 512;
 
 /// The number of octets of a full page.
 const MOST_OCTETS: usize = 32_768;
 
 /// The octets that a new page reserves.
-const ROOM_FOR_OCTETS: usize = 40_960;
+pub(crate) const ROOM_FOR_OCTETS: usize = 40_960;
 
 /// An entry of a page: its mark, and the length of its octets.
 #[derive(Drop)]
@@ -82,17 +82,6 @@ impl Page {
         Some(mark)
     }
 
-    fn last(&self) -> Option<Look>
-        ensures { option_map seen result ≡ first_of (reverse self.now) }
-    {
-        let (PageEntry { mark, len }, _) = self.entries.split_first()?;
-        let from = self.octets.len() - *len;
-        Some(Look {
-            mark,
-            octets: &self.octets[from..],
-        })
-    }
-
     /// Whether the page is untouched and ends before `next`, if there is one.
     pub(crate) fn is_whole_before(&self, next: Option<Look>) -> bool
         ensures { result ≡ true → EndsBefore self.now (option_map seen next.entry) }
@@ -100,10 +89,17 @@ impl Page {
         if self.from > 0 {
             return false;
         }
-        match (self.last(), next) {
-            (None, _) => false,
-            (Some(_), None) => true,
-            (Some(last), Some(next)) => last.slot_cmp(next).is_lt(),
+        let Some((PageEntry { mark, len }, _)) = self.entries.split_first() else {
+            return false;
+        };
+        let from = self.octets.len() - *len;
+        let last = Look {
+            mark,
+            octets: &self.octets[from..],
+        };
+        match next {
+            None => true,
+            Some(next) => last.slot_cmp(next).is_lt(),
         }
     }
 }
@@ -111,8 +107,8 @@ impl Page {
 /// A page under construction. Contracts see its entries.
 #[derive(Drop)]
 pub(crate) struct PageRoom {
-    entries: Vec<PageEntry>,
-    octets: Vec<u8>,
+    pub(crate) entries: Vec<PageEntry>,
+    pub(crate) octets: Vec<u8>,
 }
 
 impl Model for PageRoom {
@@ -128,15 +124,6 @@ impl Model for PageRoom {
 }
 
 impl PageRoom {
-    pub(crate) fn new(alloc: Global) -> Result<PageRoom, OutOfMemory>
-        ensures { IfOk result (λ room. room ≡ []) }
-    {
-        Ok(PageRoom {
-            entries: Vec::with_capacity(alloc, MOST_ENTRIES)?,
-            octets: Vec::with_capacity(alloc, ROOM_FOR_OCTETS)?,
-        })
-    }
-
     pub(crate) fn is_full(&self) -> bool {
         self.entries.len() >= MOST_ENTRIES || self.octets.len() >= MOST_OCTETS
     }

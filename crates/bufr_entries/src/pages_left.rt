@@ -14,9 +14,9 @@ use std::mem;
 /// A queue of entries in pages, in order. Contracts see the entries left.
 #[derive(Drop)]
 pub struct PagesLeft {
-    page: Page,
+    pub(crate) page: Page,
     // The pages, in reverse.
-    pages: Vec<Page>,
+    pub(crate) pages: Vec<Page>,
 }
 
 impl Model for PagesLeft {
@@ -46,15 +46,6 @@ fn turn(page: &mut Page, pages: &mut Vec<Page>)
 }
 
 impl PagesLeft {
-    pub(crate) fn new(alloc: Global) -> PagesLeft
-        ensures { result ≡ [] }
-    {
-        PagesLeft {
-            page: Page::new(alloc),
-            pages: Vec::new(alloc),
-        }
-    }
-
     /// Looks at the first entry.
     pub fn first(&self) -> Option<Look>
         ensures { option_map seen result ≡ first_of self.now }

@@ -8,7 +8,7 @@ ghost use Rattle.bufr_entries.specs.Keeping.{first_of};
 ghost use Rattle.bufr_entries.specs.Merging.{heads_order};
 ghost use Rattle.bufr_entries.specs.Pages.{flat, AreRising, LeadsAlone};
 
-use crate::page::{Page, PageRoom};
+use crate::page::{MOST_ENTRIES, Page, PageRoom, ROOM_FOR_OCTETS};
 use crate::pages_left::PagesLeft;
 use crate::waiting::Waiting;
 use bufr_base::OutOfMemory;
@@ -64,7 +64,9 @@ fn settle_page(
         settled.push_reserved(page);
         return Ok(());
     }
-    let mut room = PageRoom::new(alloc)?;
+    let entries = Vec::with_capacity(alloc, MOST_ENTRIES)?;
+    let octets = Vec::with_capacity(alloc, ROOM_FOR_OCTETS)?;
+    let mut room = PageRoom { entries, octets };
     let filled = fill(&mut room, left, waiting);
     settled.push_reserved(room.into_page());
     filled

@@ -1,6 +1,5 @@
 //! Waiting entries in any order, with their octets in one vector.
-ghost use Rattle.std.specs.Prelude.{◌≡◌, ◌+◌, ◌*◌, ◌<◌, ◌≤◌, ◌++◌, ◌∷◌, [], true, false, take, drop, length, map, reverse, OnOk, OnErr, IfSome, MatchOption, vec_len};
-ghost use Rattle.std.specs.Vec.{vec_capacity};
+ghost use Rattle.std.specs.Prelude.{◌≡◌, ◌+◌, ◌*◌, ◌<◌, ◌++◌, ◌∷◌, [], true, false, take, drop, length, map, reverse, OnOk, OnErr, IfSome, MatchOption};
 ghost use Rattle.std.specs.Bool.{OnTrue, OnFalse};
 ghost use Rattle.std.specs.Option.{option_map, option_to_list};
 ghost use Rattle.std.specs.List.Sorted.{IsPermutation};
@@ -90,39 +89,19 @@ fn drop_other(entries: &mut Vec<WaitingEntry>)
     entries.push_reserved(last);
 }
 
-/// Appends an entry, if `stands`.
-fn push_where(entries: &mut Vec<WaitingEntry>, stands: bool, entry: WaitingEntry)
-    requires { vec_len entries.old < vec_capacity entries.old }
-    ensures there { stands ≡ true → entries.new.items ≡ entries.old.items ++ entry ∷ [] }
-    ensures none { stands ≡ false → entries.new.items ≡ entries.old.items }
-{
-    if stands {
-        entries.push_reserved(entry);
-    }
-}
-
-fn at_once(entries: &[WaitingEntry]) -> usize
-    ensures { result ≤ length entries.now }
-{
-    let mut count: usize = 0;
-    let mut octets: usize = 0;
-    while count < entries.len() && count < MOST_AT_ONCE {
-        octets = octets.saturating_add(entries[entries.len() - 1 - count].len);
-        if octets > MOST_OCTETS_AT_ONCE {
-            return count;
-        }
-        count += 1;
-    }
-    count
-}
-
 /// Copies the octets of the last entries into `ahead`: they lie far apart, and one pass waits less
 /// for memory.
 fn read_last(octets: &[u8], entries: &[WaitingEntry], ahead: &mut Vec<u8>)
     ensures { AreLast octets.now entries.now ahead.new.items }
 {
+    let mut first = entries.len();
+    let mut room = MOST_OCTETS_AT_ONCE;
+    while first > 0 && entries.len() - first < MOST_AT_ONCE && entries[first - 1].len <= room {
+        first -= 1;
+        room -= entries[first].len;
+    }
     ahead.clear();
-    let (_, last) = entries.split_at(entries.len() - at_once(entries));
+    let (_, last) = entries.split_at(first);
     for entry in last {
         if ahead
             .extend_from_slice(part(octets, entry.from, entry.len))
@@ -134,7 +113,15 @@ fn read_last(octets: &[u8], entries: &[WaitingEntry], ahead: &mut Vec<u8>)
     }
 }
 
-fn come_in_runs(entries: &[WaitingEntry], octets: &[u8]) -> bool {
+/// Sorts entries by merging their runs, greatest slot first, if the runs are long and memory
+/// suffices.
+fn merge_runs(entries: &mut Vec<WaitingEntry>, octets: &[u8]) -> bool
+    ensures permutation { IsPermutation entries.old.items entries.new.items }
+    ensures len { length entries.new.items ≡ length entries.old.items }
+    ensures rising { OnTrue result
+        (AreRising (reverse (map (waits_in octets.now) entries.new.items))) }
+    ensures same { OnFalse result (entries.new.items ≡ entries.old.items) }
+{
     let most = entries.len() / LONG_RUN;
     let mut ends: usize = 0;
     for index in 1..entries.len() {
@@ -145,45 +132,20 @@ fn come_in_runs(entries: &[WaitingEntry], octets: &[u8]) -> bool {
             ends += 1;
         }
     }
-    true
-}
-
-/// Sorts entries by merging their runs, greatest slot first, if the runs are long and memory
-/// suffices.
-fn merge_runs(entries: &mut Vec<WaitingEntry>, octets: &[u8]) -> bool
-    ensures permutation { IsPermutation entries.old.items entries.new.items }
-    ensures len { length entries.new.items ≡ length entries.old.items }
-    ensures rising { OnTrue result
-        (AreRising (reverse (map (waits_in octets.now) entries.new.items))) }
-    ensures same { OnFalse result (entries.new.items ≡ entries.old.items) }
-{
-    if !come_in_runs(entries, octets) {
-        return false;
-    }
     let Ok(()) = entries.sort_by(|waits, other| other.slot_cmp(waits, octets)) else {
         return false;
     };
     true
 }
 
-fn sort_falling(entries: &mut Vec<WaitingEntry>, octets: &[u8])
-    ensures permutation { IsPermutation entries.old.items entries.new.items }
-    ensures len { length entries.new.items ≡ length entries.old.items }
-    ensures rising { AreRising (reverse (map (waits_in octets.now) entries.new.items)) }
-{
-    if !merge_runs(entries, octets) {
-        entries.sort_unstable_by(|waits, other| other.slot_cmp(waits, octets));
-    }
-}
-
 /// A batch of entries in any order.
 #[derive(Drop)]
 pub(crate) struct Waiting {
-    entries: Vec<WaitingEntry>,
+    pub(crate) entries: Vec<WaitingEntry>,
     // The octets of all entries, and of dropped ones until none waits.
-    octets: Vec<u8>,
+    pub(crate) octets: Vec<u8>,
     // A copy of the octets of the last entries, in reverse.
-    ahead: Vec<u8>,
+    pub(crate) ahead: Vec<u8>,
 }
 
 impl Model for Waiting {
@@ -200,16 +162,6 @@ impl Model for Waiting {
 }
 
 impl Waiting {
-    pub(crate) fn new(alloc: Global) -> Waiting
-        ensures { result ≡ [] }
-    {
-        Waiting {
-            entries: Vec::new(alloc),
-            octets: Vec::new(alloc),
-            ahead: Vec::new(alloc),
-        }
-    }
-
     /// Whether the batch is large enough to sort it into `settled` entries.
     pub(crate) fn are_many(&self, settled: usize) -> bool
         ensures { (result ≡ false) → length self.now < 64 + 2 * settled }
@@ -236,7 +188,10 @@ impl Waiting {
         self.entries.reserve(1)?;
         let stands = entry.put_behind(alloc, &mut self.octets)?;
         let len = self.octets.len() - from;
-        push_where(&mut self.entries, stands, WaitingEntry { mark, from, len });
+        if !stands {
+            return Ok(());
+        }
+        self.entries.push_reserved(WaitingEntry { mark, from, len });
         Ok(())
     }
 
@@ -293,7 +248,12 @@ impl Waiting {
         ensures len { length self.new ≡ length self.old }
     {
         self.ahead.clear();
-        sort_falling(&mut self.entries, &self.octets);
+        if merge_runs(&mut self.entries, &self.octets) {
+            return;
+        }
+        let octets = self.octets.as_slice();
+        self.entries
+            .sort_unstable_by(|waits, other| other.slot_cmp(waits, octets));
     }
 
     pub(crate) fn give_back(&mut self)

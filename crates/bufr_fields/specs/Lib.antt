@@ -1,5 +1,6 @@
 pub mod Forms
 pub mod Fits
+pub mod Increments
 pub mod Asked
 pub mod Values
 pub mod DecimalTexts

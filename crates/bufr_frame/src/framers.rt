@@ -1,5 +1,5 @@
 ghost use Rattle.std.specs.Prelude.{◌≡◌, ◌≤◌, ◌+◌, ◌^◌, ◌<◌, ◌++◌, [], List, ℕ, length, drop};
-ghost use Rattle.std.specs.Prelude.{None, IfOk, IfSome, IfNone, OnOk, OnErr};
+ghost use Rattle.std.specs.Prelude.{None, IfOk, IfSome, OnOk, OnErr};
 ghost use Rattle.bufr_frame.specs.declared.places.TheConstants.{LONGEST};
 ghost use Rattle.bufr_frame.specs.Streams.{Stands};
 ghost use Rattle.bufr_frame.specs.Looks.{new_framing};
@@ -8,11 +8,11 @@ ghost use Rattle.bufr_frame.specs.NextFrames.{StandsAfter, AreSureNext, AreLast,
 
 use crate::frames::Found;
 use crate::kept::append_and_scan;
-use crate::lent_frame::LentFrame;
+use crate::lent_frame::{FrameOctets, LentFrame};
 use crate::looks::Look;
 use crate::next_frame::{NextFrame, Taken};
 use crate::places::{Start, start_of};
-use crate::reaching::{hand_over, near_mark};
+use crate::reaching::{near_mark, reach_and_copy};
 use crate::scans::frames_in;
 use bufr_base::OutOfMemory;
 use std::alloc::Global;
@@ -140,7 +140,14 @@ impl Framer {
             self.new.fed ≡ self.old.fed + length (taken_in piece.now taken.rest.now)) }
         ensures err { OnErr result (self.new ≡ self.old) }
     {
-        let taking = hand_over(&mut self.octets, self.from, self.fed, piece)?;
+        let kept = self.octets.len();
+        let taking = match reach_and_copy(&mut self.octets, self.from, self.fed, piece) {
+            Ok(taking) => taking,
+            Err(refused) => {
+                self.octets.truncate(kept);
+                return Err(refused);
+            }
+        };
         self.from = taking.from;
         self.fed += taking.taken as u64;
         Ok(Taken {
@@ -165,9 +172,20 @@ impl Framer {
             self.new.fed ≡ self.old.fed + length (taken_in piece.now next.rest.now)) }
         ensures err { OnErr result (self.new ≡ self.old) }
     {
-        if let Some((frame, rest)) = self.lend(piece) {
-            let found = Some(frame);
-            return Ok(NextFrame { found, rest });
+        if self.from == self.octets.len() {
+            let skip = near_mark(piece);
+            if let Start::Frame(length) = start_of(&piece[skip..]) {
+                let end = skip + length;
+                let frame = LentFrame {
+                    place: self.fed + skip as u64,
+                    octets: FrameOctets::Lent(&piece[skip..end]),
+                };
+                self.fed += end as u64;
+                return Ok(NextFrame {
+                    found: Some(frame),
+                    rest: &piece[end..],
+                });
+            }
         }
         let Taken { found, rest } = self.take_next(piece)?;
         match found {
@@ -179,38 +197,16 @@ impl Framer {
         }
     }
 
-    /// Lends the frame at the next mark of the piece, if it is near and nothing is held.
-    fn lend<'p>(&mut self, piece: &'p [u8]) -> Option<(LentFrame<'p>, &'p [u8])>
-        requires { self.old.fed + length piece.now < 2 ^ 64 }
-        ensures rest { IfSome result (λ lent. IsRestOf piece.now lent.1.now) }
-        ensures frame { IfSome result (λ lent.
-            IsNextFrame self.old (taken_in piece.now lent.1.now) lent.0) }
-        ensures next { IfSome result (λ lent.
-            StandsAfter self.old self.new (taken_in piece.now lent.1.now) 1) }
-        ensures fed { IfSome result (λ lent.
-            self.new.fed ≡ self.old.fed + length (taken_in piece.now lent.1.now)) }
-        ensures none { IfNone result (self.new ≡ self.old) }
-    {
-        if self.from != self.octets.len() {
-            return None;
-        }
-        let skip = near_mark(piece);
-        let Start::Frame(length) = start_of(&piece[skip..]) else {
-            return None;
-        };
-        let end = skip + length;
-        let frame = LentFrame::lent(self.fed + skip as u64, &piece[skip..end]);
-        self.fed += end as u64;
-        Some((frame, &piece[end..]))
-    }
-
     /// Ends the stream and hands out its last frames. The framer then starts anew.
     pub fn finish(&mut self) -> Result<Vec<Found>, OutOfMemory>
         ensures found { IfOk result (λ found. AreLast self.old found.items) }
         ensures next { OnOk result (self.new ≡ new_framing) }
         ensures err { OnErr result (self.new ≡ self.old) }
     {
-        let look = self.look_end()?;
-        Ok(self.settle(look))
+        let alloc = *self.octets.allocator();
+        let held = &self.octets[self.from..];
+        let frames = frames_in(alloc, true, self.fed - held.len() as u64, held)?.frames;
+        *self = Framer::new(alloc);
+        Ok(frames)
     }
 }

@@ -14,8 +14,8 @@ pub(crate) enum FrameOctets<'p> {
 /// A frame lent from a piece, or with octets of its own. Contracts see a `Found`.
 #[derive(Drop)]
 pub struct LentFrame<'p> {
-    place: u64,
-    octets: FrameOctets<'p>,
+    pub(crate) place: u64,
+    pub(crate) octets: FrameOctets<'p>,
 }
 
 impl<'p> Model for LentFrame<'p> {
@@ -28,15 +28,6 @@ impl<'p> Model for LentFrame<'p> {
 }
 
 impl<'p> LentFrame<'p> {
-    pub(crate) fn lent(place: u64, octets: &'p [u8]) -> LentFrame<'p>
-        ensures { result ≡ record { place = place; bytes = octets.now } }
-    {
-        LentFrame {
-            place,
-            octets: FrameOctets::Lent(octets),
-        }
-    }
-
     pub(crate) fn own(frame: Found) -> LentFrame<'p>
         ensures { result ≡ frame }
     {

@@ -153,7 +153,7 @@ pub(crate) fn near_mark(piece: &[u8]) -> usize
 }
 
 /// Takes in the piece up to the next sure frame, and copies it out.
-fn reach_and_copy(
+pub(crate) fn reach_and_copy(
     octets: &mut Vec<u8>,
     from: usize,
     fed: u64,
@@ -192,31 +192,6 @@ fn reach_and_copy(
             let from = let_go(octets, from);
             let found = None;
             Ok(Handed { found, from, taken })
-        }
-    }
-}
-
-/// Does `reach_and_copy`, but drops what it added if memory runs out.
-pub(crate) fn hand_over(
-    octets: &mut Vec<u8>,
-    from: usize,
-    fed: u64,
-    piece: &[u8],
-) -> Result<Handed, OutOfMemory>
-    requires within { from ≤ length octets.old.items }
-    requires short { length (drop from octets.old.items) ≤ LONGEST }
-    requires taken { length (drop from octets.old.items) ≤ fed }
-    requires room { fed + length piece.now < 2 ^ 64 }
-    ensures err { OnErr result (octets.new.items ≡ octets.old.items) }
-    ensures taken { IfOk result (λ taking.
-        HandsOver fed (drop from octets.old.items) octets.new.items piece.now taking) }
-{
-    let kept = octets.len();
-    match reach_and_copy(octets, from, fed, piece) {
-        Ok(taking) => Ok(taking),
-        Err(refused) => {
-            octets.truncate(kept);
-            Err(refused)
         }
     }
 }

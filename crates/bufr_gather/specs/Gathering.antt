@@ -1,20 +1,12 @@
 -- What gathering reports and messages does.
-use Rattle.std.specs.Prelude.{◌≡◌, ℕ, Option, Result, Ok, Err, List}
+use Rattle.std.specs.Prelude.{◌≡◌, ℕ, Result, Ok, Err, List}
 use Rattle.bufr_sections.specs.declared.message.Decoded.{Decoded}
 use Rattle.bufr_message.specs.Messages.{message_of}
 use Rattle.bufr_message.specs.Reports.{reports_of}
-use Rattle.bufr_entries.specs.declared.entry.Entry.{Entry}
-use Rattle.bufr_gather.specs.declared.add_fault.RanOut.{RanOut}
 use Rattle.bufr_gather.specs.declared.add_fault.AddFault.{AddFault}
 use Rattle.bufr_gather.specs.declared.add_fault.AddFault.TheVariants.{Refused, OutOfMemory}
 use Rattle.bufr_gather.specs.Archives.{ArchiveView, AddsFirst, taken_in}
 use Rattle.bufr_gather.specs.ReportEntries.{report_entries, entries_told}
-
--- what a call does that gathers reports, by its answer
-abbrev pub PutsIntoBuilder : ArchiveView → ArchiveView → List (Option Entry) → Result (Unit {0}) RanOut
-    → Type 0
-PutsIntoBuilder old new reports (Ok done) = new ≡ taken_in old reports
-PutsIntoBuilder old new reports (Err ran_out) = AddsFirst old new reports ran_out.done
 
 -- What a call does that gathers the reports of a message, by its answer: the octets spell a message,
 -- and all its reports were added; or they spell none, for this cause, and nothing is changed; or

@@ -1,14 +1,14 @@
 ghost use Rattle.std.specs.Prelude.{◌≡◌, ◌<◌, ◌∷◌, [], get_or, length, map, IfOk, OnOk, OnErr};
 ghost use Rattle.bufr_entries.specs.Entries.{kept};
-ghost use Rattle.bufr_gather.specs.Archives.{IsKept, taken_in};
-ghost use Rattle.bufr_gather.specs.Gathering.{PutsIntoBuilder, AddsToBuilder};
+ghost use Rattle.bufr_gather.specs.Archives.{taken_in};
+ghost use Rattle.bufr_gather.specs.Gathering.{AddsToBuilder};
 ghost use Rattle.bufr_base.specs.Answers.{Gives};
 ghost use Rattle.bufr_message.specs.Messages.{message_of};
 ghost use Rattle.bufr_message.specs.Reports.{reports_of};
 ghost use Rattle.bufr_gather.specs.ReportEntries.{report_entries, spelt_entries};
 
-use crate::add_fault::{AddFault, RanOut};
-use crate::report_entry::MessageReports;
+use crate::add_fault::AddFault;
+use crate::report_entry::{MessageReports, ReportOctets};
 use bufr_base::{Failure, OutOfMemory};
 use bufr_entries::{KeptOctets, ShelfBuilder};
 use bufr_message::{MessageReader, Refused};
@@ -53,32 +53,12 @@ impl<'t> ArchiveBuilder<'t> {
         let reports = match MessageReports::of_octets(self.alloc, &mut self.templates, octets) {
             Ok(reports) => reports,
             Err(Failure::Fault(why)) => return Err(AddFault::Refused(why)),
-            Err(Failure::OutOfMemory) => {
-                self.are_kept();
-                return Err(AddFault::OutOfMemory { done: 0 });
-            }
+            Err(Failure::OutOfMemory) => return Err(AddFault::OutOfMemory { done: 0 }),
         };
-        match self.add_all(&reports) {
-            Ok(()) => Ok(()),
-            Err(RanOut { done }) => Err(AddFault::OutOfMemory { done }),
-        }
-    }
-
-    fn are_kept(&self)
-        ensures { IsKept self.now }
-    {
-        let _entries = &self.entries;
-    }
-
-    fn add_all(&mut self, reports: &MessageReports<'_>) -> Result<(), RanOut>
-        ensures { PutsIntoBuilder self.old self.new
-            (spelt_entries (reports_of reports.now.view.message)) result }
-    {
-        self.are_kept();
-        for index in 0..reports.count() {
-            let Ok(()) = self.add_one(reports, index) else {
+        for index in 0..reports.view.count() {
+            let Ok(()) = self.add_one(&reports, index) else {
                 let done = index as u128;
-                return Err(RanOut { done });
+                return Err(AddFault::OutOfMemory { done });
             };
         }
         Ok(())
@@ -91,10 +71,10 @@ impl<'t> ArchiveBuilder<'t> {
             (get_or (spelt_entries (reports_of reports.now.view.message)) index None ∷ [])) }
         ensures err { OnErr result (self.new ≡ self.old) }
     {
-        self.are_kept();
         let key = reports.key_at(self.alloc, index)?;
-        self.entries
-            .put_octets_of(key, reports.update(), &reports.octets_at(index))
+        let view = &reports.view;
+        let octets = ReportOctets { view, index };
+        self.entries.put_octets_of(key, view.head().update, &octets)
     }
 
     /// Gives the templates, and the entries of all reports.

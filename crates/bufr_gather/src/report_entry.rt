@@ -147,12 +147,6 @@ impl<'a> MessageReports<'a> {
 }
 
 impl<'a> MessageReports<'a> {
-    pub(crate) fn update(&self) -> u8
-        ensures { result ≡ self.now.view.message.head.update }
-    {
-        self.view.head().update
-    }
-
     pub(crate) fn key_at(&self, alloc: Global, index: usize) -> Result<Option<Key>, OutOfMemory>
         requires { index < length self.now.view.message.subsets }
         ensures { IfOk result (λ key. IfSome
@@ -183,19 +177,9 @@ impl<'a> MessageReports<'a> {
         };
         Ok(Some(Entry {
             key: self.key_at(alloc, index)?,
-            update: self.update(),
+            update: self.view.head().update,
             bytes: Items::from_vec(octets),
         }))
-    }
-
-    pub(crate) fn octets_at(&self, index: usize) -> ReportOctets<'_, 'a>
-        ensures view { result.view.now ≡ self.now.view }
-        ensures index { result.index ≡ index }
-    {
-        ReportOctets {
-            view: &self.view,
-            index,
-        }
     }
 }
 

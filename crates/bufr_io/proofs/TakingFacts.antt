@@ -1,5 +1,4 @@
--- The taker takes in the frames of a stream as its pieces come: for `take_piece`, `take_rest` and
--- `take_stream`.
+-- The taker takes in the frames of a stream as its pieces come: for `take_piece` and `take_stream`.
 use Rattle.std.proofs.Common.{◌≡◌, ℕ, ◌+◌, ◌^◌, ◌<◌, ◌≤◌, Option, Some, IfSome}
 use Rattle.std.proofs.Common.{List, [], ◌∷◌, ◌++◌, length, take, drop, get_or, Result, Ok, Err}
 use Rattle.std.proofs.Common.{refl, sym, ap, ◌∙◌, subst, arith, length-append, append_assoc}
@@ -176,11 +175,12 @@ rest_stopped Stopped stream fault stopped = record {
 
 -- ---- between two reads
 
--- the reader gave these octets, the taker has their sure frames and holds nothing back
+-- the reader gave these octets, `count` in all, the taker has their sure frames and holds nothing back
 pub record Between (Taken : List Found → Type 0) (HoldsNone : Type 0) (source : Input) (most : ℕ)
-    (old now : Reading) (pieces : Pieces) (framer : Framing) : Type 0 where
+    (old now : Reading) (pieces : Pieces) (framer : Framing) (count : ℕ) : Type 0 where
   pub read : List ℕ
   pub so_far : HasRead source most old now pieces read
+  pub counted : count ≡ length read
   pub sure_taken : HasSure Taken framer read
   pub none : HoldsNone
 
@@ -188,10 +188,11 @@ pub nothing_read : (Taken : List Found → Type 0) (HoldsNone : Type 0) (source 
     (reader : Reading) (framer : Framing) → IsFresh reader → Stands framer [] 0 → Taken []
     → HoldsNone
     → Between Taken HoldsNone source most reader reader
-    (record { made = 0; most = most; source = source }) framer
+    (record { made = 0; most = most; source = source }) framer 0
 nothing_read Taken HoldsNone source most reader framer fresh stands taken none = record {
   read = [];
   so_far = HasRead_none source most reader fresh;
+  counted = refl;
   sure_taken = record { handed = handed_first framer stands; taken = taken };
   none = none;
 }

@@ -31,12 +31,6 @@ pub record StopsAmong (Stopped : List Found → ToolFault → Type 0) (frames : 
   pub parted : frames ≡ front ++ rest
   pub stopped : Stopped front fault
 
--- takes in these frames, or stops among them
-abbrev pub TakesAll : (List Found → Type 0) → (List Found → ToolFault → Type 0) → List Found
-    → Result (Unit {0}) ToolFault → Type 0
-TakesAll Taken Stopped frames (Ok done) = Taken frames
-TakesAll Taken Stopped frames (Err fault) = StopsAmong Stopped frames fault
-
 -- has taken in all sure frames of this stream
 pub record HasSure (Taken : List Found → Type 0) (framer : Framing) (stream : List ℕ) : Type 0 where
   pub handed : HandedOut framer stream (sure stream)

@@ -39,17 +39,6 @@ pub struct Pieces {
 }
 
 impl Pieces {
-    /// Counts no read yet.
-    pub fn new(most: u64, source: Input) -> Pieces
-        ensures { result ≡ record { made = 0; most = most; source = source } }
-    {
-        Pieces {
-            made: 0,
-            most,
-            source,
-        }
-    }
-
     /// Reads the next piece, which has an octet at least, or `None` at the end.
     pub fn next<'r, S: Source>(
         &mut self,
@@ -95,7 +84,11 @@ pub fn read_all<S: Source>(
 {
     let mut room = room(alloc)?;
     let mut octets = Vec::new(alloc);
-    let mut pieces = Pieces::new(reads, source);
+    let mut pieces = Pieces {
+        made: 0,
+        most: reads,
+        source,
+    };
     while let Some(piece) = pieces.next(reader, &mut room)? {
         octets.extend_from_slice(piece)?;
     }

@@ -1,6 +1,6 @@
 //! Files opened at their first read.
 
-ghost use Rattle.std.specs.Prelude.{◌≡◌, ◌≤◌, ◌↔◌, None, false, length, IfSome, IsTrue};
+ghost use Rattle.std.specs.Prelude.{◌≡◌, ◌↔◌, None, false, IsTrue};
 ghost use Rattle.bufr_io.specs.declared.lazy_input.Stage.TheVariants as stages;
 ghost use Rattle.bufr_bits.specs.Devices.{Reading};
 
@@ -22,7 +22,7 @@ enum Stage<F> {
     Closed,
 }
 
-/// A file that opens at its first read, or at `open`, and closes when a read meets its end or fails.
+/// A file that opens at its first read, or before by `file_of`, and closes when a read meets its end or fails.
 /// So of many inputs one is open at a time. If it cannot open, its first read fails.
 #[derive(Drop)]
 pub struct LazyInput<'a, R: Files> {
@@ -64,41 +64,15 @@ impl<'a, R: Files> LazyInput<'a, R> {
         matches!(&self.stage, Stage::Unopened)
     }
 
-    /// Opens the file, once.
-    pub fn open(&mut self)
+    /// Opens the file, which nobody has opened.
+    pub(crate) fn open(&mut self)
         ensures { ⟦<LazyInput<'a, R> as Source>⟧.reading self.new
             ≡ ⟦<LazyInput<'a, R> as Source>⟧.reading self.old }
     {
-        if matches!(&self.stage, Stage::Ahead) {
-            self.stage = match fs::open(self.rt, self.path) {
-                Ok(file) => Stage::Open(file),
-                Err(_) => Stage::Unopened,
-            };
-        }
-    }
-
-    /// Closes the file if it is open.
-    fn close(&mut self)
-        ensures { ⟦<LazyInput<'a, R> as Source>⟧.reading self.new
-            ≡ ⟦<LazyInput<'a, R> as Source>⟧.reading self.old }
-    {
-        if matches!(&self.stage, Stage::Open(_)) {
-            self.stage = Stage::Closed;
-        }
-    }
-
-    /// Reads some octets, and returns their number, or `None` if the read fails.
-    fn take(&mut self, buffer: &mut [u8]) -> Option<usize>
-        ensures within { IfSome result (λ n. n ≤ length buffer.new) }
-        ensures kept { ⟦<LazyInput<'a, R> as Source>⟧.reading self.new
-            ≡ ⟦<LazyInput<'a, R> as Source>⟧.reading self.old }
-    {
-        self.open();
-        match &mut self.stage {
-            Stage::Open(file) => file.read(buffer).ok(),
-            Stage::Closed => Some(0),
-            _ => None,
-        }
+        self.stage = match fs::open(self.rt, self.path) {
+            Ok(file) => Stage::Open(file),
+            Err(_) => Stage::Unopened,
+        };
     }
 }
 
@@ -108,14 +82,28 @@ impl<'a, R: Files> Source for LazyInput<'a, R> {
 
     fn read(&mut self, buffer: &mut [u8]) -> Result<usize, Failed> {
         self.reads += 1;
-        let Some(given) = self.take(buffer) else {
+        if matches!(&self.stage, Stage::Ahead) {
+            self.open();
+        }
+        let given = match &mut self.stage {
+            Stage::Open(file) => file.read(buffer),
+            Stage::Closed => {
+                self.met_end = true;
+                return Ok(0);
+            }
+            _ => {
+                self.failed = true;
+                return Err(Failed);
+            }
+        };
+        let Ok(given) = given else {
             self.failed = true;
-            self.close();
+            self.stage = Stage::Closed;
             return Err(Failed);
         };
         if given == 0 {
             self.met_end = true;
-            self.close();
+            self.stage = Stage::Closed;
         }
         Ok(given)
     }

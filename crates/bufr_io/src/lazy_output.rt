@@ -41,28 +41,6 @@ impl<'a, R: Files> LazyOutput<'a, R> {
             self.file = fs::create(self.rt, self.path).ok();
         }
     }
-
-    /// Writes some octets of a piece, and returns their number, or `None` if the write fails.
-    fn hand_on(&mut self, piece: &[u8]) -> Option<usize>
-        ensures { self.new.failed ≡ self.old.failed }
-    {
-        self.open();
-        match &mut self.file {
-            Some(file) => file.write(piece).ok(),
-            None => None,
-        }
-    }
-
-    /// Flushes the file, waits for its device, and returns whether both worked.
-    fn hand_off(&mut self) -> bool
-        ensures { self.new.failed ≡ self.old.failed }
-    {
-        self.open();
-        match &mut self.file {
-            Some(file) => file.flush().is_ok() && is_on_device(file),
-            None => false,
-        }
-    }
 }
 
 /// Waits until the octets of a file are on its device, and returns whether that worked. A pipe, a
@@ -86,20 +64,25 @@ impl<'a, R: Files> Sink for LazyOutput<'a, R> {
     ghost writing = { λ s. record { taken = None; failed = s.failed } };
 
     fn write(&mut self, piece: &[u8]) -> Result<usize, Failed> {
-        match self.hand_on(piece) {
-            Some(n) if n <= piece.len() && (n > 0 || piece.is_empty()) => Ok(n),
-            _ => {
-                self.failed = true;
-                Err(Failed)
+        self.open();
+        if let Some(file) = &mut self.file {
+            match file.write(piece) {
+                Ok(n) if n <= piece.len() && (n > 0 || piece.is_empty()) => return Ok(n),
+                _ => {}
             }
         }
+        self.failed = true;
+        Err(Failed)
     }
 
     fn flush(&mut self) -> Result<(), Failed> {
-        if !self.hand_off() {
-            self.failed = true;
-            return Err(Failed);
+        self.open();
+        if let Some(file) = &mut self.file {
+            if file.flush().is_ok() && is_on_device(file) {
+                return Ok(());
+            }
         }
-        Ok(())
+        self.failed = true;
+        Err(Failed)
     }
 }

@@ -1,14 +1,12 @@
 //! The frames of a stream, handed on one after the other.
 
-ghost use Rattle.std.specs.Prelude.{◌≡◌, ◌≤◌, ◌<◌, ◌+◌, ◌*◌, ◌^◌, ◌++◌, ◌∷◌, [], ℕ, List, length};
+ghost use Rattle.std.specs.Prelude.{◌≡◌, ◌≤◌, ◌<◌, ◌+◌, ◌^◌, ◌++◌, ◌∷◌, [], ℕ, List, length};
 ghost use Rattle.std.specs.Prelude.{OnOk, IfErr};
 ghost use Rattle.bufr_frame.specs.declared.frames.Found.{Found as FoundFrame};
-ghost use Rattle.bufr_frame.specs.Streams.{cut};
 ghost use Rattle.bufr_io.specs.declared.fault.ToolFault.{ToolFault as ToolFaultKind};
 ghost use Rattle.bufr_io.specs.Engines.{IsFresh};
 ghost use Rattle.bufr_io.specs.Limits.{most_reads, longest_piece};
-ghost use Rattle.bufr_io.specs.Taking.{frame_at, AreFew, HasSure, TakesAll, TakesPiece};
-ghost use Rattle.bufr_io.specs.Taking.{TakesStream};
+ghost use Rattle.bufr_io.specs.Taking.{frame_at, AreFew, HasSure, TakesPiece, TakesStream};
 
 use crate::fault::{Input, ToolFault};
 use crate::input::Pieces;
@@ -105,29 +103,6 @@ fn take_piece<O, T: TakesFrames<O>>(
     }
 }
 
-fn take_rest<O, T: TakesFrames<O>>(
-    alloc: Global,
-    framer: &mut Framer,
-    taker: &mut T,
-    out: &mut O,
-) -> Result<(), ToolFault>
-    requires so_far { (first : T) × (begin : O) × (stream : List ℕ)
-        × HasSure (T.HasTaken first begin taker.old out.old) framer.old stream }
-    requires long { framer.old.fed ≤ 2 ^ 48 }
-    ensures { (first : T) (begin : O) (stream : List ℕ)
-        → HasSure (T.HasTaken first begin taker.old out.old) framer.old stream
-        → TakesAll (T.HasTaken first begin taker.new out.new)
-        (T.HasStopped first begin taker.new out.new) (cut stream) result }
-{
-    let Ok(frames) = framer.finish() else {
-        return Err(taker.halt(out));
-    };
-    for frame in &frames {
-        taker.take_frame(alloc, frame.place, frame.bytes.as_slice(), out)?;
-    }
-    Ok(())
-}
-
 /// Reads a stream to its end, and hands on each frame as soon as it is sure. Returns the length of the
 /// stream.
 pub fn take_stream<O, S: Source, T: TakesFrames<O>>(
@@ -151,11 +126,21 @@ pub fn take_stream<O, S: Source, T: TakesFrames<O>>(
         reads (S.reading reader.old) (S.reading reader.new) result }
 {
     let mut framer = Framer::new(alloc);
-    let mut pieces = Pieces::new(reads, source);
+    let mut pieces = Pieces {
+        made: 0,
+        most: reads,
+        source,
+    };
+    let mut length = 0;
     while let Some(piece) = pieces.next(reader, &mut *room)? {
+        length += piece.len() as u64;
         take_piece(alloc, piece, &mut framer, taker, out)?;
     }
-    let long = framer.fed();
-    take_rest(alloc, &mut framer, taker, out)?;
-    Ok(long)
+    let Ok(frames) = framer.finish() else {
+        return Err(taker.halt(out));
+    };
+    for frame in &frames {
+        taker.take_frame(alloc, frame.place, frame.bytes.as_slice(), out)?;
+    }
+    Ok(length)
 }

@@ -7,7 +7,8 @@ use Rattle.bufr_expand.specs.Courses.{turns, course_then}
 use Rattle.bufr_data.specs.Plain.{fields_at, subsets_at}
 use Rattle.bufr_fields.specs.Forms.{items_of, items_of_all}
 use Rattle.bufr_data.specs.Compressed.Reading.{columns_at}
-use Rattle.bufr_data.specs.Compressed.Best.{columns_of, fewest_bits}
+use Rattle.bufr_fields.specs.Increments.{fewest_bits}
+use Rattle.bufr_data.specs.Compressed.Best.{columns_of}
 use Rattle.bufr_sections.specs.Sections.{sections, spelling, room_in, room_of, section_at, head4_of}
 use Rattle.bufr_sections.specs.Sections.{head3_of, descriptors_of, description_of, sections_of}
 use Rattle.bufr_sections.specs.Sections.{envelope_of}

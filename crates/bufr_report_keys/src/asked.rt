@@ -13,29 +13,22 @@ use bufr_data::{Asks, Field, Fields, LaidFields, Raw};
 use bufr_tables::Fxy;
 use std::alloc::Global;
 
-/// Whether an element belongs to keys: to stations (001001, 001002, 001011 and 001125 to 001128) or
+/// A filter of the elements of keys: of stations (001001, 001002, 001011 and 001125 to 001128) and
 /// times (004001 to 004006).
-fn is_asked(fxy: Fxy) -> bool
-    ensures { result ≡ is_asked fxy }
-{
-    let bits = fxy.bits();
-    let is_wigos = WIGOS_SERIES <= bits && bits <= WIGOS_LOCAL_IDENTIFIER;
-    let is_station = bits == BLOCK_NUMBER
-        || bits == STATION_NUMBER
-        || bits == MOBILE_IDENTIFIER
-        || is_wigos;
-    let is_time = YEAR <= bits && bits <= SECOND;
-    is_station || is_time
-}
-
-/// A filter of the elements of keys.
 struct KeyElements;
 
 impl Asks for KeyElements {
     ghost is_asked = { λ _. is_asked };
 
     fn asks(&self, fxy: Fxy) -> bool {
-        is_asked(fxy)
+        let bits = fxy.bits();
+        let is_wigos = WIGOS_SERIES <= bits && bits <= WIGOS_LOCAL_IDENTIFIER;
+        let is_station = bits == BLOCK_NUMBER
+            || bits == STATION_NUMBER
+            || bits == MOBILE_IDENTIFIER
+            || is_wigos;
+        let is_time = YEAR <= bits && bits <= SECOND;
+        is_station || is_time
     }
 }
 
@@ -86,7 +79,7 @@ pub(crate) fn note_listed(
     ensures { OnOk result (values.new ≡ all_noted fields.now values.old) }
 {
     for field in fields {
-        if is_asked(field.fxy) {
+        if KeyElements.asks(field.fxy) {
             values.note(copied(alloc, field)?);
         }
     }

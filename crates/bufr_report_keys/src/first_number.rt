@@ -34,27 +34,15 @@ impl FirstNumber {
         FirstNumber { said: Said::Unmet }
     }
 
+    /// Notes the number of a field, if it is the first of its element; none if it is unusable.
     #[inline(always)]
-    pub(crate) fn of(number: Option<i128>) -> FirstNumber
-        ensures { result ≡ Some number }
+    pub(crate) fn note(&mut self, number: Option<i128>)
+        ensures { self.new ≡ option_or self.old (Some number) }
     {
-        match number {
-            Some(number) => FirstNumber {
-                said: Said::Number(number),
-            },
-            None => FirstNumber {
-                said: Said::Unusable,
-            },
-        }
-    }
-
-    /// Notes a field, if it is the first of its element.
-    #[inline(always)]
-    pub(crate) fn note(&mut self, first: FirstNumber)
-        ensures { self.new ≡ option_or self.old first }
-    {
-        if let Said::Unmet = self.said {
-            self.said = first.said;
+        match (self.said, number) {
+            (Said::Unmet, Some(number)) => self.said = Said::Number(number),
+            (Said::Unmet, None) => self.said = Said::Unusable,
+            _ => {}
         }
     }
 

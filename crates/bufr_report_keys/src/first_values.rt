@@ -87,7 +87,7 @@ impl FirstValues {
         match field.fxy.bits() {
             MOBILE_IDENTIFIER => note_text(&mut self.mobile, field),
             WIGOS_LOCAL_IDENTIFIER => note_text(&mut self.local, field),
-            bits => self.note_said(bits, FirstNumber::of(number_of(&field))),
+            bits => self.note_said(bits, number_of(&field)),
         }
     }
 
@@ -98,27 +98,27 @@ impl FirstValues {
         match field.fxy.bits() {
             MOBILE_IDENTIFIER => note_no_text(&mut self.mobile),
             WIGOS_LOCAL_IDENTIFIER => note_no_text(&mut self.local),
-            bits => self.note_said(bits, FirstNumber::of(usable_number(field))),
+            bits => self.note_said(bits, usable_number(field)),
         }
     }
 
-    /// Notes the value of a field without a text.
+    /// Notes the number of a field without a text, or none if it is unusable.
     #[inline(always)]
-    fn note_said(&mut self, bits: u16, first: FirstNumber)
-        ensures { self.new ≡ numbered bits first self.old }
+    fn note_said(&mut self, bits: u16, number: Option<i128>)
+        ensures { self.new ≡ numbered bits (Some number) self.old }
     {
         match bits {
-            BLOCK_NUMBER => self.block.note(first),
-            STATION_NUMBER => self.station.note(first),
-            WIGOS_SERIES => self.series.note(first),
-            WIGOS_ISSUER => self.issuer.note(first),
-            WIGOS_ISSUE_NUMBER => self.issue.note(first),
-            YEAR => self.year.note(first),
-            MONTH => self.month.note(first),
-            DAY => self.day.note(first),
-            HOUR => self.hour.note(first),
-            MINUTE => self.minute.note(first),
-            SECOND => self.second.note(first),
+            BLOCK_NUMBER => self.block.note(number),
+            STATION_NUMBER => self.station.note(number),
+            WIGOS_SERIES => self.series.note(number),
+            WIGOS_ISSUER => self.issuer.note(number),
+            WIGOS_ISSUE_NUMBER => self.issue.note(number),
+            YEAR => self.year.note(number),
+            MONTH => self.month.note(number),
+            DAY => self.day.note(number),
+            HOUR => self.hour.note(number),
+            MINUTE => self.minute.note(number),
+            SECOND => self.second.note(number),
             _ => {}
         }
     }

@@ -1,18 +1,12 @@
 //! The time of a report.
 ghost use Rattle.std.specs.Prelude.{◌≡◌, ◌≤◌, pos};
 ghost use Rattle.jiff.specs.Words.{days_in_month};
-ghost use Rattle.bufr_report_keys.specs.Keys.{greatest_year, is_from_to, from_to, sixtieth};
+ghost use Rattle.bufr_report_keys.specs.Keys.{greatest_year, from_to, sixtieth};
 ghost use Rattle.bufr_report_keys.specs.FirstValues.{moment_of};
 
 use crate::first_values::FirstValues;
 use bufr_entries::Moment;
 use jiff::civil::Date;
-
-fn is_from_to(low: u16, high: u16, number: i128) -> bool
-    ensures { result ≡ is_from_to low high number }
-{
-    i128::from(low) <= number && number <= i128::from(high)
-}
 
 /// The last year of a moment.
 pub(crate) const GREATEST_YEAR: u16 = 9999;
@@ -20,7 +14,7 @@ pub(crate) const GREATEST_YEAR: u16 = 9999;
 fn year_of(number: i128) -> Option<u16>
     ensures { result ≡ from_to 1 greatest_year number }
 {
-    if is_from_to(1, GREATEST_YEAR, number) {
+    if 1 <= number && number <= i128::from(GREATEST_YEAR) {
         Some(number as u16)
     } else {
         None
@@ -30,7 +24,7 @@ fn year_of(number: i128) -> Option<u16>
 fn from_to(low: u8, high: u8, number: i128) -> Option<u8>
     ensures { result ≡ from_to low high number }
 {
-    if is_from_to(low as u16, high as u16, number) {
+    if i128::from(low) <= number && number <= i128::from(high) {
         Some(number as u8)
     } else {
         None

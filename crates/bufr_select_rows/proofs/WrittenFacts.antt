@@ -1,14 +1,21 @@
 -- Digits and octets written from their end: the contracts of `written`.
 use Rattle.std.proofs.Common.{◌≡◌, ℕ, zero, suc, ◌+◌, ◌-◌, ◌/◌, ◌%◌, ◌*◌, ◌^◌, ◌<◌, ◌≤◌, List, [], ◌∷◌, ◌++◌}
 use Rattle.std.proofs.Common.{Option, Some, None, IfSome, length, take, drop, set, refl, sym, ap, ◌∙◌}
-use Rattle.std.proofs.Common.{arith, add-one, append_assoc, subst}
-use Rattle.std.specs.Prelude.{decimal, negsuc, pos, ◌==◌, Bool, true, false, if◌then◌else◌}
+use Rattle.std.proofs.Common.{arith, add-one, append_assoc, cond, subst}
+use Rattle.std.specs.Prelude.{◌+ℤ◌, decimal, negsuc, pos, ◌==◌, Bool, true, false, if◌then◌else◌}
 use Rattle.std.proofs.lemmas.Bool.Decides.{nat_tests}
 use Rattle.std.proofs.Math.Nat.{pow-suc, div-div-eq-div-mul}
 use Rattle.std.proofs.lemmas.List.{drop-set, drop_at, drop-drop, length-take-le}
 use Rattle.bufr_fields.specs.Digits.{last_digits}
 use Rattle.bufr_fields.specs.DigitFacts.{pointed_is}
-use Rattle.bufr_fields.specs.Values.{digits_by}
+use Rattle.bufr_fields.specs.Values.{as_field, decimal_within, digits_by, is_missing, value, value_by}
+use Rattle.bufr_fields.specs.declared.field.Field.{Field}
+use Rattle.bufr_fields.specs.declared.field.NumberField.{NumberField}
+use Rattle.bufr_fields.specs.declared.field.Raw.TheVariants.{Number}
+use Rattle.bufr_listing.specs.Listings.{number_word}
+use Rattle.bufr_select_rows.specs.Values.{shown_value}
+use Rattle.bufr_tables.specs.declared.element.Kind.{Kind}
+use Rattle.bufr_tables.specs.declared.element.Kind.TheVariants as kinds
 
 -- one octet more, before the others
 pub octet_before : (row : List ℕ) (octet at end : ℕ) → at + 1 ≡ end → end ≤ length row
@@ -102,3 +109,20 @@ pub text_same : (found : Option ℕ) (row a b after : List ℕ) → a ≡ b
     → IfSome found (λ start. drop start row ≡ b ++ after)
 text_same found row a b after same known =
     subst (λ (t : List ℕ). IfSome found (λ start. drop start row ≡ t ++ after)) same known
+
+value_other : (kind : Kind) (n : ℕ) (f : Field) → (kind ≡ kinds.Text → ⊥) → is_missing f ≡ false
+    → value_by kind (Number n) f ≡ decimal_within (pos n +ℤ f.spec.reference) f.spec.scale
+value_other kinds.Text n f other there = absurd (other refl)
+value_other kinds.Code n f other there = rw there refl
+value_other kinds.Flag n f other there = rw there refl
+value_other kinds.Quantity n f other there = rw there refl
+value_other kinds.Count n f other there = rw there refl
+
+-- a number that is there
+pub number_shown : (f : NumberField) → (f.spec.kind ≡ kinds.Text → ⊥)
+    → is_missing (as_field f) ≡ false
+    → number_word (decimal_within (pos f.number +ℤ f.spec.reference) f.spec.scale)
+    ≡ shown_value (as_field f)
+number_shown f other there =
+    ap number_word (sym (value_other f.spec.kind f.number (as_field f) other there))
+    ∙ ap (λ b. cond b [] (number_word (value (as_field f)))) (sym there)

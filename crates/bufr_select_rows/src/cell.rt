@@ -1,14 +1,15 @@
 //! The cells of a row.
 
 ghost use Rattle.std.specs.Prelude.{◌≡◌, OnOk, if◌then◌else◌};
+ghost use Rattle.bufr_fields.specs.Values.{as_field};
 ghost use Rattle.bufr_select_rows.specs.Cells.{begun, counted, fresh, noted, opened, put_before, shown};
 ghost use Rattle.bufr_select_rows.specs.Rows.{origin};
 
 use crate::column::Column;
 use crate::origin::Origin;
-use crate::text::Text;
+use crate::text::{Text, field_of};
 use bufr_base::OutOfMemory;
-use bufr_fields::Field;
+use bufr_fields::{Field, NumberField};
 use std::alloc::Global;
 
 /// A column, and what was picked for it of the fields so far.
@@ -87,6 +88,59 @@ impl Cell {
         }
     }
 
+    /// Notes a field with a number, in a span or before all spans.
+    #[inline(always)]
+    pub(crate) fn note_number(
+        &mut self,
+        in_span: bool,
+        number: NumberField,
+    ) -> Result<(), OutOfMemory>
+        ensures { OnOk result (self.new ≡ noted in_span (as_field number) self.old) }
+    {
+        let column = self.column;
+        match column {
+            Column::Told(_) => Ok(()),
+            Column::First(fxy) => {
+                if in_span {
+                    self.count_number_if(number.fxy == fxy, number);
+                    Ok(())
+                } else {
+                    self.put_if(number.fxy == fxy, &field_of(number))
+                }
+            }
+            Column::Nth(fxy, _) => {
+                if in_span {
+                    self.count_number_if(number.fxy == fxy, number);
+                }
+                Ok(())
+            }
+        }
+    }
+
+    /// Counts a field with a number in a span if `is`, and shows it if it is the one.
+    #[inline(always)]
+    fn count_number_if(&mut self, is: bool, number: NumberField)
+        ensures { self.new ≡ (if is then counted (as_field number) self.old else self.old) }
+    {
+        if is {
+            self.count_number(number);
+        }
+    }
+
+    #[inline(always)]
+    fn count_number(&mut self, number: NumberField)
+        ensures { self.new ≡ counted (as_field number) self.old }
+    {
+        if self.ahead == 0 {
+            return;
+        }
+        self.ahead -= 1;
+        if self.ahead > 0 {
+            return;
+        }
+        self.here.keep(number);
+    }
+
     /// Counts a field in a span if `is`.
     #[inline(always)]
     fn count_if(&mut self, is: bool, field: &Field) -> Result<(), OutOfMemory>
@@ -102,7 +156,7 @@ impl Cell {
             else self.old)) }
     {
         if is {
-            self.before.put_value(field)
+            self.before.put_octets(field)
         } else {
             Ok(())
         }

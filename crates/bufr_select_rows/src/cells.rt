@@ -1,6 +1,7 @@
 //! All cells of a row.
 
 ghost use Rattle.std.specs.Prelude.{◌≡◌, map, IfOk, OnOk};
+ghost use Rattle.bufr_fields.specs.Values.{as_field};
 ghost use Rattle.bufr_select_rows.specs.Asks.{Finds};
 ghost use Rattle.bufr_select_rows.specs.Cells.{begun, fresh, noted, opened};
 ghost use Rattle.bufr_select_rows.specs.Rows.{origin};
@@ -9,8 +10,9 @@ use crate::asked::Asked;
 use crate::cell::Cell;
 use crate::column::Column;
 use crate::origin::Origin;
+use crate::text::field_of;
 use bufr_base::OutOfMemory;
-use bufr_fields::Field;
+use bufr_fields::{Field, NumberField};
 use std::alloc::Global;
 
 pub fn cells_of(alloc: Global, columns: &[Column]) -> Result<Vec<Cell>, OutOfMemory>
@@ -55,6 +57,23 @@ pub fn note_field(
     match asked.cell_of(field.fxy) {
         Some(index) if index < cells.len() => cells[index].note(in_span, field),
         _ => note_in_all(cells, in_span, field),
+    }
+}
+
+/// Notes a field with a number, in a span or before all spans.
+#[inline(always)]
+pub fn note_number(
+    cells: &mut [Cell],
+    asked: &Asked,
+    in_span: bool,
+    number: NumberField,
+) -> Result<(), OutOfMemory>
+    requires { Finds asked.now (map (λ c. c.column) cells.old) }
+    ensures { OnOk result (cells.new ≡ map (noted in_span (as_field number)) cells.old) }
+{
+    match asked.cell_of(number.fxy) {
+        Some(index) if index < cells.len() => cells[index].note_number(in_span, number),
+        _ => note_in_all(cells, in_span, &field_of(number)),
     }
 }
 

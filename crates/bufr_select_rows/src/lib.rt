@@ -18,7 +18,7 @@ mod written;
 
 pub use asked::Asked;
 pub use cell::Cell;
-pub use cells::{begin_cells, cells_of, note_field, open_cells};
+pub use cells::{begin_cells, cells_of, note_field, note_number, open_cells};
 pub use column::Column;
 pub use columns::{ColumnsFault, columns_of};
 pub use origin::Origin;

@@ -7,7 +7,7 @@ ghost use Rattle.bufr_select_rows.specs.Values.{shown_text, shown_value};
 ghost use Rattle.bufr_select_rows.specs.Values as values;
 
 use crate::quotes::push_field;
-use crate::written::{MOST_PLACES, write_count, write_octets, write_value};
+use crate::written::{MOST_PLACES, write_count, write_number, write_octets};
 use bufr_base::OutOfMemory;
 use bufr_fields::{Decimal, Field, NumberField, Raw};
 use itoa::{Buffer, write_digits};
@@ -89,19 +89,32 @@ impl Text {
     {
         match &field.raw {
             Raw::Number(number) => {
-                self.standing = Standing::Number(NumberField {
+                self.keep(NumberField {
                     fxy: field.fxy,
                     spec: field.spec,
                     number: *number,
                 });
                 Ok(())
             }
-            Raw::Text(_) => {
-                self.standing = Standing::Octets;
-                self.octets.clear();
-                push_value(&mut self.octets, field)
-            }
+            Raw::Text(_) => self.put_octets(field),
         }
+    }
+
+    /// Keeps a field with a number in place of the text.
+    #[inline(always)]
+    pub(crate) fn keep(&mut self, number: NumberField)
+        ensures { self.new ≡ shown_value (as_field number) }
+    {
+        self.standing = Standing::Number(number);
+    }
+
+    /// Puts the octets of a field's value in place of the text, for rows that show it again and again.
+    pub(crate) fn put_octets(&mut self, field: &Field) -> Result<(), OutOfMemory>
+        ensures { OnOk result (self.new ≡ shown_value field.now) }
+    {
+        self.standing = Standing::Octets;
+        self.octets.clear();
+        push_value(&mut self.octets, field)
     }
 
     /// Adds the text as a field of a row, or a part of it if memory runs out.
@@ -127,7 +140,7 @@ impl Text {
     {
         match self.standing {
             Standing::Octets => write_octets(room, end, &self.octets),
-            Standing::Number(number) => write_value(room, end, &field_of(number)),
+            Standing::Number(number) => write_number(room, end, number),
             Standing::Count(count) => write_count(room, end, count),
         }
     }
@@ -135,7 +148,7 @@ impl Text {
 
 /// Makes a field of one with a number.
 #[inline(always)]
-fn field_of(number: NumberField) -> Field
+pub(crate) fn field_of(number: NumberField) -> Field
     ensures { result ≡ as_field number }
 {
     Field {

@@ -1,15 +1,17 @@
 //! The values of fields, written from their end into a room.
 
 ghost use Rattle.std.specs.Prelude.{◌≡◌, ◌<◌, ◌≤◌, ◌+◌, ◌-◌, ◌/◌, ◌^◌, ◌++◌, decimal, drop, length};
-ghost use Rattle.std.specs.Prelude.{negsuc, pos, IfSome};
+ghost use Rattle.std.specs.Prelude.{◌+ℤ◌, negsuc, pos, IfSome};
 ghost use Rattle.csv.specs.Writing.{default_writer, field_text};
 ghost use Rattle.bufr_fields.specs.Digits.{last_digits};
-ghost use Rattle.bufr_fields.specs.Values.{digits_by, sign_of};
+ghost use Rattle.bufr_fields.specs.Values.{as_field, decimal_within, digits_by, sign_of};
+ghost use Rattle.bufr_listing.specs.Listings.{number_word};
 ghost use Rattle.bufr_select_rows.specs.Values.{shown_value};
 ghost use Rattle.bufr_select_rows.specs.Values as values;
 
 use crate::quotes::needs_quotes;
-use bufr_fields::{Decimal, Field};
+use bufr_fields::{Decimal, NumberField};
+use bufr_tables::Kind;
 use itoa::write_digits;
 
 /// The most digits after a point that `write_digits_by` writes.
@@ -21,22 +23,43 @@ const MOST_OCTETS: usize = 48;
 // The functions below write before `end`, and return where what they wrote begins. They return
 // `None` if the room is short.
 
-/// Writes the value of a field, unless it is a text or a large number.
+/// Writes the value of a field with a number, unless it is large.
 #[inline(always)]
-pub(crate) fn write_value(room: &mut [u8], end: usize, field: &Field) -> Option<usize>
+pub(crate) fn write_number(room: &mut [u8], end: usize, field: NumberField) -> Option<usize>
     requires { end ≤ length room.old }
     ensures written { IfSome result (λ start. drop start room.new
-        ≡ shown_value field.now ++ drop end room.old) }
+        ≡ shown_value (as_field field) ++ drop end room.old) }
     ensures within { IfSome result (λ start. start ≤ end) }
 {
-    match field.value() {
+    let NumberField { fxy, spec, number } = field;
+    if field.is_missing() {
+        return Some(end);
+    }
+    match spec.kind {
+        Kind::Text => None,
+        _ => write_sum(room, end, NumberField { fxy, spec, number }),
+    }
+}
+
+/// Writes a raw number plus its reference value by their scale, unless the sum is large.
+#[inline(always)]
+fn write_sum(room: &mut [u8], end: usize, field: NumberField) -> Option<usize>
+    requires { end ≤ length room.old }
+    ensures written { IfSome result (λ start. drop start room.new ≡ number_word
+        (decimal_within (pos field.number +ℤ field.spec.reference) field.spec.scale)
+        ++ drop end room.old) }
+    ensures within { IfSome result (λ start. start ≤ end) }
+{
+    let NumberField { spec, number, .. } = field;
+    let units = i128::from(number) + i128::from(spec.reference);
+    match Decimal::new(units, spec.scale) {
         Some(number) => write_decimal(room, end, number),
-        None if field.is_missing() => Some(end),
         None => None,
     }
 }
 
 /// Writes a number, unless it is large.
+#[inline(always)]
 fn write_decimal(room: &mut [u8], end: usize, number: Decimal) -> Option<usize>
     requires { end ≤ length room.old }
     ensures written { IfSome result (λ start. drop start room.new

@@ -35,7 +35,8 @@ use Rattle.bufr_data.proofs.CompressedFacts.Walks.{AllForm, column_form, text_ki
 use Rattle.bufr_data.proofs.CompressedFacts.Walks.{all_equal_again, are_equal}
 use Rattle.bufr_data.specs.Compressed.Reading.{all_equal}
 use Rattle.std.proofs.Math.Pow.{pow_mono}
-use Rattle.bufr_data.specs.Compressed.Best.{present, least_with, least, greatest, fewest_bits}
+use Rattle.bufr_fields.specs.Increments.{fewest_bits}
+use Rattle.bufr_data.specs.Compressed.Best.{present, least_with, least, greatest}
 use Rattle.bufr_data.specs.Compressed.Best.{increment_of, best_numbers, best_texts, octets_of}
 use Rattle.bufr_data.specs.Compressed.Best.{best_differing, first_bits, best, widest, can_be_column}
 use Rattle.bufr_fields.specs.FormLaws.{same_kind_is}

@@ -20,7 +20,8 @@ use Rattle.bufr_bits.specs.Bits.{number, numbers, number_at}
 use Rattle.bufr_fields.specs.declared.field.Raw.{Raw}
 use Rattle.bufr_fields.specs.declared.field.Raw.TheVariants.{Number}
 use Rattle.bufr_fields.specs.declared.fault.DataFault.{DataFault}
-use Rattle.bufr_data.specs.Compressed.Reading.{raised, value_then, all_raised, all_equal, count_of}
+use Rattle.bufr_fields.specs.Increments.{raised}
+use Rattle.bufr_data.specs.Compressed.Reading.{value_then, all_raised, all_equal, count_of}
 use Rattle.bufr_data.specs.Compressed.Reading.{same_raw}
 
 -- these values, and then those found

@@ -18,7 +18,8 @@ use Rattle.bufr_fields.specs.declared.field.Raw.TheVariants.{Number, Text}
 use Rattle.bufr_fields.specs.declared.fault.DataFault.{DataFault}
 use Rattle.bufr_fields.specs.declared.fault.DataFault.TheVariants as faults
 use Rattle.bufr_data.specs.Plain.{raw_at_by, raw_at, field_number_at}
-use Rattle.bufr_data.specs.Compressed.Reading.{or_ends, raised, all_raised, all_equal, count_of, filled}
+use Rattle.bufr_fields.specs.Increments.{raised}
+use Rattle.bufr_data.specs.Compressed.Reading.{or_ends, all_raised, all_equal, count_of, filled}
 use Rattle.bufr_data.specs.Compressed.Reading.{texts_at, values_at, column_at, agreeing}
 use Rattle.bufr_data.specs.Compressed.Passed.{head_at, PassesColumn, PassesFactor, AreRaised, agreed_at}
 use Rattle.bufr_data.proofs.CompressedFacts.Walks.{agreeing_again, all_equal_again, all_equal_is}

@@ -1,8 +1,9 @@
 -- The index keeps a place for each column along the course.
 use Rattle.std.proofs.Common.{inl, inr, ◌≡◌, ℕ, zero, suc, ◌+◌, ◌*◌, ◌^◌, ◌<◌, ◌≤◌, Bool, true}
-use Rattle.std.proofs.Common.{List, [], ◌∷◌, ◌++◌, length, map, drop, Some, None, Result, Ok, Err}
+use Rattle.std.proofs.Common.{List, [], ◌∷◌, ◌++◌, length, map, drop, Option, Some, None, Result, Ok}
+use Rattle.std.proofs.Common.{Err}
 use Rattle.std.proofs.Common.{refl, sym, ap, subst, ◌∙◌, arith, append_assoc, length-append}
-use Rattle.std.specs.Prelude.{IsOk, nat_lt}
+use Rattle.std.specs.Prelude.{IsOk, IfSome, nat_lt}
 use Rattle.std.specs.List.{flat_map}
 use Rattle.std.proofs.lemmas.List.{length-drop}
 use Rattle.bufr_bits.specs.Bits.{bin, bits}
@@ -21,6 +22,7 @@ use Rattle.bufr_fields.specs.declared.field.Raw.{Raw}
 use Rattle.bufr_fields.specs.declared.field.Subset.{Subset}
 use Rattle.bufr_fields.specs.declared.fault.DataFault.{DataFault}
 use Rattle.bufr_fields.specs.declared.fault.DataFault.TheVariants as faults
+use Rattle.bufr_data.specs.declared.compressed.head.ColumnHead.{ColumnHead}
 use Rattle.bufr_data.specs.declared.compressed.index.Place.{Place}
 use Rattle.bufr_data.specs.Plain.{raw_bits, stopped}
 use Rattle.bufr_fields.specs.Steady.{IsReady}
@@ -29,7 +31,8 @@ use Rattle.bufr_data.specs.Compressed.{numbers as number_column, texts as text_c
 use Rattle.bufr_data.specs.Compressed.Reading.{column_at, agreeing, count_of, ColumnsFound, within_limit}
 use Rattle.bufr_data.specs.Compressed.Reading.{column_then, columns_at}
 use Rattle.bufr_data.specs.Compressed.Passed.{PassesColumn, PassesFactor, agreed_at}
-use Rattle.bufr_data.specs.Compressed.Indexed.{values_of, column_from, behind_columns, PassesPlace}
+use Rattle.bufr_data.specs.Compressed.Indexed.{values_of, column_from, behind_columns, HasHead}
+use Rattle.bufr_data.specs.Compressed.Indexed.{PassesPlace}
 use Rattle.bufr_bits.specs.NumberLaws.{length-fields}
 use Rattle.bufr_data.proofs.KindFacts.{kinds_differ}
 use Rattle.bufr_data.proofs.ListFacts.{map_grown}
@@ -134,19 +137,20 @@ column_joined d spec values (Ok found) = refl
 column_joined d spec values (Err e) = refl
 
 one_agreed : (c later : Course) (octets : List ℕ) (n i d bit : ℕ) (spec : Spec)
-    (front rest : List Bool) (values : List Raw) → GoesOn c d spec (count_of values) later
+    (head : Option ColumnHead) (front rest : List Bool) (values : List Raw)
+    → IfSome head (HasHead octets bit spec) → GoesOn c d spec (count_of values) later
     → within_limit {A = Unit {0}} n i (Ok tt) ≡ Ok tt → agreed_at n i spec front ≡ Ok (values, rest)
     → front ≡ drop bit (bits octets)
-    → PassesPlace n i c octets front (Some (record { fxy = d; spec = spec; bit = bit })) later rest
-one_agreed c later octets n i d bit spec front rest values on room e is =
+    → PassesPlace n i c octets front (Some (record { fxy = d; spec = spec; bit = bit; head = head })) later rest
+one_agreed c later octets n i d bit spec head front rest values known on room e is =
     let read = (agreed_found n i spec front (values, rest) e).0 in
     let there : column_at n 1 spec (drop bit (bits octets)) ≡ Ok (values, rest) =
     open_place octets n i bit d spec front (values, rest) read is in
-    let place : Place = record { fxy = d; spec = spec; bit = bit } in
+    let place : Place = record { fxy = d; spec = spec; bit = bit; head = head } in
     let column : ◌≡◌ {A = Column} (record { fxy = d; spec = spec; values = values })
     (column_from octets n place) =
     λ t. record { fxy = d; spec = spec; values = values_of (sym there t) } in (
-      (place_inside octets n bit spec (values, rest) there, subst IsOk (sym there) refl),
+      (place_inside octets n bit spec (values, rest) there, subst IsOk (sym there) refl, known),
       ap (λ x. columns_at n i x front) on.is ∙ asked_at n i on.met d spec on.more front
           ∙ within_is n i _ room
           ∙ ap (λ r. r >>= column_then d spec
@@ -156,29 +160,32 @@ one_agreed c later octets n i d bit spec front rest values on room e is =
     )
 
 pub field_passes : (old new : Walk) (octets : List ℕ) (n i d bit : ℕ) (spec : Spec)
-    (front rest : List Bool) → IsReady old → Goes (left old) (Ok (steps.Field d spec)) new
+    (head : Option ColumnHead) (front rest : List Bool) → IfSome head (HasHead octets bit spec)
+    → IsReady old → Goes (left old) (Ok (steps.Field d spec)) new
     → within_limit {A = Unit {0}} n i (Ok tt) ≡ Ok tt → PassesColumn n i spec front rest
     → front ≡ drop bit (bits octets)
-    → PassesPlace n i (left old) octets front (Some (record { fxy = d; spec = spec; bit = bit }))
-    (left new) rest
-field_passes old new octets n i d bit spec front rest ready g room passes is =
+    → PassesPlace n i (left old) octets front
+    (Some (record { fxy = d; spec = spec; bit = bit; head = head })) (left new) rest
+field_passes old new octets n i d bit spec head front rest known ready g room passes is =
     let kind = (asks_field (left old) d spec new g).kind in
     let agree : agreed_at n i spec front ≡ Ok (passes.0, rest) =
     ap (λ r. r >>= agreeing i spec) passes.1
     ∙ agreeing_again i spec (passes.0, rest) (λ count. absurd (kinds_differ _ _ kind count)) in
-    one_agreed (left old) (left new) octets n i d bit spec front rest passes.0
+    one_agreed (left old) (left new) octets n i d bit spec head front rest passes.0 known
     (field_goes old new d spec (count_of passes.0) ready g) room agree is
 
 pub count_passes : (old mid new : Walk) (octets : List ℕ) (n i d bit number : ℕ) (spec : Spec)
-    (front rest : List Bool) → Goes (left old) (Ok (steps.Count d spec)) mid
+    (head : Option ColumnHead) (front rest : List Bool) → IfSome head (HasHead octets bit spec)
+    → Goes (left old) (Ok (steps.Count d spec)) mid
     → Counted (left mid) number new → within_limit {A = Unit {0}} n i (Ok tt) ≡ Ok tt
     → PassesFactor n i spec front number rest → front ≡ drop bit (bits octets)
-    → PassesPlace n i (left old) octets front (Some (record { fxy = d; spec = spec; bit = bit }))
-    (left new) rest
-count_passes old mid new octets n i d bit number spec front rest g counted room passes is =
+    → PassesPlace n i (left old) octets front
+    (Some (record { fxy = d; spec = spec; bit = bit; head = head })) (left new) rest
+count_passes old mid new octets n i d bit number spec head front rest known g counted room passes is =
     let on = subst (λ k. GoesOn (left old) d spec k (left new)) (sym passes.2)
     (count_goes old mid new d spec number g counted) in
-    one_agreed (left old) (left new) octets n i d bit spec front rest passes.0 on room passes.1 is
+    one_agreed (left old) (left new) octets n i d bit spec head front rest passes.0 known on room
+    passes.1 is
 
 pub count_is_below : (old mid : Walk) (d : ℕ) (spec : Spec) (n : ℕ)
     → Goes (left old) (Ok (steps.Count d spec)) mid → n < 2 ^ spec.width → IsBelowCount (left mid) n

@@ -1,13 +1,12 @@
 -- The best columns, put one by one.
-use Rattle.std.proofs.Common.{◌≡◌, ℕ, zero, suc, ◌+◌, ◌-◌, ◌*◌, ◌%◌, ◌^◌, ◌<◌, ◌≤◌, Bool, true}
+use Rattle.std.proofs.Common.{◌≡◌, ℕ, zero, suc, ◌+◌, ◌-◌, ◌*◌, ◌^◌, ◌<◌, ◌≤◌, Bool, true}
 use Rattle.std.proofs.Common.{false, cond, List, [], ◌∷◌, ◌++◌, length, map, take, drop, replicate}
 use Rattle.std.proofs.Common.{get_or, Some, Ok, Err, refl, sym, ap, subst, ◌∙◌, arith, append_assoc}
 use Rattle.std.proofs.Common.{append-nil}
 use Rattle.std.specs.Prelude.{◌==◌, not, nat_lt, nat_le, unwrap_or}
 use Rattle.std.specs.List.{AllByRecursion, flat_map, list_all}
-use Rattle.std.proofs.lemmas.Bool.{and_parts, lt-ltb, leb-true, le-leb, lt-leb, le-ltb}
+use Rattle.std.proofs.lemmas.Bool.{and_parts, lt-ltb, leb-true, le-ltb}
 use Rattle.std.proofs.lemmas.List.{take_more, take_all, drop_all}
-use Rattle.std.proofs.Math.Pow.{pow_mono}
 use Rattle.bufr_bits.specs.Bits.{bin, bits, all_ones}
 use Rattle.bufr_base.specs.Answers.{Fails}
 use Rattle.bufr_base.specs.declared.failure.Failure.{Failure}
@@ -27,11 +26,11 @@ use Rattle.bufr_fields.specs.declared.fault.MisfitFault.TheVariants as misfits
 use Rattle.bufr_fields.specs.Forms.{number_of, has_form_by, items_of}
 use Rattle.bufr_data.specs.Compressed.{Column}
 use Rattle.bufr_data.specs.Compressed.Reading.{all_equal}
-use Rattle.bufr_data.specs.Compressed.Best.{present, least, greatest, fewest_bits, increment_of}
+use Rattle.bufr_fields.specs.Increments.{fewest_bits}
+use Rattle.bufr_data.specs.Compressed.Best.{present, least, greatest, increment_of}
 use Rattle.bufr_data.specs.Compressed.Best.{octets_of, best, can_be_column, can_differ, widest}
 use Rattle.bufr_data.specs.Compressed.Best.{begins_like, first_raw, columns_of, columns_of_all}
 use Rattle.bufr_data.specs.Compressed.Best.{best_bits}
-use Rattle.bufr_bits.specs.BitLaws.{small_mod}
 use Rattle.bufr_data.specs.Data.{each_fits, written_bits}
 use Rattle.bufr_data.specs.Compressed.Places.{rows_from, values_from, columns_here, least_of, least_step}
 use Rattle.bufr_data.specs.Compressed.Places.{greatest_step}
@@ -308,43 +307,10 @@ numbers_put_of width ns minimum greatest_of difference k short forms low high ap
     (subst (λ n. NumbersPut width ns (least (present width ns)) n) same
     (numbers_put width ns short forms))
 
-pub fewest_next : (k d : ℕ) → k < 64
-    → fewest_bits (64 - k) k d
-    ≡ cond (nat_le (d + 2) (2 ^ k)) k (fewest_bits (64 - (k + 1)) (k + 1) d)
-unfolding fewest_bits
-fewest_next k d less =
-    let some : 64 - k ≡ suc (64 - (k + 1)) = omega (arith, less) in ap (λ m. fewest_bits m k d) some
-
-pub fewest_done : (k d : ℕ) → 64 ≤ k → k ≤ 64 → fewest_bits (64 - k) k d ≡ 64
-unfolding fewest_bits
-fewest_done k d done within =
-    let is : k ≡ 64 = omega (arith, done, within) in ap (λ m. fewest_bits (64 - m) m d) is
-
 pub zeros_are : (k n : ℕ) → k ≤ n → take {A = ℕ} k (replicate n 0) ≡ replicate k 0
 zeros_are zero n le = refl
 zeros_are (suc k) zero le = absurd (omega (arith, le))
 zeros_are (suc k) (suc n) le = ap (λ (xs : List ℕ). 0 ∷ xs) (zeros_are k n (omega (arith, le)))
-
-pub shift_is : (k : ℕ) → k < 64 → 1 * 2 ^ k % 340282366920938463463374607431768211456 ≡ 2 ^ k
-shift_is k less =
-    let short : k ≤ 63 = omega (arith, less) in
-    let wide : 2 ^ k ≤ 2 ^ 63 = pow_mono short in
-    let small : 2 ^ k < 340282366920938463463374607431768211456 = omega (arith, wide) in
-    let one : 1 * 2 ^ k ≡ 2 ^ k = omega arith in
-    ap (λ m. m % 340282366920938463463374607431768211456) one
-    ∙ small_mod (2 ^ k) 340282366920938463463374607431768211456 small
-
-pub fewest_here : (k d whole : ℕ) → k < 64 → d + 2 ≤ 2 ^ k → whole ≡ fewest_bits (64 - k) k d
-    → k ≡ whole
-fewest_here k d whole less fits so_far =
-    sym (so_far ∙ fewest_next k d less
-    ∙ ap (λ b. cond b k (fewest_bits (64 - (k + 1)) (k + 1) d)) (le-leb (d + 2) (2 ^ k) fits))
-
-pub fewest_later : (k d whole : ℕ) → k < 64 → 2 ^ k < d + 2 → whole ≡ fewest_bits (64 - k) k d
-    → whole ≡ fewest_bits (64 - (k + 1)) (k + 1) d
-fewest_later k d whole less more so_far =
-    so_far ∙ fewest_next k d less
-    ∙ ap (λ b. cond b k (fewest_bits (64 - (k + 1)) (k + 1) d)) (lt-leb (d + 2) (2 ^ k) more)
 
 -- the first subset
 abbrev pub first_in : List Subset → Subset → Subset

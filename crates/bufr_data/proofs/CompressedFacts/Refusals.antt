@@ -24,7 +24,8 @@ use Rattle.bufr_fields.specs.declared.fault.DataFault.TheVariants as faults
 use Rattle.bufr_data.specs.Plain.{raw_at}
 use Rattle.bufr_fields.specs.Forms.{number_of}
 use Rattle.bufr_data.specs.Compressed.{IsColumn, Column, HaveOneCount, AreColumns, field_of}
-use Rattle.bufr_data.specs.Compressed.Reading.{or_ends, raised, value_then, all_raised, texts_at}
+use Rattle.bufr_fields.specs.Increments.{raised}
+use Rattle.bufr_data.specs.Compressed.Reading.{or_ends, value_then, all_raised, texts_at}
 use Rattle.bufr_data.specs.Compressed.Reading.{values_at, column_at, all_equal, agreeing, count_of}
 use Rattle.bufr_data.specs.Compressed.Reading.{columns_at}
 use Rattle.bufr_data.specs.Compressed.Causes.{Heads, Increments, Texts, HasValue, ColumnRefused, no_head}

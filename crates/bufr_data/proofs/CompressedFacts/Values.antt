@@ -2,12 +2,13 @@
 use Rattle.std.proofs.Common.{◌≡◌, ℕ, zero, suc, ◌+◌, ◌-◌, ◌*◌, ◌/◌, ◌<◌, ◌≤◌, Bool, true, false}
 use Rattle.std.proofs.Common.{cond, List, ◌++◌, length, take, drop, replicate, get_or, Option, Some}
 use Rattle.std.proofs.Common.{None, refl, sym, ap, subst, ◌∙◌, arith}
-use Rattle.std.specs.Prelude.{◌==◌, option_map}
+use Rattle.std.specs.Prelude.{◌==◌, option_map, IsSome}
 use Rattle.std.specs.List.{list_all}
 use Rattle.std.proofs.lemmas.Bool.{le-ltb, lt-ltb, le-leb}
 use Rattle.std.proofs.lemmas.List.{length-drop, replicate-append-replicate, take_all}
 use Rattle.bufr_bits.specs.Bits.{bits, number_at, octets_at}
-use Rattle.bufr_bits.specs.BitLaws.{number_at-bin}
+use Rattle.bufr_bits.specs.BitLaws.{number_at-bin, number_at_is}
+use Rattle.bufr_bits.specs.Ends.{BitPlace, left}
 use Rattle.bufr_bits.specs.NumberLaws.{numbers_at_found}
 use Rattle.bufr_tables.specs.declared.element.Kind.TheVariants as kinds
 use Rattle.bufr_tables.specs.Elements.{same_kind}
@@ -15,6 +16,7 @@ use Rattle.bufr_base.specs.AnswerLaws.{ok_value}
 use Rattle.bufr_expand.specs.declared.operators.Spec.{Spec}
 use Rattle.bufr_fields.specs.declared.field.Raw.{Raw}
 use Rattle.bufr_fields.specs.declared.field.Raw.TheVariants.{Number, Text}
+use Rattle.bufr_data.specs.declared.compressed.head.ColumnHead.{ColumnHead}
 use Rattle.bufr_data.specs.declared.compressed.index.Place.{Place}
 use Rattle.bufr_fields.specs.Forms.{has_form_by}
 use Rattle.bufr_data.specs.Plain.{field_number_at}
@@ -22,10 +24,12 @@ use Rattle.bufr_fields.specs.Fits.{HasForm}
 use Rattle.bufr_fields.specs.FormLaws.{form_passes}
 use Rattle.bufr_data.specs.Compressed.{IsColumn}
 use Rattle.bufr_data.specs.Compressed.Reading.{filled}
-use Rattle.bufr_data.specs.Compressed.Indexed.{values_of, read_at, Opens, one_behind, one_at}
+use Rattle.bufr_data.specs.Compressed.Indexed.{values_of, read_at, HasHead, Opens, raised_of}
+use Rattle.bufr_data.specs.Compressed.Indexed.{one_behind, one_at}
 use Rattle.bufr_data.proofs.CompressedFacts.{column_found, head_read, ones_of}
 use Rattle.bufr_data.proofs.CompressedFacts.Indexed.{one_value}
 use Rattle.bufr_data.proofs.CompressedFacts.Walks.{column_form}
+use Rattle.bufr_data.proofs.KindFacts.{other_kind}
 use Rattle.bufr_data.proofs.ListFacts.{all_at}
 use Rattle.bufr_data.proofs.CompressedFacts.Passed.{octets_none, minimum_there, TextHead, text_raw, number_raw}
 
@@ -130,6 +134,92 @@ number_past spec index front mid rest m (suc k) c other first second some times 
     let less : length (drop (index * suc k) rest) < suc k =
     omega (arith, length-drop (index * suc k) rest, short, times) in
     rw (number_raw spec.kind spec.width front other, first, second, lt-ltb _ _ less) refl
+
+-- what two numbers that were read say of a head
+pub head_there : (octets : List ℕ) (bit : ℕ) (spec : Spec) (h : ColumnHead) (r0 r1 r2 : BitPlace)
+    (more : ℕ) → (spec.kind ≡ kinds.Text → ⊥) → spec.width ≤ 64
+    → r0 ≡ record { octets = octets; place = bit }
+    → r1 ≡ record r0 { place = r0.place + spec.width } → r2 ≡ record r1 { place = r1.place + 6 }
+    → h.first ≡ r2.place → r2.place + more ≡ 8 * length r2.octets
+    → number_at spec.width (left r0) ≡ Some (h.minimum, left r1)
+    → number_at 6 (left r1) ≡ Some (h.increment_bits, left r2) → HasHead octets bit spec h
+head_there octets bit spec h r0 r1 r2 more other narrow is0 is1 is2 first rest one two =
+    let at1 : r1 ≡ record { octets = octets; place = bit + spec.width } =
+    is1 ∙ ap (λ (r : BitPlace). record r { place = r.place + spec.width }) is0 in
+    let at2 : r2 ≡ record { octets = octets; place = bit + spec.width + 6 } =
+    is2 ∙ ap (λ (r : BitPlace). record r { place = r.place + 6 }) at1 in
+    let size : length r2.octets ≡ length octets = ap (λ (r : BitPlace). length r.octets) at2 in
+    let same : bit + spec.width + 6 ≡ h.first = sym (first ∙ ap (λ (r : BitPlace). r.place) at2) in
+    record {
+      numbers = other_kind spec.kind kinds.Text other;
+      narrow = narrow;
+      few = (number_at_is 6 h.increment_bits (left r1) (left r2) two).1;
+      inside = omega (arith, first, rest, size);
+      minimum = ap (λ (r : BitPlace). number_at spec.width (left r)) (sym is0) ∙ one
+          ∙ ap (λ (r : BitPlace). Some (h.minimum, left r)) at1;
+      increment_bits = ap (λ (r : BitPlace). number_at 6 (left r)) (sym at1) ∙ two
+          ∙ ap (λ (r : BitPlace). Some (h.increment_bits, left r)) at2
+          ∙ ap (λ b. Some (h.increment_bits, drop b (bits octets))) same;
+    }
+
+behind_head : (octets : List ℕ) (bit index : ℕ) (spec : Spec) (h : ColumnHead)
+    → HasHead octets bit spec h
+    → one_at spec index (drop bit (bits octets))
+    ≡ one_behind spec (Number h.minimum) h.increment_bits index (drop h.first (bits octets))
+behind_head octets bit index spec h has =
+    let front = drop bit (bits octets) in
+    rw (
+      number_raw spec.kind spec.width front has.numbers,
+      narrow_number spec.width front _ has.narrow has.minimum,
+      has.increment_bits,
+    )
+    refl
+
+-- the minimum, if there are no increments
+pub minimum_is : (octets : List ℕ) (bit index : ℕ) (spec : Spec) (h : ColumnHead)
+    → HasHead octets bit spec h → h.increment_bits ≡ 0
+    → Some (Number h.minimum) ≡ one_at spec index (drop bit (bits octets))
+minimum_is octets bit index spec h has none =
+    sym (behind_head octets bit index spec h has
+    ∙ ap (λ k. one_behind spec (Number h.minimum) k index (drop h.first (bits octets))) none)
+
+-- too few bits for the increment at an index
+pub increment_past : (octets : List ℕ) (bit index : ℕ) (spec : Spec) (h : ColumnHead) (c : ℕ)
+    → HasHead octets bit spec h → (h.increment_bits ≡ 0 → ⊥) → c ≡ index * h.increment_bits
+    → length (drop h.first (bits octets)) < c
+    → None ≡ one_at spec index (drop bit (bits octets))
+increment_past octets bit index spec h c has some times short =
+    number_past spec index (drop bit (bits octets)) _ (drop h.first (bits octets)) h.minimum
+    h.increment_bits c has.numbers (narrow_number spec.width _ _ has.narrow has.minimum)
+    has.increment_bits some times short
+
+raised_behind : (spec : Spec) (m k index : ℕ) (rest : List Bool) → (k ≡ 0 → ⊥)
+    → one_behind spec (Number m) k index rest
+    ≡ raised_of spec.width m k (number_at k (drop (index * k) rest))
+raised_behind spec m zero index rest some = absurd (some refl)
+raised_behind spec m (suc k) index rest some = refl
+
+-- what the increment at an index raises
+pub increment_there : (octets : List ℕ) (bit index : ℕ) (spec : Spec) (h : ColumnHead) (c : ℕ)
+    (last : List Bool) (found : Option (ℕ × List Bool)) → HasHead octets bit spec h
+    → (h.increment_bits ≡ 0 → ⊥) → c ≡ index * h.increment_bits
+    → last ≡ drop c (drop h.first (bits octets)) → number_at h.increment_bits last ≡ found
+    → raised_of spec.width h.minimum h.increment_bits found
+    ≡ one_at spec index (drop bit (bits octets))
+increment_there octets bit index spec h c last found has some times after there =
+    let k = h.increment_bits in
+    let rest = drop h.first (bits octets) in
+    sym (behind_head octets bit index spec h has
+    ∙ raised_behind spec h.minimum k index rest some
+    ∙ ap (λ m. raised_of spec.width h.minimum k (number_at k (drop m rest))) (sym times)
+    ∙ ap (λ xs. raised_of spec.width h.minimum k (number_at k xs)) (sym after)
+    ∙ ap (raised_of spec.width h.minimum k) there)
+
+-- a number that is there
+pub number_is : (found : Option ℕ) (v : Raw) → option_map (λ n. Number n) found ≡ Some v
+    → IsSome found
+number_is None v e = absurd cc
+number_is (Some n) v e = refl
 
 value_at_column : (spec : Spec) (values : List Raw) (column rest : List Bool) (index : ℕ)
     → IsColumn spec values column → index < length values

@@ -1,6 +1,6 @@
 -- Writing compressed data (FM 94 BUFR, regulation 94.6.3): the one column that is written. Its
 -- increments of numbers are the narrowest; texts that differ are whole.
-use Rattle.std.specs.Prelude.{◌≡◌, ◌≤◌, ℕ, zero, suc, ◌+◌, ◌-◌, ◌*◌, ◌/◌, ◌^◌, ◌==◌, ◌&&◌, ◌||◌}
+use Rattle.std.specs.Prelude.{◌≡◌, ◌≤◌, ℕ, ◌+◌, ◌-◌, ◌*◌, ◌/◌, ◌^◌, ◌==◌, ◌&&◌, ◌||◌}
 use Rattle.std.specs.Prelude.{not, min, max, Bool, true, false, List, [], ◌∷◌, ◌++◌, length, map}
 use Rattle.std.specs.Prelude.{filter, drop, replicate, Result, Ok, Err, nat_lt, nat_le}
 use Rattle.std.specs.Prelude.{if◌then◌else◌}
@@ -19,6 +19,7 @@ use Rattle.bufr_fields.specs.declared.fault.MisfitFault.{MisfitFault}
 use Rattle.bufr_fields.specs.declared.fault.MisfitFault.TheVariants as misfits
 use Rattle.bufr_data.specs.Plain.{raw_bits}
 use Rattle.bufr_fields.specs.Forms.{number_of, same_spec}
+use Rattle.bufr_fields.specs.Increments.{fewest_bits}
 use Rattle.bufr_data.specs.Compressed.{Column, subsets_from}
 use Rattle.bufr_data.specs.Compressed.Reading.{all_equal}
 use Rattle.bufr_fields.specs.Limits.{most_values, most_increment_bits}
@@ -43,13 +44,6 @@ least (n ∷ ns) = least_with n ns
 abbrev pub greatest : List ℕ → ℕ
 greatest [] = 0
 greatest (n ∷ ns) = max n (greatest ns)
-
--- the fewest bits, from k on, in which a difference is below all ones, within the given number of
--- tries
-unfoldable pub fewest_bits : ℕ → ℕ → ℕ → ℕ
-fewest_bits zero k difference = k
-fewest_bits (suc more) k difference = if nat_le (difference + 2) (2 ^ k) then k
-    else fewest_bits more (k + 1) difference
 
 -- the increment of a number above the minimum; all ones if it is missing
 abbrev pub increment_of : ℕ → ℕ → ℕ → ℕ → ℕ

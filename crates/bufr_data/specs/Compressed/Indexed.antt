@@ -1,8 +1,8 @@
 -- The index of compressed data: where each column begins, and its values (FM 94 BUFR, regulation
 -- 94.6.3).
-use Rattle.std.specs.Prelude.{◌≡◌, ℕ, zero, suc, ◌+◌, ◌*◌, ◌/◌, ◌≤◌, Bool, List, [], ◌∷◌, ◌++◌}
-use Rattle.std.specs.Prelude.{drop, length, Option, Some, None, option_map, Result, Ok, Err, IsOk}
-use Rattle.std.specs.Prelude.{nat_lt, if◌then◌else◌}
+use Rattle.std.specs.Prelude.{◌≡◌, ℕ, zero, suc, ◌+◌, ◌*◌, ◌/◌, ◌^◌, ◌<◌, ◌≤◌, Bool, false, List, []}
+use Rattle.std.specs.Prelude.{◌∷◌, ◌++◌, drop, length, Option, Some, None, option_map, Result, Ok, Err}
+use Rattle.std.specs.Prelude.{IsOk, IfSome, nat_lt, if◌then◌else◌}
 use Rattle.std.specs.List.{AllByRecursion}
 use Rattle.bufr_bits.specs.Bits.{bits, number_at, octets_at}
 use Rattle.bufr_base.specs.Answers.{result_map}
@@ -11,11 +11,16 @@ use Rattle.bufr_expand.specs.Trees.{Tree}
 use Rattle.bufr_fields.specs.declared.field.Raw.{Raw}
 use Rattle.bufr_fields.specs.declared.field.Raw.TheVariants.{Number, Text}
 use Rattle.bufr_expand.specs.declared.operators.Spec.{Spec}
+use Rattle.bufr_fields.specs.Limits.{most_raw_bits}
+use Rattle.bufr_tables.specs.declared.element.Kind.TheVariants as kinds
+use Rattle.bufr_tables.specs.Elements.{same_kind}
+use Rattle.bufr_data.specs.declared.compressed.head.ColumnHead.{ColumnHead}
 use Rattle.bufr_data.specs.declared.compressed.index.Place.{Place}
 use Rattle.bufr_fields.specs.declared.fault.DataFault.{DataFault}
 use Rattle.bufr_data.specs.Plain.{raw_at}
+use Rattle.bufr_fields.specs.Increments.{raised}
 use Rattle.bufr_data.specs.Compressed.{Column}
-use Rattle.bufr_data.specs.Compressed.Reading.{ColumnsFound, raised, filled, column_at, columns_at}
+use Rattle.bufr_data.specs.Compressed.Reading.{ColumnsFound, filled, column_at, columns_at}
 
 -- what contracts see of an index: the number of subsets, and the columns
 pub record Indexed : Type 0 where
@@ -39,9 +44,22 @@ column_from octets n p = record {
   values = values_of (read_at octets n p);
 }
 
--- a column of n subsets begins at a place
+-- the head of the column of numbers that begins at a bit: R0, then NBINC, then the first bit after
+-- them
+pub record HasHead (octets : List ℕ) (bit : ℕ) (spec : Spec) (head : ColumnHead) : Type 0 where
+  pub numbers : same_kind spec.kind kinds.Text ≡ false
+  pub narrow : spec.width ≤ most_raw_bits
+  pub few : head.increment_bits < 2 ^ 6
+  pub inside : head.first ≤ 8 * length octets
+  pub minimum : number_at spec.width (drop bit (bits octets))
+      ≡ Some (head.minimum, drop (bit + spec.width) (bits octets))
+  pub increment_bits : number_at 6 (drop (bit + spec.width) (bits octets))
+      ≡ Some (head.increment_bits, drop head.first (bits octets))
+
+-- a column of n subsets begins at a place, and its head, if kept, is the column's
 abbrev pub Opens : List ℕ → ℕ → Place → Type 0
 Opens octets n p = (p.bit ≤ 8 * length octets) × IsOk (read_at octets n p)
+    × IfSome p.head (HasHead octets p.bit p.spec)
 
 -- a column begins at every place
 abbrev pub AllOpen : List ℕ → ℕ → List Place → Type 0

@@ -1,6 +1,6 @@
 -- Reading compressed data (FM 94 BUFR, regulation 94.6.3): the columns that begin the bits, or the
 -- first fault.
-use Rattle.std.specs.Prelude.{ℕ, zero, suc, ◌+◌, ◌-◌, ◌*◌, ◌/◌, ◌^◌, ◌==◌, ◌&&◌, not, Bool, true}
+use Rattle.std.specs.Prelude.{ℕ, zero, suc, ◌+◌, ◌-◌, ◌*◌, ◌/◌, ◌==◌, ◌&&◌, not, Bool, true}
 use Rattle.std.specs.Prelude.{false, List, [], ◌∷◌, ◌++◌, length, map, replicate, Option, Some}
 use Rattle.std.specs.Prelude.{None, Result, Ok, Err, nat_lt, bytes_eq, if◌then◌else◌}
 use Rattle.std.specs.List.{list_all}
@@ -16,6 +16,7 @@ use Rattle.bufr_fields.specs.declared.fault.DataFault.{DataFault}
 use Rattle.bufr_fields.specs.declared.fault.DataFault.TheVariants as faults
 use Rattle.bufr_data.specs.Plain.{raw_at, stopped}
 use Rattle.bufr_fields.specs.Forms.{number_of}
+use Rattle.bufr_fields.specs.Increments.{raised}
 use Rattle.bufr_data.specs.Compressed.{Column}
 use Rattle.bufr_fields.specs.Limits.{most_values}
 
@@ -25,13 +26,6 @@ use Rattle.bufr_fields.specs.Limits.{most_values}
 abbrev pub or_ends : {A : Type 0} → ℕ → Option A → Result A DataFault
 or_ends i None = Err (faults.DataEnds 0 i)
 or_ends i (Some x) = Ok x
-
--- the number of an increment of k bits in a field of `width` bits, if the sum fits
-abbrev pub raised : ℕ → ℕ → ℕ → ℕ → Option Raw
-raised width minimum k increment =
-    if increment + 1 == 2 ^ k then Some (Number (2 ^ width - 1))
-    else if nat_lt (minimum + increment) (2 ^ width) then Some (Number (minimum + increment))
-    else None
 
 -- the value of subset j before those of the others, or the fault of its increment
 abbrev pub value_then : ℕ → ℕ → Option Raw → Result (List Raw) DataFault

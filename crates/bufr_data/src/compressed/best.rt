@@ -20,7 +20,7 @@ use crate::plain::write::put_raw;
 use bufr_base::OutOfMemory;
 use bufr_bits::BitSink;
 use bufr_expand::Spec;
-use bufr_fields::{Field, Raw, Subset, is_greatest};
+use bufr_fields::{Field, Raw, Subset, fewest_bits, is_greatest};
 use bufr_tables::Kind;
 use std::alloc::Global;
 
@@ -196,16 +196,4 @@ fn greater(width: u32, found: u64, number: u64) -> u64
     } else {
         found.max(number)
     }
-}
-
-/// Returns the fewest bits, at least 1, that hold a difference below all ones.
-fn fewest_bits(difference: u64) -> u32
-    ensures { result ≡ bests.fewest_bits most_increment_bits 1 difference }
-{
-    for k in 1..64 {
-        if u128::from(difference) + 2 <= 1 << k {
-            return k;
-        }
-    }
-    64
 }

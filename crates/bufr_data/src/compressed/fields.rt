@@ -1,18 +1,19 @@
 //! Hands out the fields of a compressed subset.
 
-ghost use Rattle.std.specs.Prelude.{◌≡◌, ◌++◌, true, IfOk, IfSome, OnOk, OnErr};
+ghost use Rattle.std.specs.Prelude.{◌≡◌, ◌++◌, true, Some, IfOk, IfSome, IfNone, OnOk, OnErr};
 ghost use Rattle.std.specs.Bool.{OnTrue, OnFalse};
 ghost use Rattle.bufr_data.specs.Handed.{HandsOut, HandsOutAsked, FirstIsAsked, PassesFirst};
 ghost use Rattle.bufr_data.specs.Handed.{PassesUnasked};
+ghost use Rattle.bufr_fields.specs.Values.{as_field};
 ghost use Rattle.bufr_data.specs.Plain.{plain};
 ghost use Rattle.bufr_data.specs.Subsets.{Extends, has_own_form};
 
-use crate::compressed::index::{Place, value};
+use crate::compressed::index::{Place, number_there, value};
 use crate::plain::write::put_raw;
 use bufr_base::OutOfMemory;
 use bufr_bits::BitSink;
 use bufr_expand::Asks;
-use bufr_fields::Field;
+use bufr_fields::{Field, NumberField};
 use std::alloc::Global;
 use std::marker::Model;
 
@@ -70,7 +71,39 @@ impl<'v> ColumnFields<'v> {
         self.next(alloc)
     }
 
+    /// Hands out the next chosen field if it is a number. `None` at a text, for `next_asked` to
+    /// take, and at the end.
+    #[inline(always)]
+    pub(crate) fn next_asked_number<A: Asks>(&mut self, asked: &A) -> Option<NumberField>
+        ensures found { IfSome result (λ number.
+            HandsOutAsked (A.is_asked asked.now) self.old (Some (as_field number)) self.new) }
+        ensures others { IfNone result (PassesUnasked (A.is_asked asked.now) self.old self.new) }
+    {
+        while self.pass_first(asked) {}
+        self.next_number()
+    }
+
+    /// Hands out the next field if it is a number.
+    #[inline(always)]
+    fn next_number(&mut self) -> Option<NumberField>
+        ensures found { IfSome result (λ number.
+            HandsOut self.old (Some (as_field number)) self.new) }
+        ensures others { IfNone result (self.new ≡ self.old) }
+    {
+        let Some((place, others)) = self.places.split_first() else {
+            return None;
+        };
+        let number = number_there(self.octets, self.subsets, *place, self.index)?;
+        self.places = others;
+        Some(NumberField {
+            fxy: place.fxy,
+            spec: place.spec,
+            number,
+        })
+    }
+
     /// Skips the next field if it is not chosen.
+    #[inline(always)]
     fn pass_first<A: Asks>(&mut self, asked: &A) -> bool
         ensures passed { OnTrue result (PassesFirst (A.is_asked asked.now) self.old self.new) }
         ensures unmoved { OnFalse result (self.new ≡ self.old) }

@@ -1,7 +1,7 @@
 //! Finds the columns of compressed data.
 
 ghost use Rattle.std.specs.Prelude.{◌≡◌, ◌-◌, ◌<◌, ◌≤◌, map, get_or, true, Bool, List, Ok, Err};
-ghost use Rattle.std.specs.Prelude.{IfOk, IfErr, OnErr, OnOk, OnSome, ◌+◌, ◌++◌};
+ghost use Rattle.std.specs.Prelude.{IfOk, IfErr, IfSome, OnErr, OnOk, OnSome, ◌+◌, ◌++◌};
 ghost use Rattle.bufr_bits.specs.Ends.{left};
 ghost use Rattle.bufr_base.specs.Answers.{Gives};
 ghost use Rattle.bufr_expand.specs.Walks as walks;
@@ -20,6 +20,7 @@ ghost use Rattle.bufr_fields.specs.Steady.{IsReady, WalkAdvances};
 ghost use Rattle.bufr_data.specs.Subsets.{Extends};
 
 use crate::compressed::fields::ColumnFields;
+use crate::compressed::head::{ColumnHead, head_at, number_under};
 use crate::compressed::pass::{pass_column, pass_factor};
 use crate::compressed::value::column_value;
 use crate::fields::{FieldSource, Fields};
@@ -32,12 +33,13 @@ use bufr_tables::Fxy;
 use std::alloc::Global;
 use std::marker::Model;
 
-/// A place of a column: its field and its first bit.
+/// A place of a column: its field, its first bit, and its head if it has numbers.
 #[derive(Clone, Copy, PartialEq)]
 pub(crate) struct Place {
     pub(crate) fxy: Fxy,
     pub(crate) spec: Spec,
     pub(crate) bit: u128,
+    pub(crate) head: Option<ColumnHead>,
 }
 
 /// An index of the columns of compressed subsets.
@@ -209,6 +211,8 @@ fn next_place(
     ensures onward { reader.old.place ≤ reader.new.place }
 {
     let bit = reader.place();
+    let octets = reader.octets();
+    let _left = reader.left();
     let step = match walk.next() {
         Err(fault) => return Err(stop_fault(fault, n, i)),
         Ok(step) => step,
@@ -218,13 +222,25 @@ fn next_place(
         Step::Field(fxy, spec) => {
             within_limit(n, i)?;
             pass_column(reader, spec, n, i)?;
-            Ok(Some(Place { fxy, spec, bit }))
+            let head = head_at(octets, bit, spec);
+            Ok(Some(Place {
+                fxy,
+                spec,
+                bit,
+                head,
+            }))
         }
         Step::Count(fxy, spec) => {
             within_limit(n, i)?;
             let number = pass_factor(reader, spec, n, i)?;
             walk.count(number);
-            Ok(Some(Place { fxy, spec, bit }))
+            let head = head_at(octets, bit, spec);
+            Ok(Some(Place {
+                fxy,
+                spec,
+                bit,
+                head,
+            }))
         }
     }
 }
@@ -250,6 +266,29 @@ fn stop_fault(fault: WalkFault, n: u16, i: u64) -> DataFault
     }
 }
 
+/// Returns the number at an index of the column at a place, without its head, if it is a number.
+#[inline(always)]
+pub(crate) fn number_there(octets: &[u8], subsets: u16, place: Place, index: u16) -> Option<u64>
+    requires stands { Opens octets.now subsets place }
+    requires inside { index < subsets }
+    ensures { IfSome result (λ n. Number n
+        ≡ get_or (column_from octets.now subsets place).values index (Number 0)) }
+{
+    let Place {
+        spec,
+        bit,
+        head,
+        ..
+    } = place;
+    match head {
+        None => None,
+        Some(head) => {
+            let number = number_under(octets, bit, spec, head, index);
+            Some(number.unwrap())
+        }
+    }
+}
+
 pub(crate) fn value(
     alloc: Global,
     octets: &[u8],
@@ -263,8 +302,12 @@ pub(crate) fn value(
         (Number 0)) }
     ensures formed { IfOk result (λ v. has_form_by place.spec.kind place.spec.width v ≡ true) }
 {
-    let mut reader = BitReader::at(octets, place.bit);
-    let value = column_value(alloc, &mut reader, place.spec, index)?;
+    let Place { spec, bit, .. } = place;
+    if let Some(number) = number_there(octets, subsets, place, index) {
+        return Ok(Raw::Number(number));
+    }
+    let mut reader = BitReader::at(octets, bit);
+    let value = column_value(alloc, &mut reader, spec, index)?;
     Ok(value.unwrap())
 }
 

@@ -12,10 +12,9 @@ ghost use Rattle.bufr_data.specs.Compressed.Passed.{head_at, PassesColumn, Passe
 ghost use Rattle.bufr_data.specs.Compressed.Passed.{agreed_at};
 ghost use Rattle.bufr_fields.specs.Limits.{most_raw_bits};
 
-use crate::compressed::increment::{never_passes, raised};
 use bufr_bits::BitReader;
 use bufr_expand::Spec;
-use bufr_fields::{DataFault, MOST_RAW_BITS};
+use bufr_fields::{DataFault, MOST_RAW_BITS, never_passes, raised};
 use bufr_tables::Kind;
 
 /// Passes the column of field `i` in `n` subsets, which is no factor.

@@ -10,11 +10,10 @@ ghost use Rattle.bufr_fields.specs.declared.field.Raw.TheVariants as raws;
 ghost use Rattle.bufr_data.specs.Compressed.Reading as reading;
 ghost use Rattle.bufr_data.specs.Compressed.Indexed.{one_at};
 
-use crate::compressed::increment::raised;
 use bufr_base::{Items, OutOfMemory};
 use bufr_bits::BitReader;
 use bufr_expand::Spec;
-use bufr_fields::{MOST_RAW_BITS, Raw, are_ones};
+use bufr_fields::{MOST_RAW_BITS, Raw, are_ones, raised};
 use bufr_tables::Kind;
 use std::alloc::Global;
 

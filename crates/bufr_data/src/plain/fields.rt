@@ -1,6 +1,7 @@
 //! Hands out the fields of a plain subset along a walk.
 
-ghost use Rattle.std.specs.Prelude.{◌≡◌, IfOk, IfErr, OnErr};
+ghost use Rattle.std.specs.Prelude.{◌≡◌, Some, IfOk, IfErr, IfSome, IfNone, OnErr};
+ghost use Rattle.bufr_fields.specs.Values.{as_field};
 ghost use Rattle.bufr_data.specs.Handed.{HandsOut, HandsOutAsked, PassesUnasked};
 ghost use Rattle.bufr_data.specs.Handed.{StandAhead, StepsTo, StepsToNone};
 
@@ -9,7 +10,7 @@ use crate::plain::read::{read_count, read_number, read_raw};
 use bufr_base::OutOfMemory;
 use bufr_bits::BitReader;
 use bufr_expand::{Asks, Step, Walk};
-use bufr_fields::{Field, Raw};
+use bufr_fields::{Field, NumberField, Raw};
 use std::alloc::Global;
 use std::marker::Model;
 
@@ -49,7 +50,7 @@ impl<'v> PlainFields<'v> {
         ensures err { OnErr result (self.new ≡ self.old) }
     {
         match step(self.due, &mut self.walk, &mut self.reader) {
-            Ok(field) => return Ok(Some(field)),
+            Ok(number) => return Ok(Some(field_of(number))),
             Err(due) => self.due = due,
         }
         let Due::Text(text) = self.due else {
@@ -65,6 +66,41 @@ impl<'v> PlainFields<'v> {
                 }))
             }
             Err(_) => Err(OutOfMemory),
+        }
+    }
+
+    /// Hands out the next chosen field if no text comes before it. Else returns `None`, for
+    /// `next_asked` to take it.
+    pub(crate) fn next_asked_number<A: Asks>(&mut self, asked: &A) -> Option<NumberField>
+        ensures found { IfSome result (λ number.
+            HandsOutAsked (A.is_asked asked.now) self.old (Some (as_field number)) self.new) }
+        ensures others { IfNone result (PassesUnasked (A.is_asked asked.now) self.old self.new) }
+    {
+        if let Due::Step = self.due {
+            if self.walk.tells_no_more(asked) {
+                return None;
+            }
+        }
+        while let Some(number) = self.next_number() {
+            if asked.asks(number.fxy) {
+                return Some(number);
+            }
+        }
+        None
+    }
+
+    /// Hands out the next field if it is a number. `None` at a text and at the end.
+    fn next_number(&mut self) -> Option<NumberField>
+        ensures found { IfSome result (λ number.
+            HandsOut self.old (Some (as_field number)) self.new) }
+        ensures others { IfNone result (self.new ≡ self.old) }
+    {
+        match step(self.due, &mut self.walk, &mut self.reader) {
+            Ok(number) => Some(number),
+            Err(due) => {
+                self.due = due;
+                None
+            }
         }
     }
 
@@ -94,12 +130,22 @@ impl<'v> PlainFields<'v> {
     }
 }
 
+/// Makes a field of one with a number.
+#[inline(always)]
+fn field_of(number: NumberField) -> Field
+    ensures { result ≡ as_field number }
+{
+    let NumberField { fxy, spec, number } = number;
+    let raw = Raw::Number(number);
+    Field { fxy, spec, raw }
+}
+
 /// Steps to the next field and reads it if it is a number. At a text and at the end it returns what
 /// comes next then.
-fn step(due: Due, walk: &mut Walk, reader: &mut BitReader) -> Result<Field, Due>
+fn step(due: Due, walk: &mut Walk, reader: &mut BitReader) -> Result<NumberField, Due>
     requires { StandAhead due walk.old reader.old }
-    ensures found { IfOk result (λ field.
-        StepsTo field due walk.old reader.old due walk.new reader.new) }
+    ensures found { IfOk result (λ number.
+        StepsTo (as_field number) due walk.old reader.old due walk.new reader.new) }
     ensures others { IfErr result (λ later.
         StepsToNone due walk.old reader.old later walk.new reader.new) }
 {
@@ -114,17 +160,13 @@ fn step(due: Due, walk: &mut Walk, reader: &mut BitReader) -> Result<Field, Due>
     match next {
         Step::End => Err(Due::Nothing),
         Step::Field(fxy, spec) => match read_number(spec, reader) {
-            Some(number) => {
-                let raw = Raw::Number(number);
-                Ok(Field { fxy, spec, raw })
-            }
+            Some(number) => Ok(NumberField { fxy, spec, number }),
             None => Err(Due::Text(LaidField { fxy, spec })),
         },
         Step::Count(fxy, spec) => {
             let number = read_count(spec, reader);
             walk.count(number);
-            let raw = Raw::Number(number);
-            Ok(Field { fxy, spec, raw })
+            Ok(NumberField { fxy, spec, number })
         }
     }
 }

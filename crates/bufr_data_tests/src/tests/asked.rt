@@ -64,6 +64,18 @@ const MIXED: Descriptors = &[
     (0, 12, 101),
 ];
 
+/// Two subsets: two bits, 16, "A " or "BC", 16, seven and 16: 1, 27315, 5, 94 and 65535; 2, 1, 2, 3 and 0.
+const MIXED_PLAIN: &[u8] = &[
+    0x5A, 0xAC, 0xD0, 0x48, 0x00, 0x01, 0x6F, 0x7F, 0xFF, 0xC0, 0x00, 0x28, 0x48, 0x60, 0x00, 0x40,
+    0xC0, 0x00, 0x00,
+];
+
+/// The same fields, each a minimum, NBINC, and both increments or texts if there are any.
+const MIXED_COLUMNS: &[u8] = &[
+    0x42, 0x16, 0xAB, 0x30, 0x84, 0x00, 0x00, 0x24, 0x12, 0x04, 0x24, 0x30, 0x00, 0x50, 0x2F, 0x00,
+    0x00, 0x0E, 0x11, 0x00,
+];
+
 /// Compares the numbers of the chosen fields, which are all that is left.
 fn hands_out<A: Asks>(
     rt: &impl Abort,
@@ -189,11 +201,6 @@ fn blocks_between_wide_fields(rt: HostRuntime) {
 #[test]
 fn temperatures_alone_are_asked_for(rt: HostRuntime) {
     let alloc = rt.alloc();
-    // two bits, 16, "A " or "BC", 16, seven and 16: 1, 27315, 5, 94 and 65535; 2, 1, 2, 3 and 0
-    let plain = [
-        0x5A, 0xAC, 0xD0, 0x48, 0x00, 0x01, 0x6F, 0x7F, 0xFF, 0xC0, 0x00, 0x28, 0x48, 0x60, 0x00,
-        0x40, 0xC0, 0x00, 0x00,
-    ];
     serves(
         &rt,
         alloc,
@@ -201,14 +208,9 @@ fn temperatures_alone_are_asked_for(rt: HostRuntime) {
         MIXED,
         false,
         2,
-        &plain,
+        MIXED_PLAIN,
         &[1, 2, 0],
     );
-    // the same fields, each a minimum, NBINC, and both increments or texts if there are any
-    let columns = [
-        0x42, 0x16, 0xAB, 0x30, 0x84, 0x00, 0x00, 0x24, 0x12, 0x04, 0x24, 0x30, 0x00, 0x50, 0x2F,
-        0x00, 0x00, 0x0E, 0x11, 0x00,
-    ];
     serves(
         &rt,
         alloc,
@@ -216,9 +218,59 @@ fn temperatures_alone_are_asked_for(rt: HostRuntime) {
         MIXED,
         true,
         2,
-        &columns,
+        MIXED_COLUMNS,
         &[27316, 5, 9],
     );
+}
+
+/// Compares the chosen fields, and whether each comes as a number.
+fn hands_out_both(
+    rt: &impl Abort,
+    alloc: Global,
+    mut fields: Fields<'_>,
+    wanted: [(u64, bool); 3],
+) {
+    for (number, alone) in wanted {
+        let found = fields.next_asked_number(&TEMPERATURES);
+        same(rt, found.is_some(), alone);
+        match found {
+            Some(found) => same(rt, found.number, number),
+            None => {
+                let field = fields.next_asked(alloc, &TEMPERATURES).expect(rt, "room");
+                same(rt, number_of(&field.expect(rt, "a field")), Some(number));
+            }
+        }
+    }
+    same(rt, fields.next_asked_number(&TEMPERATURES), None);
+    same(
+        rt,
+        fields.next_asked(alloc, &TEMPERATURES).expect(rt, "room"),
+        None,
+    );
+}
+
+/// A walk stops at each text, columns and a layout only at those that are chosen.
+#[test]
+fn numbers_alone(rt: HostRuntime) {
+    let alloc = rt.alloc();
+    let mut of_plain = DataTemplate::new(template(&rt, alloc, MIXED));
+    for message in 0..2 {
+        let mut reader = BitReader::new(MIXED_PLAIN);
+        let index = of_plain
+            .index(alloc, false, &mut reader, 2)
+            .expect(&rt, "an index");
+        assert!(&rt; 1 < index.count());
+        let fields = index.fields(alloc, 1).expect(&rt, "room");
+        hands_out_both(&rt, alloc, fields, [(1, true), (2, message > 0), (0, true)]);
+    }
+    let mut of_columns = DataTemplate::new(template(&rt, alloc, MIXED));
+    let mut reader = BitReader::new(MIXED_COLUMNS);
+    let index = of_columns
+        .index(alloc, true, &mut reader, 2)
+        .expect(&rt, "an index");
+    assert!(&rt; 1 < index.count());
+    let fields = index.fields(alloc, 1).expect(&rt, "room");
+    hands_out_both(&rt, alloc, fields, [(27316, true), (5, true), (9, true)]);
 }
 
 /// A text is no number: it is left, and handed out as a field.

@@ -5,7 +5,7 @@ use super::samples::{
     CHECKED, COMPRESSED_PAIR, COMPRESSED_PAIR_LISTING, ELEMENTS_ONLY, LISTING, PAIR_COMPRESSED,
     PAIR_LISTING, Part, SEQUENCES, SEQUENCES_LISTING, TABLE_B, TABLE_D, TWO_FRAMES, joined,
 };
-use bufr_tool::run_command;
+use bufr_tool::{line, run_command};
 use std::alloc::Global;
 use std::fs;
 use std::process::Abort;
@@ -14,13 +14,18 @@ use std::rt::Files;
 /// What a command prints, and what it says on standard error.
 type Told<'a> = (&'a [u8], &'a str);
 
-/// Runs a command of these words. Returns the exit status, the output and the errors.
-fn ended<R: Abort + Files>(rt: &R, alloc: Global, words: &str) -> (u8, Vec<u8>, Vec<u8>) {
+fn words_in(rt: &impl Abort, alloc: Global, words: &str) -> Vec<String> {
     let mut list = Vec::new(alloc);
     for word in words.split_whitespace() {
         let word = format!(in alloc; "{word}").expect(rt, "room");
         list.push(word).expect(rt, "room");
     }
+    list
+}
+
+/// Runs a command of these words. Returns the exit status, the output and the errors.
+fn ended<R: Abort + Files>(rt: &R, alloc: Global, words: &str) -> (u8, Vec<u8>, Vec<u8>) {
+    let list = words_in(rt, alloc, words);
     let (mut out, mut err) = (Vec::new(alloc), Vec::new(alloc));
     let status = run_command(rt, alloc, &list, &mut out, &mut err);
     (status, out, err)
@@ -60,7 +65,11 @@ const FILES: &[(&str, &[Part<'static>])] = &[
     ("compressed", &[(COMPRESSED_PAIR, 1)]),
     ("compressed.txt", &[(COMPRESSED_PAIR_LISTING, 1)]),
     ("pair.txt", &[(PAIR_LISTING, 1)]),
+    ("numbers", &[(NUMBERS, 1)]),
+    ("numbers.txt", &[(NUMBERS_LISTING, 1)]),
     ("unequal.txt", &[(UNEQUAL_LISTING, 1)]),
+    ("second.txt", &[(LISTING, 1), (UNEQUAL_LISTING, 1)]),
+    ("bad.txt", &[(UNEQUAL_LISTING, 1), (b"end\n", 1)]),
     ("stream", TWO_FRAMES),
     ("later", &[(LATER, 1)]),
     ("edition_5", &[(EDITION_5, 1)]),
@@ -74,6 +83,33 @@ const LATER: &[u8] = b"BUFR\x00\x00\x3E\x04\
 \x00\x00\x0F\x00\x00\x01\x80\xC1\x01\xC1\x0B\xC1\x0C\x0C\x65\
 \x00\x00\x0D\x00\x14\xC0\x3F\x40\x9E\xC0\x1A\xC2\x00\
 7777";
+
+/// A message whose numbers of section 1 all differ, with octets for local use and a section 2: 70
+/// octets. Its data are not observed.
+const NUMBERS: &[u8] = b"BUFR\x00\x00\x46\x04\
+\x00\x00\x18\x00\x01\x02\x03\x04\x05\x80\x06\x07\x08\x09\x0A\x0B\x0C\x0D\x0E\x0F\x10\x11\x12\x13\
+\x00\x00\x06\x00\xAB\xCD\
+\x00\x00\x0F\x00\x00\x01\x00\xC1\x01\xC1\x0B\xC1\x0C\x0C\x65\
+\x00\x00\x0D\x00\x14\xC0\x3F\x40\x9E\xC0\x1A\xAC\xC0\
+7777";
+
+const NUMBERS_LISTING: &[u8] = b"message\n\
+section1 258 772 5 6 7 8 9 10\n\
+time 2828 13 14 15 16 17\n\
+local1 1213\n\
+section2 abcd\n\
+flags\n\
+descriptors 301001 301011 301012 012101\n\
+subset\n\
+001001 10\n\
+001002 384\n\
+004001 2024\n\
+004002 1\n\
+004003 15\n\
+004004 12\n\
+004005 0\n\
+012101 273.15\n\
+end\n";
 
 const EDITION_5: &[u8] = b"BUFR\x00\x00\x3E\x05\
 \x00\x00\x16\x00\x00\x62\x00\x00\x00\x00\x00\x02\x00\x25\x00\x07\xE8\x01\x0F\x0C\x00\x00\
@@ -185,6 +221,13 @@ const COMMANDS: &[(&str, u8, Told<'static>)] = &[
         (b"# refused 0 M2 Edition 5\n", ""),
     ),
     ("check -b b -d d refused", 1, (REFUSALS, "")),
+    ("show -b b -d d numbers", 0, (NUMBERS_LISTING, "")),
+    ("encode -b b -d d numbers.txt", 0, (NUMBERS, "")),
+    (
+        "encode -b b -d d --compressed compressed.txt",
+        0,
+        (COMPRESSED_PAIR, ""),
+    ),
     // OUT stays
     (
         "merge -b b -d d -o out sequences stream",
@@ -222,10 +265,19 @@ const COMMANDS: &[(&str, u8, Told<'static>)] = &[
         2,
         (b"", "bufr: message 1: E2 NotCompressible 1\n"),
     ),
+    (
+        "encode -b b -d d second.txt",
+        2,
+        (b"", "bufr: message 2: E2 NotCompressible 1\n"),
+    ),
+    (
+        "encode -b b -d d bad.txt",
+        2,
+        (b"", "bufr: listing: L1 BadLine 12\n"),
+    ),
 ];
 
-/// Words that ask for help or are no command, and their status. The texts are those of the option
-/// parser.
+/// Words that are no line, or ask for help, and their status. The texts are those of the option parser.
 const WORDS: &[(&str, u8)] = &[
     ("", 0),
     ("--help", 0),
@@ -239,11 +291,23 @@ const WORDS: &[(&str, u8)] = &[
     ("check -b b -d d --compressed sequences", 2),
     ("add -b b -d d stream", 2),
     ("show -b b -d d sequences stream", 2),
+    ("encode -b b -d d elements.txt pair.txt", 2),
+    ("encode -b b -d d -c pair.txt", 2),
+    ("encode -b b -d d --compressed --compressed pair.txt", 2),
+    ("show --b b -d d sequences", 2),
+    ("show -b b -b b -d d sequences", 2),
+    ("add -b b -d d -o other -o another stream", 2),
+    ("merge -b b -d d -o other", 2),
 ];
 
 fn assert_status<R: Abort + Files>(rt: &R, alloc: Global, words: &str, status: u8) {
     let (found, out, err) = ended(rt, alloc, words);
     same(rt, (words, found), (words, status));
+    same(
+        rt,
+        (words, line(alloc, &words_in(rt, alloc, words)).is_err()),
+        (words, true),
+    );
     same(rt, out.is_empty(), status == 2);
     same(rt, err.is_empty(), status == 0);
 }

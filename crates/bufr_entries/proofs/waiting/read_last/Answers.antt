@@ -1,5 +1,5 @@
 -- `ahead` is the octets of the last entries.
-use Rattle.std.proofs.Common.{◌≤◌, ◌∙◌, ◌-◌, ap, length, rules}
+use Rattle.std.proofs.Common.{◌≤◌, ◌∙◌, ap, length, rules}
 use Rattle.std.proofs.lemmas.List.{take_all}
 use Rattle.bufr_entries.specs.Pages.{octets_waiting}
 use Rattle.bufr_entries.proofs.AheadLemmas.{none-last, part-last}
@@ -7,10 +7,10 @@ use Rattle.bufr_entries.proofs.waiting.read_last.Goals as goal
 
 pub returns : goal.returns
 returns c =
-    let os = c.args.octets.now in let es = c.args.entries.now in
+    let os = c.args.octets.now in
     let last = c.split_at.result.1.now in
     let end : length last ≤ c.loop-entry.entry-index = search rules in
-    part-last os es (length es - c.at_once.result) c.loop-entry.ahead.items
+    part-last os c.args.entries.now c.loop-first.first c.loop-entry.ahead.items
     (c.loop-entry.invariant
     ∙ ap (octets_waiting os) (take_all c.loop-entry.entry-index last end)
     ∙ ap (octets_waiting os) c.split_at.ensures.back)

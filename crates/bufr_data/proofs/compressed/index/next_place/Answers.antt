@@ -1,5 +1,5 @@
 -- One step of the walk passes one column.
-use Rattle.std.proofs.Common.{◌≡◌, drop, ap, sym}
+use Rattle.std.proofs.Common.{◌≡◌, arith, drop, length, ap, sym}
 use Rattle.std.proofs.lemmas.Result.{err_from_is_err_and}
 use Rattle.bufr_bits.specs.Bits.{bits}
 use Rattle.bufr_bits.specs.Ends.{left}
@@ -64,8 +64,8 @@ returns-in_ok-pass_column-in-Field-clause-ok c =
     let there : left c.args.reader.now ≡ drop c.place-bit.result (bits c.args.reader.now.octets) =
     ap (λ b. drop b (bits c.args.reader.now.octets)) (sym c.place-bit.ensures) in
     field_passes _ _ c.args.reader.now.octets c.args.n c.args.i c.in-Field.fxy c.place-bit.result
-    c.in-Field.spec (left c.args.reader.now)
-    (left c.pass_column.new.reader) c.requires.ready goes
+    c.in-Field.spec c.head_at-head.result (left c.args.reader.now)
+    (left c.pass_column.new.reader) (rw c.octets-octets.ensures at c.head_at-head.ensures) c.requires.ready goes
     (sym c.in_ok-within_limit-in-Field.ensures) c.in_ok-pass_column-in-Field.ensures.ok there
 
 pub returns-in_ok-pass_column-in-Field-clause-advances :
@@ -80,13 +80,23 @@ returns-in_ok-number-in-Count-clause-ok c =
     let there : left c.args.reader.now ≡ drop c.place-bit.result (bits c.args.reader.now.octets) =
     ap (λ b. drop b (bits c.args.reader.now.octets)) (sym c.place-bit.ensures) in
     count_passes _ _ _ c.args.reader.now.octets c.args.n c.args.i c.in-Count.fxy c.place-bit.result
-    _ c.in-Count.spec (left c.args.reader.now)
-    (left c.pass_factor.new.reader) goes c.count.ensures
+    _ c.in-Count.spec c.head_at-head-in-Count.result (left c.args.reader.now)
+    (left c.pass_factor.new.reader) (rw c.octets-octets.ensures at c.head_at-head-in-Count.ensures) goes c.count.ensures
     (sym c.in_ok-within_limit-in-Count.ensures) c.in_ok-number-in-Count.ensures.ok there
 
 pub pass_factor-requires-clause-counts : goal.pass_factor-requires-clause-counts
 pass_factor-requires-clause-counts c =
     let goes = rw c.in-Count.is at c.in-Ok.ensures in is_count _ _ _ _ goes
+
+pub head_at-head-requires : goal.head_at-head-requires
+head_at-head-requires c =
+    let size = ap length c.octets-octets.ensures in
+    omega (arith, size, c.place-bit.ensures, c.left-left.ensures.rest)
+
+pub head_at-head-requires-in-Count : goal.head_at-head-requires-in-Count
+head_at-head-requires-in-Count c =
+    let size = ap length c.octets-octets.ensures in
+    omega (arith, size, c.place-bit.ensures, c.left-left.ensures.rest)
 
 pub count-requires-clause-fits : goal.count-requires-clause-fits
 count-requires-clause-fits c =

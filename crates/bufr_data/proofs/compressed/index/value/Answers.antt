@@ -21,6 +21,11 @@ returns-clause-is c =
     ∙ value_there c.args.octets.now c.args.subsets c.args.index c.args.place c.requires.stands
     c.requires.inside)
 
+pub returns-in-Some-clause-formed : goal.returns-in-Some-clause-formed
+returns-in-Some-clause-formed c =
+    form_there c.args.octets.now c.args.subsets c.args.index c.args.place _ c.requires.stands
+    c.requires.inside c.in-Some.ensures
+
 pub returns-clause-formed : goal.returns-clause-formed
 returns-clause-formed c =
     let at = c.at-reader.ensures in

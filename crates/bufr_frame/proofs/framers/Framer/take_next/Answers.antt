@@ -1,4 +1,4 @@
--- Each clause follows from what `hand_over` returns.
+-- Each clause follows from what `reach_and_copy` returns.
 use Rattle.std.proofs.Common.{◌≡◌, ◌+◌, ◌++◌, drop, take, sym, subst, arith, length-append}
 use Rattle.std.specs.Prelude.{IfSome}
 use Rattle.std.proofs.lemmas.List.{length-take-le, take_all}
@@ -12,8 +12,8 @@ use Rattle.bufr_frame.proofs.framers.Framer.take_next.Goals as goal
 
 pub invariant_of-self-2 : goal.invariant_of-self-2
 invariant_of-self-2 c =
-    let t = c.in_ok-taking.ensures.taken in
-    let taking = c.in_ok-taking.taking in
+    let t = c.in-Ok.ensures.taken in
+    let taking = c.in-Ok.taking in
     let held = drop c.self.inside.from c.self.inside.octets.items in
     let known = c.self.invariant.taken in
     let all = held_taken _ (held ++ take taking.taken c.args.piece.now) _ taking.found t.found in
@@ -27,8 +27,8 @@ invariant_of-self-2 c =
 
 pub returns-clause-frame : goal.returns-clause-frame
 returns-clause-frame c =
-    let t = c.in_ok-taking.ensures.taken in
-    let taking = c.in_ok-taking.taking in
+    let t = c.in-Ok.ensures.taken in
+    let taking = c.in-Ok.taking in
     let inside = c.self.inside in
     let piece = c.args.piece.now in
     let taken = take taking.taken piece in
@@ -41,12 +41,12 @@ returns-clause-frame c =
 
 pub returns-clause-next : goal.returns-clause-next
 returns-clause-next c =
-    let t = c.in_ok-taking.ensures.taken in
-    let taking = c.in_ok-taking.taking in
+    let t = c.in-Ok.ensures.taken in
+    let taking = c.in-Ok.taking in
     let inside = c.self.inside in
     let piece = c.args.piece.now in
     let taken = take taking.taken piece in
-    let held = drop taking.from c.hand_over.new.octets.items in
+    let held = drop taking.from c.reach_and_copy.new.octets.items in
     let v : Framing = record { fed = inside.fed; held = drop inside.from inside.octets.items } in
     let new : Framing = record { fed = inside.fed + taking.taken; held = held } in
     let size = length-take-le taking.taken piece t.taken in
@@ -58,11 +58,11 @@ returns-clause-next c =
 
 pub returns-clause-none : goal.returns-clause-none
 returns-clause-none c = λ none.
-    let t = c.in_ok-taking.ensures.taken in
-    let taking = c.in_ok-taking.taking in
+    let t = c.in-Ok.ensures.taken in
+    let taking = c.in-Ok.taking in
     let inside = c.self.inside in
     let piece = c.args.piece.now in
-    let held = drop taking.from c.hand_over.new.octets.items in
+    let held = drop taking.from c.reach_and_copy.new.octets.items in
     let v : Framing = record { fed = inside.fed; held = drop inside.from inside.octets.items } in
     let all : take taking.taken piece ≡ piece =
     let e = t.all none in take_all taking.taken piece (omega arith) in
@@ -75,11 +75,11 @@ returns-clause-none c = λ none.
 
 pub returns-clause-waits : goal.returns-clause-waits
 returns-clause-waits c = λ none.
-    let t = c.in_ok-taking.ensures.taken in
-    let taking = c.in_ok-taking.taking in
+    let t = c.in-Ok.ensures.taken in
+    let taking = c.in-Ok.taking in
     let inside = c.self.inside in
     let piece = c.args.piece.now in
-    let held = drop taking.from c.hand_over.new.octets.items in
+    let held = drop taking.from c.reach_and_copy.new.octets.items in
     let v : Framing = record { fed = inside.fed; held = drop inside.from inside.octets.items } in
     let new : Framing = record { fed = inside.fed + taking.taken; held = held } in
     let all : take taking.taken piece ≡ piece =

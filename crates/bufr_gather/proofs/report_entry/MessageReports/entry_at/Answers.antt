@@ -2,6 +2,7 @@
 use Rattle.std.proofs.Common.{ℕ, Vec, Global, ap, arith}
 use Rattle.std.proofs.lemmas.List.{length-map}
 use Rattle.std.specs.Option.{option_map}
+use Rattle.bufr_sections.specs.declared.message.Head.{Head}
 use Rattle.bufr_message.specs.Reports.{report_of, reports_of}
 use Rattle.bufr_gather.specs.ReportEntries.{spelt_entry}
 use Rattle.bufr_gather.proofs.ReportFacts.{viewed_none, viewed_some}
@@ -15,7 +16,7 @@ returns-in_default c =
 pub returns : goal.returns
 returns c =
     viewed_some c.args.self.now.view.message c.args.index _ c.in-Some.octets.items
-    c.from_vec.result c.in_ok-key_at.field-0 c.update.result
+    c.from_vec.result c.in_ok-key_at.field-0 c.head.result.now.update
     (omega (
       arith,
       c.requires,
@@ -23,4 +24,4 @@ returns c =
       length-map c.args.self.now.view.message.subsets (report_of c.args.self.now.view.message),
     ))
     c.in_ok-octets.ensures (ap (option_map (λ (v : Vec ℕ Global). v.items)) c.in-Some.is)
-    c.in_ok-key_at.ensures c.update.ensures c.from_vec.ensures
+    c.in_ok-key_at.ensures (ap (λ (h : Head). h.update) c.head.ensures) c.from_vec.ensures

@@ -1,6 +1,7 @@
 -- The clause `written` of `write_to`: numbers need no quotes.
 use Rattle.std.proofs.Common.{◌≡◌, ◌∙◌, ap, decimal, drop, sym}
 use Rattle.csv.specs.Writing.{default_writer, field_text}
+use Rattle.bufr_fields.specs.Values.{as_field}
 use Rattle.bufr_select_rows.specs.Texts.{text_of}
 use Rattle.bufr_select_rows.specs.Values.{shown_value}
 use Rattle.bufr_select_rows.specs.declared.text.Standing.{Standing}
@@ -10,13 +11,13 @@ use Rattle.bufr_select_rows.proofs.text.Text.write_to.Goals as goal
 
 pub returns-in-Number-clause-written : goal.returns-in-Number-clause-written
 returns-in-Number-clause-written c =
-    let same : shown_value c.field_of.result ≡ field_text default_writer c.args.self.now =
-    ap shown_value c.field_of.ensures ∙ sym (value_text c.in-Number.number)
+    let same : shown_value (as_field c.in-Number.number) ≡ field_text default_writer c.args.self.now =
+    sym (value_text c.in-Number.number)
     ∙ ap (field_text default_writer)
     (ap (λ (s : Standing). text_of s c.self.inside.octets.items) (sym c.in-Number.is) ∙ c.self.view_is) in
-    text_same c.write_value.result c.write_value.new.room (shown_value c.field_of.result)
+    text_same c.write_number.result c.write_number.new.room (shown_value (as_field c.in-Number.number))
     (field_text default_writer c.args.self.now) (drop c.args.end c.args.room.now) same
-    c.write_value.ensures.written
+    c.write_number.ensures.written
 
 pub returns-in-Count-clause-written : goal.returns-in-Count-clause-written
 returns-in-Count-clause-written c =

@@ -4,7 +4,8 @@ use Rattle.bufr_data.proofs.PlainFacts.Handed.{text_handed, none_after}
 use Rattle.bufr_data.proofs.plain.fields.PlainFields.next.Goals as goal
 
 pub returns-in-Ok-clause-found : goal.returns-in-Ok-clause-found
-returns-in-Ok-clause-found c = sym c.self.view_is ∙ c.in-Ok.ensures.found.is
+returns-in-Ok-clause-found c =
+    rw c.field_of.ensures (sym c.self.view_is ∙ c.in-Ok.ensures.found.is)
 
 pub returns-in_default-clause-found : goal.returns-in_default-clause-found
 returns-in_default-clause-found c =

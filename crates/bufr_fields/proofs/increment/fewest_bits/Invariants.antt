@@ -1,6 +1,6 @@
 use Rattle.std.proofs.Common.{◌≡◌, ◌-◌}
-use Rattle.bufr_data.specs.Compressed.Best.{fewest_bits}
-use Rattle.bufr_data.proofs.compressed.best.fewest_bits.Given as goal
+use Rattle.bufr_fields.specs.Increments.{fewest_bits}
+use Rattle.bufr_fields.proofs.increment.fewest_bits.Given as goal
 
 -- the search from 1 finds what the search from this width finds
 abbrev pub invariant-loop-k : goal.invariant-loop-k
