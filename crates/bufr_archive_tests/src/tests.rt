@@ -100,6 +100,18 @@ BUFR\x00\x00\x3E\x04\
 \x00\x00\x0D\x00\x14\xC0\xBF\x40\x9E\xC0\x1A\xAC\xC0\
 7777";
 
+/// The archive of the first message and of the one without a key.
+const BOTH: &[u8] = b"BUFR\x00\x00\x3E\x04\
+\x00\x00\x16\x00\x00\x62\x00\x00\x00\x00\x00\x02\x00\x25\x00\x07\xE8\x01\x0F\x0C\x00\x00\
+\x00\x00\x0F\x00\x00\x01\x80\xC1\x01\xC1\x0B\xC1\x0C\x0C\x65\
+\x00\x00\x0D\x00\x14\xC0\x3F\x40\x9E\xC0\x1A\xAC\xC0\
+7777\
+BUFR\x00\x00\x3E\x04\
+\x00\x00\x16\x00\x00\x62\x00\x00\x00\x00\x00\x02\x00\x25\x00\x07\xE8\x01\x0F\x0C\x00\x00\
+\x00\x00\x0F\x00\x00\x01\x80\xC1\x01\xC1\x0B\xC1\x0C\x0C\x65\
+\x00\x00\x0D\x00\x14\xC0\x3F\x46\x9E\xC0\x1A\xAC\xC0\
+7777";
+
 /// A step: a slot's stream goes on or ends, or one slot merges into another, directly, by its text
 /// or by a copy.
 enum Done {
@@ -248,7 +260,7 @@ const SELF_MERGE: &[Row] = &[
 ];
 
 /// A slot that takes in itself stays as it is, with a report without a key. Then each kind of join
-/// brings that report to an empty slot.
+/// brings that report to an empty slot, and another report beside it.
 const ITSELF: &[Row] = &[
     (Feed(0, &MONTH_13), Fed(1, 0, 1), &[]),
     (Merge(0, 0), Joined, &[(0, &MONTH_13)]),
@@ -257,6 +269,14 @@ const ITSELF: &[Row] = &[
     (Merge(0, 1), Joined, &[(1, &MONTH_13)]),
     (Transfer(0, 2), Joined, &[(2, &MONTH_13)]),
     (Copy(0, 3), Joined, &[(3, &MONTH_13)]),
+    (Feed(4, &ROW_1), Fed(1, 0, 1), &[]),
+    (Merge(4, 1), Joined, &[(1, BOTH)]),
+    (Transfer(4, 2), Joined, &[(2, BOTH)]),
+    (
+        Copy(4, 3),
+        Joined,
+        &[(1, BOTH), (2, BOTH), (3, BOTH), (4, &ROW_1)],
+    ),
 ];
 
 /// The fault names the first slot that is not there.
@@ -292,7 +312,7 @@ const LAST: &[Row] = &[(Feed(999, &ROW_1), Fed(1, 0, 1), &[(0, &[]), (999, &ROW_
 const DEPOTS: &[(usize, &[Row])] = &[
     (2, DEPOT),
     (2, SELF_MERGE),
-    (4, ITSELF),
+    (5, ITSELF),
     (1, MISSING),
     (1, FRAMES),
     (1000, LAST),

@@ -85,3 +85,15 @@ wmo_keys_are a b s t p q r u =
       number_in_turn a.high b.high a.low b.low,
     )
     (simp in_turn)))
+
+pub wmo_ranks : (a b : WmoWords) (s t : ℕ) → a.high < 2 ^ 64 → b.high < 2 ^ 64
+    → a.low < 2 ^ 64 → b.low < 2 ^ 64 → (o : Ordering)
+    → MatchOrdering o (a.high * 2 ^ 64 + a.low < b.high * 2 ^ 64 + b.low)
+    (a.high * 2 ^ 64 + a.low ≡ b.high * 2 ^ 64 + b.low)
+    (b.high * 2 ^ 64 + b.low < a.high * 2 ^ 64 + a.low)
+    → ordering_then o (nat_cmp s t) ≡ key_cmp (wmo_key a s) (wmo_key b t)
+wmo_ranks a b s t p q r u o ranked =
+    ap (λ x. ordering_then x (nat_cmp s t))
+    (nat_cmp_is (a.high * 2 ^ 64 + a.low) (b.high * 2 ^ 64 + b.low) o ranked
+    ∙ two_parts (2 ^ 64) a.high a.low b.high b.low r u)
+    ∙ wmo_keys_are a b s t p q r u

@@ -45,3 +45,15 @@ wmo_key words sub_centre = record {
   moment = wmo_moment words.low;
   sub_centre = sub_centre;
 }
+
+-- the key of a WMO station of these parts
+abbrev pub wmo_key_of : FrontHead → ℕ → ℕ → Moment → ℕ → Key
+wmo_key_of head block number moment sub_centre = record {
+  centre = head.centre;
+  category = head.category;
+  international = head.international;
+  local_category = head.local_category;
+  station = Wmo (pos block) (pos number);
+  moment = moment;
+  sub_centre = sub_centre;
+}

@@ -2,7 +2,7 @@ ghost use Rattle.std.specs.Prelude.{◌≡◌, ◌++◌, ◌∷◌, [], map, IfO
 ghost use Rattle.std.specs.List.Sorted.{IsStrictlySortedBy};
 ghost use Rattle.std.specs.Option.{option_map, option_to_list};
 ghost use Rattle.bufr_entries.specs.Entries.{slot_cmp, kept};
-ghost use Rattle.bufr_entries.specs.Pages.{flat};
+ghost use Rattle.bufr_entries.specs.Pages.{flat, marked};
 
 use crate::entry_octets::EntryOctets;
 use crate::kept_octets::{KeptOctets, count_of};
@@ -88,6 +88,19 @@ impl ShelfBuilder {
         ensures err { OnErr result (kept self.new ≡ kept self.old) }
     {
         let mark = PackedSlot::new(self.alloc, key, update)?;
+        self.put_marked(mark, entry)
+    }
+
+    /// Adds an entry with this mark, as `put_octets_of` does.
+    pub fn put_marked<O: EntryOctets>(
+        &mut self,
+        mark: PackedSlot,
+        entry: &O,
+    ) -> Result<(), OutOfMemory>
+        ensures ok { OnOk result (kept self.new ≡ kept (kept self.old ++ option_to_list
+            (option_map (marked mark) (O.octets entry.now)))) }
+        ensures err { OnErr result (kept self.new ≡ kept self.old) }
+    {
         if self.waiting.are_many(self.count) {
             settle(
                 self.alloc,

@@ -7,11 +7,15 @@ use std::cmp::Ordering;
 
 /// The centre and categories of a key.
 #[derive(Clone, Copy, Drop, PartialEq, Eq, PartialOrd, Ord)]
-pub(crate) struct FrontHead {
-    pub(crate) centre: u16,
-    pub(crate) category: u8,
-    pub(crate) international: u8,
-    pub(crate) local_category: u8,
+pub struct FrontHead {
+    /// The originating centre.
+    pub centre: u16,
+    /// The data category (Table A).
+    pub category: u8,
+    /// The international data sub-category.
+    pub international: u8,
+    /// The local data sub-category.
+    pub local_category: u8,
 }
 
 /// The station of a key, as a front has it.

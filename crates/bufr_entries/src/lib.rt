@@ -25,6 +25,7 @@ mod worked_values;
 pub use builder::ShelfBuilder;
 pub use entry::Entry;
 pub use entry_octets::EntryOctets;
+pub use front::FrontHead;
 pub use giving_back::take_last;
 pub use kept_octets::{KeptOctets, LentOctets};
 pub use key::{Key, Moment, Station};

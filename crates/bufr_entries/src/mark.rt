@@ -4,9 +4,10 @@ ghost use Rattle.bufr_entries.specs.KeyOrders.{octets_cmp};
 ghost use Rattle.bufr_entries.specs.Entries.{slot_by};
 ghost use Rattle.bufr_entries.specs.Marks.{mark_in, IsFronted};
 ghost use Rattle.bufr_entries.specs.Fronts.{front_of_key};
+ghost use Rattle.bufr_entries.specs.PackedKeys.{wmo_key_of};
 
 use crate::front::{Front, FrontHead, FrontPlace};
-use crate::key::Key;
+use crate::key::{Key, Moment};
 use crate::packed_key::WmoWords;
 use bufr_base::OutOfMemory;
 use std::alloc::Global;
@@ -103,6 +104,30 @@ impl PackedSlot {
             _ => PackedForm::Other { update, key },
         };
         Ok(PackedSlot { form })
+    }
+
+    /// Makes the mark of a WMO station's key, of its parts.
+    #[inline(always)]
+    pub fn of_wmo(
+        head: FrontHead,
+        block: u16,
+        number: u16,
+        moment: Moment,
+        sub_centre: u16,
+        update: u8,
+    ) -> PackedSlot
+        ensures { result ≡ record {
+          key = Some (wmo_key_of head block number moment sub_centre);
+          update = update;
+        } }
+    {
+        let words = WmoWords::of_parts(head, block, number, moment);
+        let form = PackedForm::Wmo {
+            update,
+            sub_centre,
+            words,
+        };
+        PackedSlot { form }
     }
 
     /// Returns the update number.

@@ -1,6 +1,6 @@
-ghost use Rattle.std.specs.Prelude.{◌≡◌, ◌+◌, ◌≤◌, ◌/◌, ◌%◌, ◌^◌, IfSome};
+ghost use Rattle.std.specs.Prelude.{◌≡◌, ℕ, ◌+◌, ◌*◌, ◌≤◌, ◌/◌, ◌%◌, ◌^◌, IfSome};
 ghost use Rattle.bufr_entries.specs.KeyOrders.{key_cmp};
-ghost use Rattle.bufr_entries.specs.PackedKeys.{bits, wmo_head, wmo_moment, wmo_key};
+ghost use Rattle.bufr_entries.specs.PackedKeys.{bits, wmo_head, wmo_moment, wmo_key, wmo_key_of};
 ghost use Rattle.bufr_entries.specs.declared.front.FrontPlace.TheVariants.{Wmo};
 
 use crate::front::{Front, FrontHead, FrontPlace};
@@ -72,6 +72,17 @@ impl WmoWords {
         })
     }
 
+    #[inline(always)]
+    pub(crate) fn of_parts(head: FrontHead, block: u16, number: u16, moment: Moment) -> WmoWords
+        ensures { (sub_centre : ℕ)
+            → wmo_key result sub_centre ≡ wmo_key_of head block number moment sub_centre }
+    {
+        WmoWords {
+            high: high_word(head, block, number),
+            low: low_word(number, moment),
+        }
+    }
+
     pub(crate) fn key(self, sub_centre: u16) -> Key
         ensures { result ≡ wmo_key self sub_centre }
     {
@@ -118,16 +129,27 @@ impl WmoWords {
         }
     }
 
+    /// Compares two keys, the words of each as one number.
+    // Its answers are constants, so a caller that asks only for the lesser computes no order.
     #[inline(always)]
     pub(crate) fn order(self, sub_centre: u16, other: WmoWords, other_sub_centre: u16) -> Ordering
         ensures { result ≡ key_cmp (wmo_key self sub_centre) (wmo_key other other_sub_centre) }
     {
-        let WmoWords { high, low } = self;
-        let WmoWords {
-            high: other_high,
-            low: other_low,
-        } = other;
-        let words = high.cmp(&other_high).then(low.cmp(&other_low));
-        words.then(sub_centre.cmp(&other_sub_centre))
+        let first = self.number();
+        let second = other.number();
+        if first < second {
+            return Ordering::Less;
+        }
+        if first > second {
+            return Ordering::Greater;
+        }
+        sub_centre.cmp(&other_sub_centre)
+    }
+
+    #[inline(always)]
+    fn number(self) -> u128
+        ensures { result ≡ self.high * 2 ^ 64 + self.low }
+    {
+        self.high as u128 * 18_446_744_073_709_551_616 + self.low as u128
     }
 }

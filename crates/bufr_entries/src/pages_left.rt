@@ -32,6 +32,7 @@ impl Model for PagesLeft {
 }
 
 /// Moves on to the next page with an entry, if the current one has none.
+#[inline(always)]
 fn turn(page: &mut Page, pages: &mut Vec<Page>)
     ensures all { page.new ++ flat (reverse pages.new.items)
         ≡ page.old ++ flat (reverse pages.old.items) }

@@ -105,6 +105,7 @@ fn fill(room: &mut PageRoom, left: &mut PagesLeft, waiting: &mut Waiting) -> Res
 
 /// Compares the slots of the first entry left and the last waiting one. A missing one counts as
 /// greater.
+#[inline(always)]
 fn order_of_heads(left: &PagesLeft, waiting: &Waiting) -> Option<Ordering>
     ensures order { IfSome result (λ order.
         order ≡ heads_order slot_cmp left.now (reverse waiting.now)) }
@@ -150,13 +151,15 @@ fn drop_tied(waiting: &mut Waiting) -> bool
     ensures apart { result ≡ false
         → (waiting.new ≡ waiting.old) × LeadsAlone (reverse waiting.new) }
 {
-    let Some((last, other)) = waiting.last_two() else {
+    let Some((last, other, octets)) = waiting.last_two() else {
         return false;
     };
-    if !last.slot_cmp(other).is_eq() {
+    if !last.slot_cmp(other, octets).is_eq() {
         return false;
     }
-    if last.rank_cmp(other).is_gt() {
+    let own = last.look(octets);
+    let its = other.look(octets);
+    if own.rank_cmp(its).is_gt() {
         waiting.drop_other();
     } else {
         let _mark = waiting.take_last();

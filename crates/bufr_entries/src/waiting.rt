@@ -57,7 +57,7 @@ fn part(octets: &[u8], from: usize, len: usize) -> &[u8]
 }
 
 impl WaitingEntry {
-    fn look<'a>(&'a self, octets: &'a [u8]) -> Look<'a>
+    pub(crate) fn look<'a>(&'a self, octets: &'a [u8]) -> Look<'a>
         ensures { seen result ≡ waits_in octets.now self.now }
     {
         Look {
@@ -68,7 +68,7 @@ impl WaitingEntry {
 
     /// Compares the slots of two entries. It reads their octets only if neither has a key.
     #[inline(always)]
-    fn slot_cmp(&self, other: &WaitingEntry, octets: &[u8]) -> Ordering
+    pub(crate) fn slot_cmp(&self, other: &WaitingEntry, octets: &[u8]) -> Ordering
         ensures { result ≡ slot_cmp (waits_in octets.now self.now) (waits_in octets.now other.now) }
     {
         match self.mark.keyed_order(&other.mark) {
@@ -89,11 +89,27 @@ fn drop_other(entries: &mut Vec<WaitingEntry>)
     entries.push_reserved(last);
 }
 
-/// Copies the octets of the last entries into `ahead`: they lie far apart, and one pass waits less
-/// for memory.
+/// Returns whether the octets of the entry before the last one follow those of the last one.
+fn lie_together(entries: &[WaitingEntry]) -> bool {
+    let Some((last, others)) = entries.split_last() else {
+        return false;
+    };
+    let Some((other, _)) = others.split_last() else {
+        return false;
+    };
+    other.from.wrapping_sub(last.from) == last.len
+}
+
+/// Copies the octets of the last entries into `ahead`, unless they lie together. Where they lie far
+/// apart, one pass waits less for memory.
+#[inline(never)]
 fn read_last(octets: &[u8], entries: &[WaitingEntry], ahead: &mut Vec<u8>)
     ensures { AreLast octets.now entries.now ahead.new.items }
 {
+    if lie_together(entries) {
+        ahead.clear();
+        return;
+    }
     let mut first = entries.len();
     let mut room = MOST_OCTETS_AT_ONCE;
     while first > 0 && entries.len() - first < MOST_AT_ONCE && entries[first - 1].len <= room {
@@ -210,17 +226,20 @@ impl Waiting {
         })
     }
 
-    pub(crate) fn last_two(&self) -> Option<(Look, Look)>
-        ensures two { IfSome result
-            (λ two. reverse self.now ≡ seen two.0 ∷ seen two.1 ∷ drop 2 (reverse self.now)) }
+    /// Returns the last two entries, and all octets.
+    pub(crate) fn last_two(&self) -> Option<(&WaitingEntry, &WaitingEntry, &[u8])>
+        ensures two { IfSome result (λ two. reverse self.now
+            ≡ waits_in two.2.now two.0.now ∷ waits_in two.2.now two.1.now
+            ∷ drop 2 (reverse self.now)) }
         ensures some { MatchOption result (length self.now < 2) (λ _. 1 < length self.now) }
     {
         let before = self.entries.len().checked_sub(2)?;
         let (last, other) = (self.entries.last()?, self.entries.get(before)?);
-        Some((last.look(&self.octets), other.look(&self.octets)))
+        Some((last, other, self.octets.as_slice()))
     }
 
     /// Takes the last entry, returns its mark, and gives free memory back.
+    #[inline(always)]
     pub(crate) fn take_last(&mut self) -> Option<PackedSlot>
         ensures mark { result ≡ option_map mark_of (first_of (reverse self.old)) }
         ensures rest { reverse self.new ≡ drop 1 (reverse self.old) }

@@ -32,6 +32,7 @@ use Rattle.bufr_message.specs.Reports.{ReportsSpeltAreUnder}
 use Rattle.bufr_report_keys.specs.Usable.{◌>>=◌}
 use Rattle.bufr_entries.specs.declared.entry.Entry.{Entry}
 use Rattle.bufr_entries.specs.Marks.{SlotView}
+use Rattle.bufr_entries.specs.Pages.{marked}
 use Rattle.bufr_sections.specs.Sections.{AreOctets}
 use Rattle.bufr_gather.specs.ReportEntries.{AreUnder, entry_of, entry_with, IsReportEntry}
 use Rattle.bufr_gather.specs.ReportEntries.{is_canonical, only_one, own_entry, entry_in}
@@ -210,13 +211,13 @@ entry_made m s head h found octets own head_is h_is key_is own_is =
     ∙ ap (λ (x : ReportHead). of_parts (key x s.fields) x.update octets)
     (h_is ∙ ap without_local head_is)
 
-pub entry_marked : (m : Message) (s : Subset) (head : Head) (h : ReportHead) (found : Option Key)
-    (octets : List ℕ) (mark : SlotView) → head ≡ m.head → h ≡ without_local head
-    → found ≡ key h s.fields → mark ≡ record { key = found; update = h.update }
+pub entry_marked : (m : Message) (s : Subset) (head : Head) (h : ReportHead) (octets : List ℕ)
+    (mark : SlotView) → head ≡ m.head → h ≡ without_local head
+    → mark ≡ record { key = key h s.fields; update = h.update }
     → of_parts mark.key mark.update octets ≡ entry_with (report_of m s) octets
-entry_marked m s head h found octets mark head_is h_is key_is mark_is =
+entry_marked m s head h octets mark head_is h_is mark_is =
     ap (λ (k : SlotView). of_parts k.key k.update octets) mark_is
-    ∙ entry_made m s head h found octets octets head_is h_is key_is refl
+    ∙ entry_made m s head h (key h s.fields) octets octets head_is h_is refl refl
 
 one_spelt : BareAreWritten → CanonicalIsOwn → ReportsSpeltAreUnder → (tables : Entries)
     (octets : List ℕ) (d : Decoded) → message_of tables octets ≡ Ok d
@@ -325,6 +326,18 @@ pub key_there : (m : Message) (i : ℕ) (s : Subset) (head : Head) (h : ReportHe
 key_there m i s head h found at head_is h_is key_is =
     subst (λ x. IfSome x (λ r. found ≡ key_of r)) (sym (report_at m i s at))
     (key_is ∙ ap (λ (x : ReportHead). key x s.fields) (h_is ∙ ap without_local head_is))
+
+-- one report of a message as its builder puts it
+pub put_slot : (m : Message) (i : ℕ) (s : Subset) (head : Head) (h : ReportHead) (slot : SlotView)
+    → i < length m.subsets → slice_get m.subsets i ≡ Some s → head ≡ m.head
+    → h ≡ without_local head → slot ≡ record { key = key h s.fields; update = h.update }
+    → option_map (marked slot) (spelt_at (reports_of m) i)
+    ≡ get_or (spelt_entries (reports_of m)) i None
+put_slot m i s head h slot there at head_is h_is slot_is =
+    put_entry m i slot.key slot.update there
+    (key_there m i s head h slot.key at head_is h_is (ap (λ (k : SlotView). k.key) slot_is))
+    (ap (λ (k : SlotView). k.update) slot_is
+    ∙ ap (λ (x : ReportHead). x.update) (h_is ∙ ap without_local head_is))
 
 asked_of : (x : Option Report) (canon : Option (List ℕ)) → option_map spelt_alone x ≡ Some canon
     → x >>= spelt_alone ≡ canon

@@ -11,7 +11,8 @@ use crate::add_fault::AddFault;
 use crate::report_entry::{MessageReports, ReportOctets};
 use bufr_base::{Failure, OutOfMemory};
 use bufr_entries::{KeptOctets, ShelfBuilder};
-use bufr_message::{MessageReader, Refused};
+use bufr_message::{MessageReader, Refused, ReportHead};
+use bufr_report_keys::slot_of_fields;
 use bufr_tables::Tables;
 use std::alloc::Global;
 use std::marker::Model;
@@ -71,10 +72,11 @@ impl<'t> ArchiveBuilder<'t> {
             (get_or (spelt_entries (reports_of reports.now.view.message)) index None ∷ [])) }
         ensures err { OnErr result (self.new ≡ self.old) }
     {
-        let key = reports.key_at(self.alloc, index)?;
         let view = &reports.view;
-        let octets = ReportOctets { view, index };
-        self.entries.put_octets_of(key, view.head().update, &octets)
+        let head = ReportHead::of_head(view.head());
+        let fields = view.fields(self.alloc, index)?;
+        let slot = slot_of_fields(self.alloc, &head, fields)?;
+        self.entries.put_marked(slot, &ReportOctets { view, index })
     }
 
     /// Gives the templates, and the entries of all reports.

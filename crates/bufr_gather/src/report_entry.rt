@@ -11,12 +11,12 @@ ghost use Rattle.bufr_gather.specs.Reading.{read};
 
 use crate::reading::ReadEntry;
 use bufr_base::{Failure, Items, OutOfMemory};
-use bufr_entries::{Entry, EntryOctets, Key, PackedSlot};
+use bufr_entries::{Entry, EntryOctets, Key};
 use bufr_message::laws::{
     canonical_messages_are_own, reports_have_canonical_messages, written_messages_are_spelt,
 };
 use bufr_message::{MessageReader, Refused, Report, ReportHead, View, canonical};
-use bufr_report_keys::{key_in, key_of_fields};
+use bufr_report_keys::{key_in, key_of_fields, slot_of_fields};
 use bufr_tables::Tables;
 use std::alloc::Global;
 
@@ -91,9 +91,9 @@ fn own_entry<'a>(
     }
     let head = ReportHead::of_head(view.head());
     let fields = view.fields(alloc, 0)?;
-    let key = key_of_fields(alloc, &head, fields)?;
+    let mark = slot_of_fields(alloc, &head, fields)?;
     Ok(Some(ReadEntry {
-        mark: PackedSlot::new(alloc, key, head.update)?,
+        mark,
         bytes: octets,
     }))
 }
@@ -147,7 +147,7 @@ impl<'a> MessageReports<'a> {
 }
 
 impl<'a> MessageReports<'a> {
-    pub(crate) fn key_at(&self, alloc: Global, index: usize) -> Result<Option<Key>, OutOfMemory>
+    fn key_at(&self, alloc: Global, index: usize) -> Result<Option<Key>, OutOfMemory>
         requires { index < length self.now.view.message.subsets }
         ensures { IfOk result (λ key. IfSome
             (slice_get (reports_of self.now.view.message) index) (λ r. key ≡ key_of r)) }

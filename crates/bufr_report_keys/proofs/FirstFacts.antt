@@ -1,5 +1,5 @@
--- First values, field by field, and the key that they make: for `note_laid`, `note_met`,
--- `note_listed`, `key_in` and `key_of_fields`.
+-- First values, field by field, and the key that they make: for `note_handed`, `note_listed`,
+-- `key_in` and `key_of_fields`.
 use Rattle.std.proofs.Common.{◌≡◌, ℕ, ◌==◌, Bool, true, false, List, [], ◌∷◌, ◌++◌, Option, Some}
 use Rattle.std.proofs.Common.{None, refl, sym, ap, subst, ◌∙◌, append_assoc, cond, length, drop}
 use Rattle.std.proofs.Common.{slice_index_or, ◌+◌, ◌<◌, ◌≤◌}

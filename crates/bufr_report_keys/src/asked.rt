@@ -9,7 +9,7 @@ use crate::elements::{
 };
 use crate::first_values::FirstValues;
 use bufr_base::{Items, OutOfMemory};
-use bufr_data::{Asks, Field, Fields, LaidFields, Raw};
+use bufr_data::{Asks, Field, Fields, Raw};
 use bufr_tables::Fxy;
 use std::alloc::Global;
 
@@ -32,30 +32,11 @@ impl Asks for KeyElements {
     }
 }
 
-/// Notes fields that come one at a time. It skips fields of other elements, and builds few of them.
+/// Notes fields that come one at a time. It skips fields of other elements, and builds no numbers.
 #[inline(always)]
 pub(crate) fn note_handed(
     alloc: Global,
-    fields: Fields<'_>,
-    values: &mut FirstValues,
-) -> Result<(), OutOfMemory>
-    ensures { OnOk result (values.new ≡ all_noted fields.entry values.old) }
-{
-    match fields.laid() {
-        Ok(fields) => note_laid(alloc, fields, values),
-        Err(mut left) => {
-            while let Some(field) = left.next_asked(alloc, &KeyElements)? {
-                values.note(field);
-            }
-            Ok(())
-        }
-    }
-}
-
-/// Notes the fields of a layout, and builds no numbers.
-fn note_laid(
-    alloc: Global,
-    mut fields: LaidFields<'_>,
+    mut fields: Fields<'_>,
     values: &mut FirstValues,
 ) -> Result<(), OutOfMemory>
     ensures { OnOk result (values.new ≡ all_noted fields.entry values.old) }

@@ -1,5 +1,5 @@
 //! The number of an element's first field.
-ghost use Rattle.std.specs.Prelude.{◌≡◌, None, Some};
+ghost use Rattle.std.specs.Prelude.{◌≡◌, IfSome, None, Some, pos};
 ghost use Rattle.std.specs.Option.{option_flatten, option_or};
 
 use std::marker::Model;
@@ -53,5 +53,15 @@ impl FirstNumber {
             Said::Number(number) => Some(number),
             Said::Unmet | Said::Unusable => None,
         }
+    }
+
+    /// Returns the number, if it fits in two octets.
+    pub(crate) fn two_octets(&self) -> Option<u16>
+        ensures { IfSome result (λ number. option_flatten self.now ≡ Some (pos number)) }
+    {
+        let Ok(number) = u16::try_from(self.usable()?) else {
+            return None;
+        };
+        Some(number)
     }
 }

@@ -9,7 +9,7 @@ use crate::moments::moment_of;
 use crate::stations::station_of;
 use bufr_base::OutOfMemory;
 use bufr_data::{Field, Fields};
-use bufr_entries::Key;
+use bufr_entries::{FrontHead, Key, PackedSlot};
 use bufr_message::ReportHead;
 use std::alloc::Global;
 
@@ -38,6 +38,46 @@ pub fn key_of_fields(
     let mut values = FirstValues::none();
     note_handed(alloc, fields, &mut values)?;
     Ok(key_of(head, &mut values))
+}
+
+/// Makes the slot of a report with this head and these fields: its key, if it has one, and its
+/// update number. It makes no key of most WMO stations, but packs its parts.
+pub fn slot_of_fields(
+    alloc: Global,
+    head: &ReportHead,
+    fields: Fields<'_>,
+) -> Result<PackedSlot, OutOfMemory>
+    ensures { IfOk result (λ slot.
+        slot ≡ record { key = key head.now fields.entry; update = head.now.update }) }
+{
+    let mut values = FirstValues::none();
+    note_handed(alloc, fields, &mut values)?;
+    slot_of(alloc, head, &mut values)
+}
+
+fn slot_of(
+    alloc: Global,
+    head: &ReportHead,
+    values: &mut FirstValues,
+) -> Result<PackedSlot, OutOfMemory>
+    ensures { IfOk result (λ slot.
+        slot ≡ record { key = key_of head.now values.old; update = head.now.update }) }
+{
+    let (Some(block), Some(number)) = (values.block.two_octets(), values.station.two_octets())
+    else {
+        return PackedSlot::new(alloc, key_of(head, values), head.update);
+    };
+    let moment = match moment_of(values) {
+        None => return PackedSlot::new(alloc, None, head.update),
+        Some(moment) => moment,
+    };
+    let front = FrontHead {
+        centre: head.centre,
+        category: head.category,
+        international: head.international,
+        local_category: head.local_category,
+    };
+    Ok(PackedSlot::of_wmo(front, block, number, moment, head.sub_centre, head.update))
 }
 
 fn key_of(head: &ReportHead, values: &mut FirstValues) -> Option<Key>

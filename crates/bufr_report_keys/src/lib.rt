@@ -18,4 +18,4 @@ mod stations;
 mod usable;
 mod worked_values;
 
-pub use keys::{key_in, key_of_fields};
+pub use keys::{key_in, key_of_fields, slot_of_fields};

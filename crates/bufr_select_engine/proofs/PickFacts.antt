@@ -1,5 +1,5 @@
--- The next field that is asked for, after some that are not: the contract of `pick`.
-use Rattle.std.proofs.Common.{◌≡◌, ℕ, Bool, List, [], ◌∷◌, ◌++◌, Option, Some, None, Result, Ok, Err}
+-- The next field that is asked for, after some that are not: `pick` after `pick_number`, in `put_fields`.
+use Rattle.std.proofs.Common.{ℕ, Bool, List, [], ◌∷◌, ◌++◌, Option, Some, None, Result, Ok, Err}
 use Rattle.std.proofs.Common.{IfOk, sym, ap, ◌∙◌, subst, append_assoc}
 use Rattle.bufr_fields.specs.declared.field.Field.{Field}
 use Rattle.bufr_data.specs.Handed.{HandsOutAsked, NoneAsked, PassesUnasked}

@@ -86,6 +86,11 @@ abbrev pub words_without_columns : List (List ℕ)
 words_without_columns =
     codes "-b" ∷ codes "elements.csv" ∷ codes "-d" ∷ codes "sequences.csv" ∷ codes "06.bufr" ∷ []
 
+-- a line without a table of elements
+abbrev pub words_without_elements : List (List ℕ)
+words_without_elements =
+    codes "-d" ∷ codes "sequences.csv" ∷ codes "-c" ∷ codes "input" ∷ codes "06.bufr" ∷ []
+
 -- a line without a table of sequences
 abbrev pub words_without_sequences : List (List ℕ)
 words_without_sequences =
@@ -104,3 +109,7 @@ words_with_another_option = codes "-x" ∷ words_of_one_pair
 -- a line with columns twice
 abbrev pub words_with_columns_twice : List (List ℕ)
 words_with_columns_twice = codes "-c" ∷ codes "message" ∷ words_of_one_pair
+
+-- a line with the descriptor of spans twice
+abbrev pub words_with_each_twice : List (List ℕ)
+words_with_each_twice = codes "-e" ∷ codes "012101" ∷ words_of_two_pairs

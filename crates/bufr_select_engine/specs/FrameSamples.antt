@@ -1,7 +1,9 @@
 -- What the worked frames speak of: pairs of tables, a message and refused frames.
 use Rattle.std.specs.Prelude.{ℕ, true, false, List, [], ◌∷◌, ◌++◌, Option, None, codes}
+use Rattle.bufr_expand.specs.Samples.{sample}
 use Rattle.bufr_fields.specs.declared.field.Field.{Field}
 use Rattle.bufr_message.specs.declared.Message.{Message}
+use Rattle.bufr_message.specs.ReportSamples.{temperature4}
 use Rattle.bufr_sections.specs.Samples.{head4, hex}
 use Rattle.bufr_select_rows.specs.declared.column.Column.{Column}
 use Rattle.bufr_select_engine.specs.Selected.{Selection}
@@ -34,3 +36,15 @@ refused_frame = hex (codes "42554652 00000C 05 37373737")
 -- two streams with three of them, and a stream without a frame between these
 abbrev pub refused_streams : List (List ℕ)
 refused_streams = (refused_frame ++ 0 ∷ refused_frame) ∷ [] ∷ refused_frame ∷ []
+
+-- columns of messages under the tables of the examples
+abbrev pub read : List Column → Selection
+read columns = record {
+  pairs = record { greatest = None; reader = sample } ∷ [];
+  columns = columns;
+  each = None;
+}
+
+-- two streams without a frame, and one with a refused frame before a temperature of 273.15 K
+abbrev pub read_streams : List (List ℕ)
+read_streams = [] ∷ [] ∷ (refused_frame ++ temperature4 (codes "80")) ∷ []

@@ -1,6 +1,7 @@
 //! The fields of subsets, picked for rows.
 
 ghost use Rattle.std.specs.Prelude.{◌≡◌, ◌||◌, false, map, IfOk, OnOk};
+ghost use Rattle.bufr_fields.specs.Values.{as_field};
 ghost use Rattle.bufr_select_rows.specs.Asks.{Finds, IsSetOf};
 ghost use Rattle.bufr_select_rows.specs.Cells.{after_field, due, ended, opens, opens_at_once};
 ghost use Rattle.bufr_select_rows.specs.Cells.{row_of, rows_left};
@@ -13,10 +14,12 @@ use crate::held_rows::HeldRows;
 use crate::picks::Picks;
 use bufr_base::OutOfMemory;
 use bufr_bits::Sink;
+use bufr_data::NumberField;
 use bufr_io::ToolFault;
 use bufr_message::{Field, Fields, View};
 use bufr_select_rows::{
-    Asked, Cell, Column, Origin, RowLine, begin_cells, cells_of, note_field, open_cells,
+    Asked, Cell, Column, Origin, RowLine, begin_cells, cells_of, note_field, note_number,
+    open_cells,
 };
 use bufr_tables::Fxy;
 use std::alloc::Global;
@@ -119,6 +122,55 @@ fn is_open_after(in_span: bool, each: Option<Fxy>, field: &Field) -> bool
     in_span || opens(each, field)
 }
 
+/// Returns whether a field with a number opens a span.
+#[inline(always)]
+fn number_opens(each: Option<Fxy>, number: &NumberField) -> bool
+    ensures { result ≡ opens each (as_field number.now) }
+{
+    match each {
+        Some(each) => number.fxy == each,
+        None => false,
+    }
+}
+
+/// Returns whether a span is open after a field with a number.
+#[inline(always)]
+fn is_open_after_number(in_span: bool, each: Option<Fxy>, number: &NumberField) -> bool
+    ensures { result ≡ (in_span || opens each (as_field number.now)) }
+{
+    in_span || number_opens(each, number)
+}
+
+/// Takes a field with a number of a subset, and puts the row of the span that it ends.
+#[inline(always)]
+fn take_number<W: Sink>(
+    each: Option<Fxy>,
+    asked: &Asked,
+    in_span: bool,
+    number: &NumberField,
+    line: &mut RowLine,
+    cells: &mut [Cell],
+    rows: &mut HeldRows,
+    writer: &mut W,
+) -> Result<(), ToolFault>
+    requires works { (W.writing writer.old).failed ≡ false }
+    requires finds { Finds asked.now (map (λ c. c.column) cells.old) }
+    ensures puts { PutsOrStops (due each in_span cells.old (as_field number.now)) rows.old
+        (W.writing writer.old) rows.new (W.writing writer.new) result }
+    ensures cells { OnOk result (cells.new
+        ≡ after_field each in_span cells.old (as_field number.now)) }
+    ensures works { OnOk result ((W.writing writer.new).failed ≡ false) }
+{
+    if !number_opens(each, number) {
+        note_number(cells, asked, in_span, *number)?;
+        return Ok(());
+    }
+    put_ended(in_span, line, cells, rows, writer)?;
+    open_cells(cells);
+    note_number(cells, asked, true, *number)?;
+    Ok(())
+}
+
 /// Takes a field of a subset, and puts the row of the span that it ends.
 #[inline(always)]
 fn take_field<W: Sink>(
@@ -168,6 +220,20 @@ fn put_fields<P: Picks, W: Sink>(
 {
     let mut in_span = each.is_none();
     'fields: loop {
+        if let Some(number) = fields.pick_number(asked) {
+            take_number(
+                each,
+                asked,
+                in_span,
+                &number,
+                line,
+                &mut *cells,
+                rows,
+                writer,
+            )?;
+            in_span = is_open_after_number(in_span, each, &number);
+            continue 'fields;
+        }
         let next = fields.pick(alloc, asked);
         match &next {
             Ok(Some(field)) => {

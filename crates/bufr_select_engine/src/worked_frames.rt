@@ -6,7 +6,8 @@ ghost use Rattle.bufr_select_rows.specs.Samples.{block, line_of, numbered, tempe
 ghost use Rattle.bufr_select_rows.specs.declared.column.Column.TheVariants.{First, Told};
 ghost use Rattle.bufr_select_rows.specs.declared.told.Told.TheVariants.{Centre, Compressed, Input};
 ghost use Rattle.bufr_select_rows.specs.declared.told.Told.TheVariants.{Message, Observed, Place, Subset};
-ghost use Rattle.bufr_select_engine.specs.FrameSamples.{chosen, message_with, pair_to, refused_streams};
+ghost use Rattle.bufr_select_engine.specs.FrameSamples.{chosen, message_with, pair_to, read};
+ghost use Rattle.bufr_select_engine.specs.FrameSamples.{read_streams, refused_streams};
 ghost use Rattle.bufr_select_engine.specs.Pairs.{first_reading, message_of_version, reads_version};
 ghost use Rattle.bufr_select_engine.specs.Selected.{counted, message_rows, refusal_line, refusals};
 ghost use Rattle.bufr_select_engine.specs.Selected.{selected};
@@ -50,15 +51,16 @@ pub fn rows_of_messages()
         ≡ line_of (codes "2,9,11") ++ line_of (codes "2,8,12") }
 {}
 
-/// States what is printed, told and counted of refused frames.
+/// States what is printed, told and counted of frames.
 #[tactic(auto, unfolding(crate::proofs::OnLiterals::frames_on_literals))]
 pub fn frames_of_inputs()
-    ensures printed { selected (chosen (Told Input ∷ First block ∷ []) None) refused_streams
-        ≡ line_of (codes "input,001001") }
+    ensures printed { selected (read (Told Input ∷ Told Message ∷ Told Place ∷ First temperature
+        ∷ [])) read_streams
+        ≡ line_of (codes "input,message,place,012101") ++ line_of (codes "3,2,12,273.15") }
     ensures told { refusals (chosen [] None) refused_streams
         ≡ line_of (codes "bufr-select: input 1 at 0: M2 Edition 5")
         ++ line_of (codes "bufr-select: input 1 at 13: M2 Edition 5")
         ++ line_of (codes "bufr-select: input 3 at 0: M2 Edition 5") }
-    ensures count { counted (chosen [] None) refused_streams
-        ≡ record { frames = 3; refused = 3; skipped = 0; reports = 0 } }
+    ensures count { counted (read []) read_streams
+        ≡ record { frames = 2; refused = 1; skipped = 0; reports = 0 } }
 {}

@@ -7,8 +7,8 @@ ghost use Rattle.clap.specs.declared.error.kind.ErrorKind.TheVariants.{DisplayVe
 ghost use Rattle.clap.specs.declared.error.kind.ErrorKind.TheVariants.{MissingRequiredArgument, UnknownArgument};
 ghost use Rattle.bufr_select_engine.specs.CommandLines.{IsVersion, program, value_of, values_of, words_of_one_pair};
 ghost use Rattle.bufr_select_engine.specs.CommandLines.{words_of_two_pairs, words_with_another_option};
-ghost use Rattle.bufr_select_engine.specs.CommandLines.{words_with_columns_twice};
-ghost use Rattle.bufr_select_engine.specs.CommandLines.{words_without_columns, words_without_files};
+ghost use Rattle.bufr_select_engine.specs.CommandLines.{words_with_columns_twice, words_with_each_twice};
+ghost use Rattle.bufr_select_engine.specs.CommandLines.{words_without_columns, words_without_elements, words_without_files};
 ghost use Rattle.bufr_select_engine.specs.CommandLines.{words_without_sequences};
 
 /// States what a line of one pair of tables has.
@@ -43,10 +43,13 @@ pub fn words_that_are_no_line()
     ensures none { fault_of program [] ≡ MissingRequiredArgument ∷ [] }
     ensures no_columns { fault_of program words_without_columns
         ≡ MissingRequiredArgument ∷ [] }
+    ensures no_elements { fault_of program words_without_elements
+        ≡ MissingRequiredArgument ∷ [] }
     ensures no_sequences { fault_of program words_without_sequences
         ≡ MissingRequiredArgument ∷ [] }
     ensures no_file { fault_of program words_without_files ≡ MissingRequiredArgument ∷ [] }
     ensures columns_twice { fault_of program words_with_columns_twice ≡ ArgumentConflict ∷ [] }
+    ensures each_twice { fault_of program words_with_each_twice ≡ ArgumentConflict ∷ [] }
     ensures another_option { fault_of program words_with_another_option
         ≡ UnknownArgument ∷ [] }
     ensures help { fault_of program (codes "--help" ∷ []) ≡ DisplayHelp ∷ [] }

@@ -19,3 +19,7 @@ pub returns-then-is_err : goal.returns-then-is_err
 returns-then-is_err c =
     none-last c.args.octets.now c.args.entries.now c.clear-then-is_err.new.self.items
     c.clear-then-is_err.ensures.items
+
+pub returns-then-lie_together : goal.returns-then-lie_together
+returns-then-lie_together c =
+    none-last c.args.octets.now c.args.entries.now c.clear.new.self.items c.clear.ensures.items

@@ -16,5 +16,5 @@ returns c =
     _ _ _ is spells
     c.requires c.in_ok-is_own.ensures c.if-not-branch.false c.in_ok-fields.ensures
     (entry_marked c.args.view.now.message (record { fields = c.in_ok-fields.fields }) c.head.result.now
-    c.of_head-head.result c.in_ok-key.key c.args.octets.now c.in_ok-new.field-0 c.head.ensures
-    c.of_head-head.ensures c.in_ok-key.ensures c.in_ok-new.ensures)
+    c.of_head-head.result c.args.octets.now c.in_ok-mark.mark c.head.ensures
+    c.of_head-head.ensures c.in_ok-mark.ensures)

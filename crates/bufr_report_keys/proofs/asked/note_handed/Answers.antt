@@ -1,19 +1,31 @@
--- The next field of a key's element is noted.
+-- The next field of a key's element is noted, a number or another.
 use Rattle.std.proofs.Common.{ap, sym, ◌∙◌}
+use Rattle.bufr_fields.specs.Values.{as_field}
 use Rattle.bufr_report_keys.specs.FirstValues.{all_noted}
-use Rattle.bufr_report_keys.proofs.FirstFacts.{next_noted, none_left}
+use Rattle.bufr_report_keys.proofs.FirstFacts.{all_passed, next_noted, none_left}
 use Rattle.bufr_report_keys.proofs.asked.note_handed.Goals as goal
 
-pub loop-left-preserved : goal.loop-left-preserved
-loop-left-preserved c =
-    let handed = rw c.in-Some.is at c.in_ok-field-in-Err.ensures.found in
-    ap (all_noted c.next_asked.new.self) c.note.ensures
-    ∙ sym (next_noted c.loop-left.left c.next_asked.new.self c.in-Some.field
-    c.loop-left.values handed)
-    ∙ c.loop-left.invariant
+pub loop-number-preserved-in-Some : goal.loop-number-preserved-in-Some
+loop-number-preserved-in-Some c =
+    ap (all_noted c.next_asked_number.new.self) c.note_number.ensures
+    ∙ sym (next_noted c.loop-number.fields c.next_asked_number.new.self (as_field c.in-Some.number)
+    c.loop-number.values c.in-Some.ensures.found)
+    ∙ c.loop-number.invariant
 
-pub returns-in_default : goal.returns-in_default
-returns-in_default c =
-    sym (none_left c.loop-left.left c.next_asked.new.self c.in_ok-field-in-Err.field-0
-    c.loop-left.values c.in_ok-field-in-Err.ensures.found c.in_default.not-Some)
-    ∙ c.loop-left.invariant
+pub loop-number-preserved : goal.loop-number-preserved
+loop-number-preserved c =
+    let handed = rw c.in-Some-2.is at c.in_ok-field.ensures.found in
+    ap (all_noted c.next_asked.new.self) c.note.ensures
+    ∙ sym (next_noted c.next_asked_number.new.self c.next_asked.new.self c.in-Some-2.field
+    c.loop-number.values handed)
+    ∙ sym (all_passed c.loop-number.fields c.next_asked_number.new.self c.loop-number.values
+    c.in_default.ensures.others)
+    ∙ c.loop-number.invariant
+
+pub returns-in_default-2 : goal.returns-in_default-2
+returns-in_default-2 c =
+    sym (none_left c.next_asked_number.new.self c.next_asked.new.self c.in_ok-field.field-0
+    c.loop-number.values c.in_ok-field.ensures.found c.in_default-2.not-Some)
+    ∙ sym (all_passed c.loop-number.fields c.next_asked_number.new.self c.loop-number.values
+    c.in_default.ensures.others)
+    ∙ c.loop-number.invariant

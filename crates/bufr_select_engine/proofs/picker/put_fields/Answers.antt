@@ -1,5 +1,6 @@
 -- Field by field, until none is left.
 use Rattle.std.proofs.Common.{◌≡◌, List, Some, None, ◌∙◌, map, refl, sym, ap, subst}
+use Rattle.bufr_fields.specs.Values.{as_field}
 use Rattle.bufr_io.specs.PassingLaws.{passed}
 use Rattle.bufr_select_rows.specs.Asks.{IsSetOf, flagged}
 use Rattle.bufr_select_rows.specs.Cells.{due, ended, opens_at_once, rows_left}
@@ -8,6 +9,7 @@ use Rattle.bufr_select_rows.specs.declared.cell.Cell.{Cell}
 use Rattle.bufr_select_engine.specs.HeldTexts.{PutsOrStops}
 use Rattle.bufr_select_engine.proofs.HeldFacts.{PutsSome, some_first, some_last, some_next}
 use Rattle.bufr_select_engine.proofs.HeldFacts.{some_ran_out, some_stops}
+use Rattle.bufr_select_engine.proofs.PickFacts.{picked_after}
 use Rattle.bufr_select_engine.proofs.PickedFacts.{at_once, field_due, field_next, rows_last}
 use Rattle.bufr_select_engine.proofs.picker.put_fields.Goals as goal
 
@@ -25,6 +27,53 @@ fields-init g c =
       columns = refl;
     }
 
+-- putting the row of a span before a number stopped
+pub returns-in_err-take_number-clause-puts :
+    goal.returns-in_err-take_number-clause-puts
+returns-in_err-take_number-clause-puts g c =
+    let a = c.args in
+    let inv = c.fields.invariant in
+    let field = as_field c.in-Some.number in
+    let handed = c.in-Some.ensures.found in
+    let covers = subst (IsSetOf a.asked.now a.each) (sym inv.columns) c.requires.covers in
+    let whole = rows_left a.each a.cells.now (opens_at_once a.each) (g.P.Picks.left a.fields.now) in
+    let left = rows_left a.each c.fields.cells c.fields.in_span (g.P.Picks.left c.fields.fields) in
+    let here = due a.each c.fields.in_span c.fields.cells field in
+    let rest = field_due (flagged a.asked.now) a.each c.fields.cells c.fields.in_span field
+    (g.P.Picks.left c.fields.fields) (g.P.Picks.left c.pick_number.new.self) covers.0 handed in
+    passed
+    (PutsOrStops whole a.rows.now (g.W.Sink.writing a.writer.now) c.take_number.new.rows
+    (g.W.Sink.writing c.take_number.new.writer))
+    c.from_residual.result c.in_err-take_number.field-0.0 c.from_residual.ensures.1
+    (some_stops whole left here rest.0 a.rows.now c.fields.rows c.take_number.new.rows
+    (g.W.Sink.writing a.writer.now) (g.W.Sink.writing c.fields.writer)
+    (g.W.Sink.writing c.take_number.new.writer) c.in_err-take_number.field-0.0 inv.rows
+    rest.1 c.in_err-take_number.ensures.puts)
+
+-- one number more was taken
+pub fields-preserved-in-Some : goal.fields-preserved-in-Some
+fields-preserved-in-Some g c =
+    let a = c.args in
+    let inv = c.fields.invariant in
+    let field = as_field c.in-Some.number in
+    let handed = c.in-Some.ensures.found in
+    let covers = subst (IsSetOf a.asked.now a.each) (sym inv.columns) c.requires.covers in
+    let whole = rows_left a.each a.cells.now (opens_at_once a.each) (g.P.Picks.left a.fields.now) in
+    let left = rows_left a.each c.fields.cells c.fields.in_span (g.P.Picks.left c.fields.fields) in
+    let here = due a.each c.fields.in_span c.fields.cells field in
+    let e = c.in_ok-take_number.ensures in
+    record {
+      rows = some_next whole left here _ a.rows.now c.fields.rows c.take_number.new.rows
+          (g.W.Sink.writing a.writer.now) (g.W.Sink.writing c.fields.writer)
+          (g.W.Sink.writing c.take_number.new.writer) inv.rows
+          (field_next (flagged a.asked.now) a.each c.fields.cells c.take_number.new.cells
+          c.fields.in_span c.is_open_after_number-in_span.result field (g.P.Picks.left c.fields.fields)
+          (g.P.Picks.left c.pick_number.new.self) covers.0 handed e.cells c.is_open_after_number-in_span.ensures)
+          e.puts e.works;
+      columns = ap (λ (cells : List Cell). map (λ cell. cell.column) cells) e.cells
+          ∙ columns_after a.each c.fields.in_span c.fields.cells field ∙ inv.columns;
+    }
+
 -- putting the row of a span stopped
 pub returns-in_err-take_field-in-Ok-Some-clause-puts :
     goal.returns-in_err-take_field-in-Ok-Some-clause-puts
@@ -33,7 +82,9 @@ returns-in_err-take_field-in-Ok-Some-clause-puts g c =
     let inv = c.fields.invariant in
     let field = c.in-Ok-Some.field in
     let so : c.in-Ok-Some.field-0 ≡ Some field = rw c.in-Ok-Some.is at c.in-Ok-Some.field-0-is in
-    let handed = rw (c.in-Ok-Some.is, so) at c.pick-next.ensures in
+    let handed = rw (c.in-Ok-Some.is, so) at (picked_after (flagged a.asked.now) c.pick-next.result
+    (g.P.Picks.left c.fields.fields) (g.P.Picks.left c.pick_number.new.self)
+    (g.P.Picks.left c.pick-next.new.self) c.in_default.ensures.others c.pick-next.ensures) in
     let covers = subst (IsSetOf a.asked.now a.each) (sym inv.columns) c.requires.covers in
     let whole = rows_left a.each a.cells.now (opens_at_once a.each) (g.P.Picks.left a.fields.now) in
     let left = rows_left a.each c.fields.cells c.fields.in_span (g.P.Picks.left c.fields.fields) in
@@ -43,7 +94,7 @@ returns-in_err-take_field-in-Ok-Some-clause-puts g c =
     passed
     (PutsOrStops whole a.rows.now (g.W.Sink.writing a.writer.now) c.take_field.new.rows
     (g.W.Sink.writing c.take_field.new.writer))
-    c.from_residual.result c.in_err-take_field-in-Ok-Some.field-0.0 c.from_residual.ensures.1
+    c.from_residual-in_err-take_field-in-Ok-Some.result c.in_err-take_field-in-Ok-Some.field-0.0 c.from_residual-in_err-take_field-in-Ok-Some.ensures.1
     (some_stops whole left here rest.0 a.rows.now c.fields.rows c.take_field.new.rows
     (g.W.Sink.writing a.writer.now) (g.W.Sink.writing c.fields.writer)
     (g.W.Sink.writing c.take_field.new.writer) c.in_err-take_field-in-Ok-Some.field-0.0 inv.rows
@@ -55,7 +106,9 @@ returns-in-Ok-None-clause-puts g c =
     let a = c.args in
     let inv = c.fields.invariant in
     let so : c.in-Ok-None.field-0 ≡ None = rw c.in-Ok-None.is at c.in-Ok-None.field-0-is in
-    let handed = rw (c.in-Ok-None.is, so) at c.pick-next.ensures in
+    let handed = rw (c.in-Ok-None.is, so) at (picked_after (flagged a.asked.now) c.pick-next.result
+    (g.P.Picks.left c.fields.fields) (g.P.Picks.left c.pick_number.new.self)
+    (g.P.Picks.left c.pick-next.new.self) c.in_default.ensures.others c.pick-next.ensures) in
     let covers = subst (IsSetOf a.asked.now a.each) (sym inv.columns) c.requires.covers in
     some_last (rows_left a.each a.cells.now (opens_at_once a.each) (g.P.Picks.left a.fields.now))
     (rows_left a.each c.fields.cells c.fields.in_span (g.P.Picks.left c.fields.fields))
@@ -81,7 +134,9 @@ fields-preserved-in_ok-take_field-in-Ok-Some g c =
     let inv = c.fields.invariant in
     let field = c.in-Ok-Some.field in
     let so : c.in-Ok-Some.field-0 ≡ Some field = rw c.in-Ok-Some.is at c.in-Ok-Some.field-0-is in
-    let handed = rw (c.in-Ok-Some.is, so) at c.pick-next.ensures in
+    let handed = rw (c.in-Ok-Some.is, so) at (picked_after (flagged a.asked.now) c.pick-next.result
+    (g.P.Picks.left c.fields.fields) (g.P.Picks.left c.pick_number.new.self)
+    (g.P.Picks.left c.pick-next.new.self) c.in_default.ensures.others c.pick-next.ensures) in
     let covers = subst (IsSetOf a.asked.now a.each) (sym inv.columns) c.requires.covers in
     let whole = rows_left a.each a.cells.now (opens_at_once a.each) (g.P.Picks.left a.fields.now) in
     let left = rows_left a.each c.fields.cells c.fields.in_span (g.P.Picks.left c.fields.fields) in
@@ -106,7 +161,9 @@ fields-preserved-in_ok-take_field-in-Ok-Some-2 g c =
     let inv = c.fields.invariant in
     let field = c.in-Ok-Some.field in
     let so : c.in-Ok-Some.field-0 ≡ Some field = rw c.in-Ok-Some.is at c.in-Ok-Some.field-0-is in
-    let handed = rw (c.in-Ok-Some.is, so) at c.pick-next.ensures in
+    let handed = rw (c.in-Ok-Some.is, so) at (picked_after (flagged a.asked.now) c.pick-next.result
+    (g.P.Picks.left c.fields.fields) (g.P.Picks.left c.pick_number.new.self)
+    (g.P.Picks.left c.pick-next.new.self) c.in_default.ensures.others c.pick-next.ensures) in
     let covers = subst (IsSetOf a.asked.now a.each) (sym inv.columns) c.requires.covers in
     let whole = rows_left a.each a.cells.now (opens_at_once a.each) (g.P.Picks.left a.fields.now) in
     let left = rows_left a.each c.fields.cells c.fields.in_span (g.P.Picks.left c.fields.fields) in

@@ -8,9 +8,11 @@ unfolding clap_on_literals
 returns c = record {
   none = refl;
   no_columns = refl;
+  no_elements = refl;
   no_sequences = refl;
   no_file = refl;
   columns_twice = refl;
+  each_twice = refl;
   another_option = refl;
   help = refl;
   version = refl;
