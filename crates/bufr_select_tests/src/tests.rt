@@ -137,7 +137,7 @@ fn joined(rt: &impl Abort, alloc: Global, texts: &[&[u8]]) -> Vec<u8> {
 }
 
 /// Columns, the descriptor of `-e` if there is one, two inputs, and their rows.
-const ROWS: [(&str, &str, &[u8], &[u8], &str); 10] = [
+const ROWS: [(&str, &str, &[u8], &[u8], &str); 11] = [
     (
         "input,message,place,subset,001001,001002,004001,012101",
         "",
@@ -198,6 +198,13 @@ const ROWS: [(&str, &str, &[u8], &[u8], &str); 10] = [
         SOUNDING,
         b"",
         "007004,007004#3,011001#2\n100000,70000,\n",
+    ),
+    (
+        "subset,001011,001011#2",
+        "001011",
+        TEXTS,
+        b"",
+        "subset,001011,001011#2\n1,\"a,b\\0a\",\n1,\\ff,\n",
     ),
 ];
 

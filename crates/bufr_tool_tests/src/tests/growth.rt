@@ -5,7 +5,7 @@
 use super::devices::{Reader, Writer};
 use super::samples::{
     ARCHIVE, COMPRESSED_PAIR, COMPRESSED_PAIR_LISTING, PAIR_COMPRESSED, PAIR_LISTING, SEQUENCES,
-    SEQUENCES_LISTING, TABLE_B, TABLE_D,
+    SEQUENCES_LISTING, TABLE_B, TABLE_D, TEXT, TEXT_LISTING,
 };
 use super::{Engine, same};
 use bufr_tables::{TableB, TableD, Tables};
@@ -111,7 +111,7 @@ fn assert_printed(
     }
 }
 
-/// Two messages shown and checked.
+/// Two messages shown and checked, and one shown with a line longer than all lines before it.
 #[test]
 fn frames_with_each_growth_refused(rt: HostRuntime) {
     let alloc = rt.alloc();
@@ -121,6 +121,7 @@ fn frames_with_each_growth_refused(rt: HostRuntime) {
     assert_printed(&rt, alloc, &tables, Engine::Show, &stream, 2, &listings);
     let lines = b"0 62 ok 1 0\n62 68 ok 2 0\nframes 2 refused 0 skipped 0\n";
     assert_printed(&rt, alloc, &tables, Engine::Check, &stream, 2, lines);
+    assert_printed(&rt, alloc, &tables, Engine::Show, TEXT, 1, TEXT_LISTING);
 }
 
 /// Two listings encoded, and one compressed.
