@@ -5,6 +5,7 @@ use Rattle.std.proofs.Common.{length-append, Bool, true, false, cond, ltb, ◌�
 use Rattle.std.proofs.lemmas.List.{append-nil}
 use Rattle.std.proofs.Math.Seq.{set-append_seam}
 use Rattle.bufr_base.specs.Answers.{Fails, ◌>>=◌}
+use Rattle.bufr_base.specs.AnswerLaws.{bind_ok, bind_err, ok_is, err_is}
 use Rattle.bufr_base.specs.declared.failure.Failure.{Failure}
 use Rattle.bufr_base.specs.declared.failure.Failure.TheVariants.{Fault, OutOfMemory}
 use Rattle.bufr_tables.specs.Entries.{Entries}
@@ -15,7 +16,7 @@ use Rattle.bufr_expand.specs.declared.node.TemplateFault.{TemplateFault}
 use Rattle.bufr_expand.specs.declared.node.TemplateFault.TheVariants.{TooManyNodes}
 use Rattle.bufr_expand.specs.Expansion.{Expansion, Deeper, FirstPart, Finding, replication}
 use Rattle.bufr_expand.specs.Expansion.{found_at, part_nodes, single_nodes, replication_node}
-use Rattle.bufr_expand.specs.Expansion.{expand_list, expand_within, onto}
+use Rattle.bufr_expand.specs.Expansion.{expand_list, expand_within, onto, first_onto}
 
 pub onto_ok : (before : List Node) (m : Expansion) (after : List Node) → Ok after ≡ onto before m
     → (ns : List Node) × (m ≡ Ok ns) × (after ≡ before ++ ns)
@@ -174,3 +175,37 @@ replicated tables s p r nodes mid after head body e h k =
     (replication head body))) (sym e)
     ∙ replicated_by (ltb (length nodes) most_nodes)
     (expand_within (suc (s + p)) tables) s p nodes mid after head body h k
+
+pub first_added : (deeper : Deeper) (s r : ℕ) (before after : List Node) (m : Finding)
+    (next : FirstPart) → Ok next ≡ m
+    → onto before (part_nodes deeper s r (length before) next.part) ≡ Ok after
+    → first_onto deeper s r before m ≡ Ok (after, next.taken)
+first_added deeper s r before after m next h k =
+    ap (first_onto deeper s r before) (sym h)
+    ∙ ap (λ (x : Expansion). x >>= λ ns. Ok (ns, next.taken)) k
+
+pub first_fails : (tables : Entries) (s r d : ℕ) (nodes : List Node) (behind : List ℕ)
+    (m : Finding) (e : Failure TemplateFault) → m ≡ found_at tables d behind
+    → Fails e (first_onto (expand_within (s + r) tables) s r nodes m)
+    → Fails e (expanded tables s r nodes (d ∷ behind))
+first_fails tables s r d nodes behind m OutOfMemory h k = tt
+first_fails tables s r d nodes behind (Err f) (Fault g) h k =
+    expanded_fault tables s r d nodes behind f h ∙ ap (λ f. Err f) (err_is f g k)
+first_fails tables s r d nodes behind (Ok next) (Fault g) h k =
+    elim (bind_err (onto nodes (part_nodes (expand_within (s + r) tables) s r (length nodes)
+    next.part)) (λ ns. Ok (ns, next.taken)) g k) [
+      | inl fails ↦ expanded_part_fault tables s r d nodes behind next (Fault g) h fails
+      | inr found ↦ let never = found.2 in absurd cc
+    ]
+
+pub first_more : (tables : Entries) (s r d taken : ℕ) (nodes after : List Node) (behind : List ℕ)
+    (m : Finding) → m ≡ found_at tables d behind
+    → first_onto (expand_within (s + r) tables) s r nodes m ≡ Ok (after, taken)
+    → expanded tables s r nodes (d ∷ behind) ≡ expanded tables s r after (drop taken behind)
+first_more tables s r d taken nodes after behind (Err f) h k = absurd cc
+first_more tables s r d taken nodes after behind (Ok next) h k =
+    let p = bind_ok (onto nodes (part_nodes (expand_within (s + r) tables) s r (length nodes)
+    next.part)) (λ ns. Ok (ns, next.taken)) (after, taken) k in
+    let same = ok_is (p.0, next.taken) (after, taken) p.2 in
+    expanded_more tables s r d nodes p.0 behind next h p.1
+    ∙ ap (λ (x : List Node × ℕ). expanded tables s r x.0 (drop x.1 behind)) same

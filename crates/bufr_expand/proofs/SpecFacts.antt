@@ -1,7 +1,7 @@
 -- The spec of an element is the only one that meets the equations of Table C and the limits.
 use Rattle.std.proofs.Common.{◌≡◌, ◌⊎◌, ℕ, ◌+◌, ◌*◌, ◌/◌, ◌%◌, ◌^◌, ◌≤◌, ℤ, pos, negsuc, ◌+ℤ◌, ◌*ℤ◌}
 use Rattle.std.proofs.Common.{Bool, true, false, Option, Some, None, ◌&&◌, ◌==◌, nat_le}
-use Rattle.std.proofs.Common.{if◌then◌else◌}
+use Rattle.std.proofs.Common.{if◌then◌else◌, MatchResult, ok_or}
 use Rattle.std.proofs.Common.{refl, sym, ap, ◌∙◌, subst, inl, inr}
 use Rattle.std.specs.Prelude.{◌↔◌}
 use Rattle.std.specs.Bool.{Decides}
@@ -10,16 +10,18 @@ use Rattle.std.proofs.lemmas.Bool.{leb-true, le-leb, eq-eqb, ne_eqb, cases_eq, c
 use Rattle.std.proofs.lemmas.Bool.{cond-false}
 use Rattle.std.proofs.lemmas.Bool.Decides.{Decides-and, Decides-eqb}
 use Rattle.std.proofs.lemmas.Option.{cond_some}
+use Rattle.std.proofs.Math.IntN.{+ℤ_idr, *ℤ-one}
 use Rattle.bufr_tables.specs.declared.element.Element.{Element}
 use Rattle.bufr_tables.specs.declared.element.Kind.{Kind}
 use Rattle.bufr_tables.specs.declared.element.Kind.TheVariants as kinds
 use Rattle.bufr_tables.specs.Descriptors.{x_of}
+use Rattle.bufr_expand.specs.contracts.operators.OperatorsPartialEq.TheImpl as operators_eq
 use Rattle.bufr_expand.specs.declared.operators.Operators.{Operators}
 use Rattle.bufr_expand.specs.declared.operators.Spec.{Spec}
 use Rattle.bufr_expand.specs.Limits.{most_number_bits, most_text_bits, most_scale, most_reference}
 use Rattle.bufr_expand.specs.OperatorsInForce.{added, increase_of, widening, text_width, is_within}
 use Rattle.bufr_expand.specs.OperatorsInForce.{number_spec, text_spec, untouched_by, untouched}
-use Rattle.bufr_expand.specs.OperatorsInForce.{effective_by, effective}
+use Rattle.bufr_expand.specs.OperatorsInForce.{effective_by, effective, none_in_force}
 use Rattle.bufr_expand.specs.Effects.{IsTextSpec, IsNumber, IsAsRow, AsInTable, text, number, Adds}
 use Rattle.bufr_expand.specs.Effects.{Increases, IsChanged, HasTextBits, Effective, of_text}
 use Rattle.bufr_expand.specs.Effects.{changed, unchanged}
@@ -312,3 +314,57 @@ pub effective_one : (d : ℕ) (e : Element) (q : Operators) (a b : Spec) → Eff
     → a ≡ b
 effective_one d e q a b h g = let m = sym (effective_only d e q a h) ∙ effective_only d e q b g in
     cc
+
+-- no operator changes the parts of a number
+none_changes : (e : Element)
+    → number_by e kinds.Quantity (scale_under e.scale none_in_force)
+    (reference_under e.reference none_in_force) (width_under e.width none_in_force)
+    ≡ number_by e kinds.Quantity e.scale e.reference (pos e.width)
+unfolding lib.IntN.one
+none_changes e =
+    let scale : e.scale +ℤ pos 0 +ℤ pos 0 ≡ e.scale = +ℤ_idr (e.scale +ℤ pos 0) ∙ +ℤ_idr e.scale in
+    let width : pos e.width +ℤ pos 0 +ℤ pos 0 ≡ pos e.width =
+    +ℤ_idr (pos e.width +ℤ pos 0) ∙ +ℤ_idr (pos e.width) in
+    λ i. number_by e kinds.Quantity (scale i) (*ℤ-one e.reference i) (width i)
+
+-- under no operator an element has the spec of its row
+pub effective_none : (d : ℕ) (e : Element) → effective d e none_in_force ≡ untouched e
+effective_none d e =
+    elim (kind_cases e.kind d) [
+      | inl k ↦
+          ap (λ v. effective_by v d e none_in_force) k ∙ sym (ap (λ v. untouched_by v e) k)
+      | inr (inl k) ↦ quantity_kind e.kind d e none_in_force k.0 k.1 ∙ none_changes e
+          ∙ sym (ap (λ v. untouched_by v e) k.0)
+      | inr (inr k) ↦ plain_kind e.kind d e none_in_force k.0 k.1
+    ]
+
+-- operators, by their operands
+abbrev of_operands : Option ℕ → Option ℕ → Option ℕ → Option ℕ → Operators
+of_operands w s i c = record { add_width = w; add_scale = s; increase = i; characters = c }
+
+no_operands : (w s i c : Option ℕ)
+    → operators_eq.ghosts.eq (of_operands w s i c) none_in_force ≡ true
+    → of_operands w s i c ≡ none_in_force
+no_operands None None None None h = refl
+no_operands (Some w) s i c h = cc
+no_operands None (Some s) i c h = cc
+no_operands None None (Some i) c h = cc
+no_operands None None None (Some c) h = cc
+
+given_spec : {E : Type 0} (o found : Option Spec) (error : E) → o ≡ found
+    → MatchResult (ok_or o error) (λ s. found ≡ Some s) (λ f. (f ≡ error) × (found ≡ None))
+given_spec None found error h = (refl, sym h)
+given_spec (Some s) found error h = sym h
+
+-- the spec of an element under operators that equal none
+pub given_untouched : {E : Type 0} (d : ℕ) (e : Element) (q none : Operators) (o : Option Spec)
+    (error : E) → true ≡ operators_eq.ghosts.eq q none → none ≡ none_in_force → o ≡ untouched e
+    → MatchResult (ok_or o error) (λ s. effective d e q ≡ Some s)
+    (λ f. (f ≡ error) × (effective d e q ≡ None))
+given_untouched d e q none o error same is given =
+    let P : Operators → Type 0 = λ n. operators_eq.ghosts.eq q n ≡ true in
+    let idle : q ≡ none_in_force =
+    no_operands q.add_width q.add_scale q.increase q.characters (subst P is (sym same)) in
+    let spec : o ≡ effective d e q =
+    given ∙ sym (effective_none d e) ∙ ap (effective d e) (sym idle) in
+    given_spec o (effective d e q) error spec

@@ -210,3 +210,10 @@ expansion tables list =
 -- the nodes of an expansion appended to others
 abbrev pub onto : List Node → Expansion → Expansion
 onto before expanded = result_map (λ ns. before ++ ns) expanded
+
+-- the nodes of a list's first part appended to others, and the number of descriptors that it takes
+abbrev pub first_onto : Deeper → ℕ → ℕ → List Node → Finding → Result (List Node × ℕ) TemplateFault
+first_onto deeper s r before finding = do
+  next ← finding
+  after ← onto before (part_nodes deeper s r (length before) next.part)
+  Ok (after, next.taken)

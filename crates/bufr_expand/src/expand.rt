@@ -1,10 +1,9 @@
 //! Expands descriptors into nodes, in depth-first order.
 
-ghost use Rattle.std.specs.Prelude.{◌≡◌, ◌+◌, suc, length};
+ghost use Rattle.std.specs.Prelude.{◌≡◌, ◌≤◌, ◌+◌, suc, length, IfOk};
 ghost use Rattle.bufr_base.specs.Answers.{Gives};
-ghost use Rattle.bufr_expand.specs.Expansion.{onto, expand_within, part_nodes};
+ghost use Rattle.bufr_expand.specs.Expansion.{onto, expand_within, first_onto, found_at};
 ghost use Rattle.bufr_expand.specs.Expansion.{single_nodes, replication_node};
-ghost use Rattle.bufr_expand.specs.Parts.{seen_part};
 
 use crate::limits::MOST_NODES;
 use crate::node::{Node, Repetitions, TemplateFault};
@@ -29,36 +28,43 @@ pub(crate) fn expand(
 {
     let mut rest = list;
     while let Some((first, behind)) = rest.split_first() {
-        let found = match found_at(tables, *first, behind) {
-            Ok(found) => found,
-            Err(fault) => return Err(Failure::Fault(fault)),
-        };
-        add_part(tables, sequences, replications, &found.part, nodes)?;
-        rest = &behind[found.taken..];
+        let taken = add_first(tables, sequences, replications, *first, behind, nodes)?;
+        rest = &behind[taken..];
     }
     Ok(())
 }
 
-/// Appends the nodes of a part; a replication's node gets the size of its body.
+/// Appends the nodes of the first part of a list, and returns the number of descriptors that it
+/// takes after the first; a replication's node gets the size of its body.
 #[cycle(expand)]
-fn add_part(
+fn add_first(
     tables: &Tables,
     sequences: u8,
     replications: u8,
-    part: &Part,
+    first: Fxy,
+    behind: &[Fxy],
     nodes: &mut Vec<Node>,
-) -> Result<(), Failure<TemplateFault>>
-    ensures { Gives (λ _. nodes.new.items) result
-        (onto nodes.old.items (part_nodes (expand_within (sequences + replications) tables.now)
-        sequences replications (length nodes.old.items) (seen_part part.now))) }
+) -> Result<usize, Failure<TemplateFault>>
+    ensures exact { Gives (λ taken. (nodes.new.items, taken)) result
+        (first_onto (expand_within (sequences + replications) tables.now) sequences replications
+        nodes.old.items (found_at tables.now first behind.now)) }
+    ensures taken { IfOk result (λ taken. taken ≤ length behind.now) }
 {
-    match part {
-        Part::Single(node) => add_node(node, nodes),
+    let found = match found_at(tables, first, behind) {
+        Ok(found) => found,
+        Err(fault) => return Err(Failure::Fault(fault)),
+    };
+    match &found.part {
+        Part::Single(node) => {
+            add_node(node, nodes)?;
+            Ok(found.taken)
+        }
         Part::Inner(list) => {
             if sequences == 0 {
                 return Err(Failure::Fault(TemplateFault::TooDeep));
             }
-            expand(tables, sequences - 1, replications, list, nodes)
+            expand(tables, sequences - 1, replications, list, nodes)?;
+            Ok(found.taken)
         }
         Part::Replication(repetitions, body) => {
             if replications == 0 {
@@ -69,7 +75,7 @@ fn add_part(
             expand(tables, sequences, replications - 1, body, nodes)?;
             let size = nodes.len() - place - 1;
             nodes[place] = replication_node(repetitions, size as u64);
-            Ok(())
+            Ok(found.taken)
         }
     }
 }

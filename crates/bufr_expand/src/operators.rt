@@ -65,13 +65,18 @@ impl Operators {
     }
 
     /// Returns the spec of an element, if it is within the limits.
+    #[inline(always)]
     pub fn effective(&self, element: &Element, fxy: Fxy) -> Result<Spec, EffectiveRange>
         ensures { MatchResult result (λ s. effective fxy element.now self.now ≡ Some s)
             (λ e. (e ≡ record { 0 = fxy }) × (effective fxy element.now self.now ≡ None)) }
     {
+        if *self == Operators::none() {
+            return untouched(element).ok_or(EffectiveRange(fxy));
+        }
+        let (_, x, _) = fxy.parts();
         let spec = match (element.kind, self.characters) {
             (Kind::Text, Some(octets)) => text_spec(8 * u32::from(octets)),
-            (Kind::Quantity, _) if fxy.x() != 31 => self.quantity(element),
+            (Kind::Quantity, _) if x != 31 => self.quantity(element),
             _ => untouched(element),
         };
         spec.ok_or(EffectiveRange(fxy))
@@ -81,9 +86,9 @@ impl Operators {
     pub(crate) fn put(&mut self, op: Fxy)
         ensures { self.new ≡ in_force_after self.old op }
     {
-        let y = op.y();
+        let (_, x, y) = op.parts();
         let operand = if y == 0 { None } else { Some(y) };
-        match op.x() {
+        match x {
             1 => self.add_width = operand,
             2 => self.add_scale = operand,
             7 => self.increase = operand,
@@ -93,6 +98,7 @@ impl Operators {
 
     /// Returns the spec of a quantity. Any reference value but 0 is too large times 10 to the power
     /// of 19.
+    #[inline(never)]
     fn quantity(&self, element: &Element) -> Option<Spec>
         ensures { result ≡ operating.quantity element.now self.now }
     {

@@ -41,7 +41,7 @@ pub(crate) fn found_at<'a>(
     ensures value { result_map seen result ≡ found_at tables.now first behind.now }
     ensures taken { IfOk result (λ p. p.taken ≤ length behind.now) }
 {
-    let (part, taken) = match (first.f(), first.x(), first.y()) {
+    let (part, taken) = match first.parts() {
         (0, _, _) => match tables.element(first) {
             Some(element) => (Part::Single(Node::Element(first, *element)), 0),
             None => return Err(TemplateFault::UnknownElement(first)),
@@ -87,7 +87,7 @@ fn delayed_found<'a>(
     let Some((factor, body)) = behind.split_first() else {
         return Err(TemplateFault::BadReplication(first));
     };
-    let is_factor = matches!((factor.f(), factor.x(), factor.y()), (0, 31, 0..=2));
+    let is_factor = matches!(factor.parts(), (0, 31, 0..=2));
     let element = match tables.element(*factor) {
         Some(
             element @ Element {

@@ -16,7 +16,6 @@ pub enum Raw {
 impl Raw {
     ghost use Rattle.std.specs.Prelude.{◌≡◌};
     ghost use Rattle.bufr_fields.specs.Forms.{has_form_by, number_of};
-    ghost use Rattle.bufr_fields.specs.Values.{is_all_ones};
 
     pub(crate) fn has_form(&self, kind: Kind, width: u32) -> bool
         ensures { result ≡ has_form_by kind width self.now }
@@ -36,15 +35,6 @@ impl Raw {
         match self {
             Raw::Number(number) => *number,
             Raw::Text(_) => 0,
-        }
-    }
-
-    fn is_all_ones(&self, width: u32) -> bool
-        ensures { result ≡ is_all_ones width self.now }
-    {
-        match self {
-            Raw::Number(number) => is_greatest(*number, width),
-            Raw::Text(octets) => are_ones(octets.as_slice()),
         }
     }
 }
@@ -104,7 +94,11 @@ impl Field {
         ensures { result ≡ is_missing self.now }
     {
         let width = self.spec.width;
-        self.raw.is_all_ones(width)
+        let is_all_ones = match &self.raw {
+            Raw::Number(number) => is_greatest(*number, width),
+            Raw::Text(octets) => are_ones(octets.as_slice()),
+        };
+        is_all_ones
             && self.raw.has_form(self.spec.kind, width)
             && width != 1
             && !matches!(self.spec.kind, Kind::Count)

@@ -11,6 +11,8 @@ pub mod WritingLaws
 pub mod Taking
 pub mod Lines
 pub mod LineLaws
+pub mod HeldTexts
+pub mod HeldLaws
 pub mod Reached
 pub mod Numbered
 pub mod ReachedLaws

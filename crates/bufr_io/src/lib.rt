@@ -1,9 +1,10 @@
-//! Inputs and outputs of commands: files opened at their first use, the frames of streams, the
-//! tables of two files, tallies and faults.
+//! Inputs and outputs of commands: files opened at their first use, the frames of streams, rows that
+//! wait, the tables of two files, tallies and faults.
 #![tactic(auto)]
 
 mod fault;
 mod files;
+mod held_rows;
 mod input;
 mod lazy_input;
 mod lazy_output;
@@ -13,6 +14,7 @@ mod taking;
 
 pub use fault::{Input, Tally, ToolFault};
 pub use files::{Unopened, file_of, files_of, inputs_of, unopened_path};
+pub use held_rows::HeldRows;
 pub use input::{LONGEST_PIECE, MOST_READS, Pieces, read_all, room};
 pub use lazy_input::LazyInput;
 pub use lazy_output::LazyOutput;

@@ -36,7 +36,7 @@ use Rattle.bufr_ls_engine.proofs.RowFacts.{listed_heads-more, listed_none, liste
 
 -- the header line was not written
 pub header_fails : (columns : List Column) (reads : ℕ) (readers : List Reading) (p p' : Lister)
-    (begin now : Writing) (e : ToolFault) → p.columns.now ≡ columns → p.written ≡ 0
+    (begin now : Writing) (e : ToolFault) → p.columns.now ≡ columns → p.rows.written ≡ 0
     → WritesHeader p p' begin now (Err e)
     → Lists columns reads readers readers begin now (Err e)
 header_fails columns reads readers p p' begin now faults.OutOfMemory is none w = inl w
@@ -67,8 +67,8 @@ begun_input : (p q : Lister) (i : ℕ) → q ≡ begun p i → q.input ≡ i + 1
 begun_input p q i is = ap (λ (x : Lister). x.input) is
 
 -- how many octets it has written
-begun_written : (p q : Lister) (i : ℕ) → q ≡ begun p i → q.written ≡ p.written
-begun_written p q i is = ap (λ (x : Lister). x.written) is
+begun_written : (p q : Lister) (i : ℕ) → q ≡ begun p i → q.rows.written ≡ p.rows.written
+begun_written p q i is = ap (λ (x : Lister). x.rows.written) is
 
 -- the first inputs were read out, their rows were written, and their frames are counted
 pub record ListedThrough (columns : List Column) (reads : ℕ) (olds news : List Reading)
@@ -83,7 +83,7 @@ pub record ListedThrough (columns : List Column) (reads : ℕ) (olds news : List
 -- before the first input
 pub through_none : (columns : List Column) (reads : ℕ) (readers : List Reading) (p p' : Lister)
     (begin now : Writing) (done : Unit {0}) → AreFresh readers → p.columns.now ≡ columns
-    → p.written ≡ 0 → p'.columns.now ≡ p.columns.now → WritesHeader p p' begin now (Ok done)
+    → p.rows.written ≡ 0 → p'.columns.now ≡ p.columns.now → WritesHeader p p' begin now (Ok done)
     → ListedThrough columns reads readers readers begin now p'
     (record { frames = 0; refused = 0; skipped = 0; reports = 0 }) 0
 through_none columns reads readers p p' begin now done fresh is none keeps w =
@@ -319,7 +319,7 @@ through_stops columns reads olds news news' begin mid now p q p' tally i r r' e 
 pub ends_unwritten : (columns : List Column) (reads : ℕ) (olds news : List Reading)
     (begin mid now : Writing) (p : Lister) (tally : Tally) (e : ToolFault)
     → ListsInputs columns reads olds news begin mid p (Ok tally)
-    → WritesAfter p.written [] mid now (Err e) → Lists columns reads olds news begin now (Err e)
+    → WritesAfter p.rows.written [] mid now (Err e) → Lists columns reads olds news begin now (Err e)
 ends_unwritten columns reads olds news begin mid now p tally (faults.WriteFailed written) lists w =
     let text = listed_heads columns lists.0 in
     let long : length text + w.0 ≡ written = omega (arith, w.1, lists.2.counted) in (

@@ -13,12 +13,14 @@ use Rattle.bufr_sections.specs.declared.fault.Refused.{Refused}
 use Rattle.bufr_frame.specs.declared.frames.Found.{Found}
 use Rattle.bufr_io.specs.declared.fault.ToolFault.{ToolFault}
 use Rattle.bufr_io.specs.declared.fault.ToolFault.TheVariants as faults
+use Rattle.bufr_io.specs.declared.held_rows.HeldRows.{HeldRows}
 use Rattle.bufr_io.specs.Engines.{FailsAfter, WritesAll}
+use Rattle.bufr_io.specs.HeldTexts.{WritesHeld}
 use Rattle.bufr_io.specs.Numbered.{frames_from}
 use Rattle.bufr_io.specs.ReachedLaws.{frames_from-append, frames_from-more}
 use Rattle.bufr_io.specs.WritingLaws.{fails_longer, fails_more, writes_more}
-use Rattle.bufr_ls_engine.specs.Listers.{HasListed, HoldsRow, IsUnchanged, Keeps, Stops}
-use Rattle.bufr_ls_engine.specs.Listers.{StopsListing, WritesHeld, WritesRows}
+use Rattle.bufr_ls_engine.specs.Listers.{HasListed, HoldsRow, IsUnchanged, Stops}
+use Rattle.bufr_ls_engine.specs.Listers.{StopsListing, WritesRows}
 use Rattle.bufr_ls_engine.specs.Rows.{frame_refused, refused_as, refused_of, row, rows}
 use Rattle.bufr_ls_engine.specs.declared.column.Column.{Column}
 use Rattle.bufr_ls_engine.specs.declared.lister.Lister.{Lister}
@@ -96,7 +98,7 @@ unchanged first begin p p' now frames h same = record {
 pub rows_parted : (first : Lister) (begin : Writing) (p : Lister) (now : Writing)
     (frames : List Found) → (h : HasListed first begin p now frames)
     → rows first.columns.now first.input frames
-    ≡ rows first.columns.now first.input h.done ++ p.held.items
+    ≡ rows first.columns.now first.input h.done ++ p.rows.held.items
 rows_parted first begin p now frames h =
     ap (rows first.columns.now first.input) h.parted
     ∙ frames_from-append (row first.columns.now first.input) 1 h.done h.waiting
@@ -106,15 +108,15 @@ rows_parted first begin p now frames h =
 
 -- all rows were written, and none is held
 pub all_written : (first : Lister) (begin : Writing) (p : Lister) (mid now : Writing)
-    (frames : List Found) → HasListed first begin p mid frames → WritesAll mid now p.held.items
+    (frames : List Found) → HasListed first begin p mid frames → WritesAll mid now p.rows.held.items
     → WritesAll begin now (rows first.columns.now first.input frames)
 all_written first begin p mid now frames h all =
     subst (WritesAll begin now) (sym (rows_parted first begin p mid frames h))
-    (writes_more begin mid now _ p.held.items h.written all)
+    (writes_more begin mid now _ p.rows.held.items h.written all)
 
 -- so it is if none is held
 pub none_held : (first : Lister) (begin : Writing) (p : Lister) (now : Writing)
-    (frames : List Found) → HasListed first begin p now frames → p.held.items ≡ []
+    (frames : List Found) → HasListed first begin p now frames → p.rows.held.items ≡ []
     → WritesAll begin now (rows first.columns.now first.input frames)
 none_held first begin p now frames h none =
     subst (WritesAll begin now)
@@ -124,39 +126,40 @@ none_held first begin p now frames h none =
     h.written
 
 -- how many octets were written then
-pub all_counted : (first : Lister) (begin : Writing) (p p' : Lister) (mid : Writing)
+pub all_counted : (first : Lister) (begin : Writing) (p : Lister) (r : HeldRows) (mid : Writing)
     (frames : List Found) → HasListed first begin p mid frames
-    → p'.written ≡ p.written + length p.held.items
-    → p'.written ≡ first.written + length (rows first.columns.now first.input frames)
-all_counted first begin p p' mid frames h long =
+    → r.written ≡ p.rows.written + length p.rows.held.items
+    → r.written ≡ first.rows.written + length (rows first.columns.now first.input frames)
+all_counted first begin p r mid frames h long =
     let parts = ap length (rows_parted first begin p mid frames h)
-    ∙ length-append (rows first.columns.now first.input h.done) p.held.items in
+    ∙ length-append (rows first.columns.now first.input h.done) p.rows.held.items in
     omega (arith, h.counted, long, parts)
 
 -- the frames are listed still
-listed_written : (first : Lister) (begin : Writing) (p p' : Lister) (mid now : Writing)
+listed_written : (first : Lister) (begin : Writing) (p : Lister) (r : HeldRows) (mid now : Writing)
     (frames : List Found) (done : Unit {0}) → HasListed first begin p mid frames
-    → WritesHeld p p' mid now (Ok done) → Keeps p p' → HasListed first begin p' now frames
-listed_written first begin p p' mid now frames done h w keeps = record {
+    → WritesHeld p.rows r mid now (Ok done)
+    → HasListed first begin (record p { rows = r }) now frames
+listed_written first begin p r mid now frames done h w = record {
   started = h.started;
-  counts = keeps.frames ∙ h.counts;
-  columns_are = keeps.columns ∙ h.columns_are;
-  input_is = keeps.input ∙ h.input_is;
-  frames_are = keeps.frames ∙ h.frames_are;
-  refused_are = keeps.refused ∙ h.refused_are;
+  counts = h.counts;
+  columns_are = h.columns_are;
+  input_is = h.input_is;
+  frames_are = h.frames_are;
+  refused_are = h.refused_are;
   done = frames;
   waiting = [];
   parted = sym (append-nil frames);
   written = all_written first begin p mid now frames h w.0;
   held = w.1;
-  counted = all_counted first begin p p' mid frames h w.2;
+  counted = all_counted first begin p r mid frames h w.2;
 }
 
 -- listing stopped when memory ran out
 pub listing_stopped : (first : Lister) (begin : Writing) (p : Lister) (mid now : Writing)
     (frames : List Found) (fault : ToolFault) → HasListed first begin p mid frames
     → Stops p mid now fault
-    → StopsListing first.columns.now first.input first.written frames begin now fault
+    → StopsListing first.columns.now first.input first.rows.written frames begin now fault
 listing_stopped first begin p mid now frames faults.OutOfMemory h (inl all) = record {
   done = frames;
   rest = [];
@@ -176,39 +179,39 @@ listing_stopped first begin p mid now frames (faults.WriteFailed written) h f =
       omega (arith, h.counted, f.1),
       subst (FailsAfter (length front + f.0) begin now)
           (sym (rows_parted first begin p mid frames h))
-          (fails_more begin mid now front p.held.items f.0 h.written f.2),
+          (fails_more begin mid now front p.rows.held.items f.0 h.written f.2),
     )
 listing_stopped first begin p mid now frames fault h f = absurd f
 
 -- so it stops if what is held cannot be written
-pub unwritten : (p p' : Lister) (mid now : Writing) (fault : ToolFault)
-    → WritesHeld p p' mid now (Err fault) → Stops p mid now fault
-unwritten p p' mid now faults.OutOfMemory w = inr w
-unwritten p p' mid now (faults.WriteFailed written) w = w
-unwritten p p' mid now fault w = absurd w
+pub unwritten : (p : Lister) (r : HeldRows) (mid now : Writing) (fault : ToolFault)
+    → WritesHeld p.rows r mid now (Err fault) → Stops p mid now fault
+unwritten p r mid now faults.OutOfMemory w = inr w.0
+unwritten p r mid now (faults.WriteFailed written) w = w
+unwritten p r mid now fault w = absurd w
 
 -- ---- a piece ends
 
 -- what is held was written, and the frames are listed still
-pub held_taken : {B : Type 0} (writing : B → Writing) (p p' : Lister) (mid now : Writing)
-    (r : Result (Unit {0}) ToolFault) → WritesHeld p p' mid now r → Keeps p p'
-    → OnOk r ((first : Lister) (begin : B) (frames : List Found)
+pub held_taken : {B : Type 0} (writing : B → Writing) (p : Lister) (r : HeldRows) (mid now : Writing)
+    (result : Result (Unit {0}) ToolFault) → WritesHeld p.rows r mid now result
+    → OnOk result ((first : Lister) (begin : B) (frames : List Found)
     → HasListed first (writing begin) p mid frames
-    → HasListed first (writing begin) p' now frames)
-held_taken writing p p' mid now (Ok done) w keeps =
-    λ first begin frames h. listed_written first (writing begin) p p' mid now frames done h w keeps
-held_taken writing p p' mid now (Err e) w keeps = tt
+    → HasListed first (writing begin) (record p { rows = r }) now frames)
+held_taken writing p r mid now (Ok done) w =
+    λ first begin frames h. listed_written first (writing begin) p r mid now frames done h w
+held_taken writing p r mid now (Err e) w = tt
 
 -- or the writer failed
-pub held_stopped : {B : Type 0} (writing : B → Writing) (p p' : Lister) (mid now : Writing)
-    (r : Result (Unit {0}) ToolFault) → WritesHeld p p' mid now r
-    → IfErr r (λ e. (first : Lister) (begin : B) (frames : List Found)
+pub held_stopped : {B : Type 0} (writing : B → Writing) (p : Lister) (r : HeldRows)
+    (mid now : Writing) (result : Result (Unit {0}) ToolFault) → WritesHeld p.rows r mid now result
+    → IfErr result (λ e. (first : Lister) (begin : B) (frames : List Found)
     → HasListed first (writing begin) p mid frames
-    → StopsListing first.columns.now first.input first.written frames (writing begin) now e)
-held_stopped writing p p' mid now (Ok done) w = tt
-held_stopped writing p p' mid now (Err e) w =
+    → StopsListing first.columns.now first.input first.rows.written frames (writing begin) now e)
+held_stopped writing p r mid now (Ok done) w = tt
+held_stopped writing p r mid now (Err e) w =
     λ first begin frames h. listing_stopped first (writing begin) p mid now frames e h
-    (unwritten p p' mid now e w)
+    (unwritten p r mid now e w)
 
 -- ---- among frames
 

@@ -1,31 +1,23 @@
 -- The command line of the program, by the words of `clap`.
-use Rattle.std.specs.Prelude.{ℕ, true, List, [], ◌∷◌, codes, Option, Some, unwrap_or}
-use Rattle.clap.specs.Words.{App, Row, Rule, all_of, first_of, matches_of, new_app, new_rule}
-use Rattle.clap.specs.Words.{with_rule}
+use Rattle.std.specs.Prelude.{ℕ, true, List, [], ◌∷◌, codes, Option, Some}
+use Rattle.clap.specs.Words.{App, Rule, first_of, matches_of, new_app, new_rule, with_rule}
 use Rattle.clap.specs.Simple.{on_top}
-use Rattle.clap.specs.declared.builder.action.ArgAction.TheVariants.{Set, Append}
+use Rattle.clap.specs.declared.builder.action.ArgAction.TheVariants.{Set}
+use Rattle.bufr_program.specs.Arguments.{files_argument, values_in}
 
 -- the option of the columns: `-c COLUMNS`
 abbrev pub columns_option : Rule
 columns_option = record
     (new_rule (codes "columns")) { short = Some 99; action = Some Set; value_names = 1 }
 
--- the files, one at least
-abbrev pub files_argument : Rule
-files_argument = record
-    (new_rule (codes "file")) { action = Some Append; value_names = 1; required = true }
+-- the program without arguments, which has a version, and gets words without its name
+abbrev pub bare_program : App
+bare_program = on_top (λ s. record s { has_version = true; no_binary_name = true })
+    (new_app (codes "bufr-ls"))
 
--- the program, which has a version, and gets words without its name
+-- the program
 abbrev pub program : App
-program = with_rule
-    (with_rule
-    (on_top (λ s. record s { has_version = true; no_binary_name = true })
-    (new_app (codes "bufr-ls"))) columns_option)
-    files_argument
-
--- all values that an argument has there, in order
-abbrev pub values_in : List ℕ → List Row → List (List ℕ)
-values_in id rows = unwrap_or (all_of id rows) []
+program = with_rule (with_rule bare_program columns_option) files_argument
 
 -- the value of an argument, by the parse that `clap` defines for words
 abbrev pub value_of : List ℕ → List (List ℕ) → Option (List ℕ)

@@ -31,43 +31,33 @@ pub record Keeps (p p' : Lister) : Type 0 where
 -- so do the rows that wait and the count of octets
 pub record IsUnchanged (p p' : Lister) : Type 0 where
   pub keeps : Keeps p p'
-  pub held : p'.held.items ≡ p.held.items
-  pub written : p'.written ≡ p.written
-
--- The writer took the rows, and none waits. Or it failed after a front of them. Or a count of octets
--- was too large, and it took nothing.
-abbrev pub WritesHeld : Lister → Lister → Writing → Writing → Result (Unit {0}) ToolFault → Type 0
-WritesHeld p p' writer writer' (Ok done) =
-    WritesAll writer writer' p.held.items × (p'.held.items ≡ [])
-    × (p'.written ≡ p.written + length p.held.items)
-WritesHeld p p' writer writer' (Err faults.OutOfMemory) = writer' ≡ writer
-WritesHeld p p' writer writer' (Err fault) =
-    WritesAfter p.written p.held.items writer writer' (Err fault)
+  pub held : p'.rows.held.items ≡ p.rows.held.items
+  pub written : p'.rows.written ≡ p.rows.written
 
 -- The writer took the header line, and no row waits. Or it failed after a front of the line. Or memory
 -- ran out, and it took nothing.
 abbrev pub WritesHeader : Lister → Lister → Writing → Writing → Result (Unit {0}) ToolFault → Type 0
 WritesHeader p p' writer writer' (Ok done) =
-    WritesAll writer writer' (header p.columns.now) × (p'.held.items ≡ [])
-    × (p'.written ≡ p.written + length (header p.columns.now))
+    WritesAll writer writer' (header p.columns.now) × (p'.rows.held.items ≡ [])
+    × (p'.rows.written ≡ p.rows.written + length (header p.columns.now))
 WritesHeader p p' writer writer' (Err faults.OutOfMemory) = writer' ≡ writer
 WritesHeader p p' writer writer' (Err fault) =
-    WritesAfter p.written (header p.columns.now) writer writer' (Err fault)
+    WritesAfter p.rows.written (header p.columns.now) writer writer' (Err fault)
 
 -- the row of a frame waits after the others, and the frame counts
 pub record HoldsRow (p p' : Lister) (frame : Found) : Type 0 where
-  pub held : p'.held.items ≡ p.held.items ++ row p.columns.now p.input (p.frames + 1) frame
+  pub held : p'.rows.held.items ≡ p.rows.held.items ++ row p.columns.now p.input (p.frames + 1) frame
   pub frames : p'.frames ≡ p.frames + 1
   pub refused : p'.refused ≡ p.refused + frame_refused frame
   pub columns : p'.columns.now ≡ p.columns.now
   pub input : p'.input ≡ p.input
-  pub written : p'.written ≡ p.written
+  pub written : p'.rows.written ≡ p.rows.written
 
 -- after want of memory the writer took the rows, or nothing; or it failed then
 abbrev pub Stops : Lister → Writing → Writing → ToolFault → Type 0
 Stops p writer writer' faults.OutOfMemory =
-    WritesAll writer writer' p.held.items ⊎ (writer' ≡ writer)
-Stops p writer writer' fault = WritesAfter p.written p.held.items writer writer' (Err fault)
+    WritesAll writer writer' p.rows.held.items ⊎ (writer' ≡ writer)
+Stops p writer writer' fault = WritesAfter p.rows.written p.rows.held.items writer writer' (Err fault)
 
 -- ---- the frames of an input
 
@@ -85,9 +75,9 @@ pub record HasListed (first : Lister) (begin : Writing) (p : Lister) (now : Writ
   pub waiting : List Found
   pub parted : frames ≡ done ++ waiting
   pub written : WritesAll begin now (rows first.columns.now first.input done)
-  pub held : p.held.items
+  pub held : p.rows.held.items
       ≡ frames_from (row first.columns.now first.input) (1 + length done) waiting
-  pub counted : p.written ≡ first.written + length (rows first.columns.now first.input done)
+  pub counted : p.rows.written ≡ first.rows.written + length (rows first.columns.now first.input done)
 
 -- the writer took the rows of the first of these frames, and nothing else
 pub record WritesRows (columns : List Column) (input : ℕ) (frames : List Found)
@@ -110,8 +100,8 @@ StopsListing columns input before frames writer writer' fault =
 -- the writer took the rows of all frames of a stream, which count, and no row waits
 pub record HasListedAll (p p' : Lister) (stream : List ℕ) (writer writer' : Writing) : Type 0 where
   pub written : WritesAll writer writer' (rows p.columns.now p.input (cut stream))
-  pub counted : p'.written ≡ p.written + length (rows p.columns.now p.input (cut stream))
-  pub held : p'.held.items ≡ []
+  pub counted : p'.rows.written ≡ p.rows.written + length (rows p.columns.now p.input (cut stream))
+  pub held : p'.rows.held.items ≡ []
   pub columns : p'.columns.now ≡ p.columns.now
   pub frames : p'.frames ≡ length (cut stream)
   pub refused : p'.refused ≡ refused_of (cut stream)
@@ -134,7 +124,7 @@ ListsInput reads p p' reader reader' writer writer' (Err (faults.EndlessInput so
     × WritesAll writer writer' (rows p.columns.now p.input (sure read))
 ListsInput reads p p' reader reader' writer writer' (Err fault) =
     (frames : List Found) × GivesFrames reader reader' frames
-    × StopsListing p.columns.now p.input p.written frames writer writer' fault
+    × StopsListing p.columns.now p.input p.rows.written frames writer writer' fault
 
 -- ---- all inputs
 
@@ -144,8 +134,8 @@ pub record HasListedInputs (columns : List Column) (streams : List (List ℕ)) (
     (writer writer' : Writing) : Type 0 where
   pub columns_are : p.columns.now ≡ columns
   pub written : WritesAll writer writer' (listed_heads columns streams)
-  pub counted : p.written ≡ length (listed_heads columns streams)
-  pub held : p.held.items ≡ []
+  pub counted : p.rows.written ≡ length (listed_heads columns streams)
+  pub held : p.rows.held.items ≡ []
 
 -- all inputs ended, and the writer took their rows; or listing them ended early
 abbrev pub ListsInputs : List Column → ℕ → List Reading → List Reading → Writing → Writing → Lister

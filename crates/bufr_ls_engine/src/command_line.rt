@@ -1,13 +1,14 @@
 //! The command line of `bufr-ls`.
 
 ghost use Rattle.std.specs.Prelude.{◌≡◌, true, false, map, codes, option_map, IfOk, IfErr};
-ghost use Rattle.clap.specs.Words.{app_of, found_of, kind_of, rows_of, rule_of, takes};
+ghost use Rattle.clap.specs.Words.{app_of, kind_of, rule_of, takes};
 ghost use Rattle.clap.specs.declared.error.ErrorKind.TheVariants.{OutOfMemory as NoMemory};
-ghost use Rattle.bufr_ls_engine.specs.CommandLines.{columns_option, files_argument, program, value_of};
-ghost use Rattle.bufr_ls_engine.specs.CommandLines.{values_in, values_of};
+ghost use Rattle.bufr_ls_engine.specs.CommandLines.{bare_program, columns_option, program};
+ghost use Rattle.bufr_ls_engine.specs.CommandLines.{value_of, values_of};
 
 use bufr_base::OutOfMemory;
-use clap::{Arg, ArgAction, ArgMatches, Command, Error};
+use bufr_program::{files_argument, values};
+use clap::{Arg, ArgAction, Command, Error};
 use std::alloc::Global;
 use std::convert::AsStr;
 
@@ -47,30 +48,23 @@ pub fn line<'a, S: AsStr>(alloc: Global, words: &'a [S]) -> Result<CommandLine<'
     Ok(CommandLine { columns, files })
 }
 
-fn values<'a>(
-    alloc: Global,
-    matches: &ArgMatches<'a>,
-    id: &str,
-) -> Result<Vec<&'a str>, OutOfMemory>
-    ensures { IfOk result (λ found. map (λ value. value.now) found.items
-        ≡ values_in id.now (rows_of (found_of matches.now))) }
-{
-    match matches.get_strs(id) {
-        Some(values) => Vec::from_slice(alloc, values),
-        None => Ok(Vec::new(alloc)),
-    }
-}
-
 fn program<'a>(alloc: Global) -> Result<Command<'a>, OutOfMemory>
     ensures { IfOk result (λ c. app_of c ≡ program) }
+{
+    bare_program(alloc)
+        .arg(columns_option(alloc))?
+        .arg(files_argument(alloc))
+}
+
+/// Describes the program without arguments.
+fn bare_program<'a>(alloc: Global) -> Command<'a>
+    ensures { app_of result ≡ bare_program }
 {
     Command::new(alloc, NAME)
         .about("Prints a row for each BUFR message of files: where it is and what its head says")
         .version(VERSION)
         .after_help(EXAMPLE)
         .no_binary_name(true)
-        .arg(columns_option(alloc))?
-        .arg(files_argument(alloc))
 }
 
 fn columns_option<'a>(alloc: Global) -> Arg<'a>
@@ -82,15 +76,4 @@ fn columns_option<'a>(alloc: Global) -> Arg<'a>
         .value_name("COLUMNS")
         .help("The columns and their order, with commas between them; all if this is left out")
         .action(ArgAction::Set)
-}
-
-fn files_argument<'a>(alloc: Global) -> Arg<'a>
-    ensures rule { rule_of result ≡ files_argument }
-    ensures local { result.global ≡ false }
-{
-    Arg::new(alloc, "file")
-        .value_name("FILE")
-        .help("The files of the messages, or /dev/stdin")
-        .required(true)
-        .action(ArgAction::Append)
 }

@@ -17,10 +17,10 @@ impl<'c, W: Sink> TakesFrames<W> for Lister<'c> {
     ghost HasTaken = { λ first begin lister writer frames.
         HasListed first (W.writing begin) lister (W.writing writer) frames };
 
-    ghost HoldsNone = { λ lister writer. lister.held.items ≡ [] };
+    ghost HoldsNone = { λ lister writer. lister.rows.held.items ≡ [] };
 
     ghost HasStopped = { λ first begin lister writer frames fault.
-        StopsListing first.columns.now first.input first.written frames (W.writing begin)
+        StopsListing first.columns.now first.input first.rows.written frames (W.writing begin)
         (W.writing writer) fault };
 
     fn take_frame(
@@ -37,7 +37,7 @@ impl<'c, W: Sink> TakesFrames<W> for Lister<'c> {
     }
 
     fn end_piece(&mut self, out: &mut W) -> Result<(), ToolFault> {
-        self.write_held(out)
+        self.rows.write(out)
     }
 
     fn halt(&mut self, out: &mut W) -> ToolFault {
@@ -63,12 +63,12 @@ pub(crate) fn list_input<S: Source, W: Sink>(
     requires works { (W.writing writer.old).failed ≡ false }
     requires frames { lister.old.frames ≡ 0 }
     requires refused { lister.old.refused ≡ 0 }
-    requires none { lister.old.held.items ≡ [] }
+    requires none { lister.old.rows.held.items ≡ [] }
     ensures bounded { (S.reading reader.new).reads ≤ reads }
     ensures lists { ListsInput reads lister.old lister.new (S.reading reader.old)
         (S.reading reader.new) (W.writing writer.old) (W.writing writer.new) result }
 {
     let source = Input::Number(lister.input);
     take_stream(alloc, reads, source, reader, room, lister, writer)?;
-    lister.write_held(writer)
+    lister.rows.write(writer)
 }

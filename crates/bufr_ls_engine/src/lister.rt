@@ -3,14 +3,13 @@
 ghost use Rattle.std.specs.Prelude.{◌≡◌, ◌<◌, ◌+◌, ◌^◌, false, [], OnErr, OnOk};
 ghost use Rattle.bufr_io.specs.Engines.{WritesAfter};
 ghost use Rattle.bufr_io.specs.Taking.{frame_at};
-ghost use Rattle.bufr_ls_engine.specs.Listers.{HoldsRow, Keeps, Stops, WritesHeader, WritesHeld};
-ghost use Rattle.bufr_ls_engine.specs.Listers.{IsUnchanged};
+ghost use Rattle.bufr_ls_engine.specs.Listers.{HoldsRow, IsUnchanged, Keeps, Stops, WritesHeader};
 
 use crate::column::Column;
 use crate::row::{Numbered, hold_row, push_header};
 use bufr_base::OutOfMemory;
 use bufr_bits::Sink;
-use bufr_io::{ToolFault, write_after, write_out};
+use bufr_io::{HeldRows, ToolFault, write_out};
 use std::alloc::Global;
 
 /// A writer of rows, which holds the rows of a piece and writes them together.
@@ -24,25 +23,21 @@ pub(crate) struct Lister<'c> {
     pub(crate) frames: u128,
     /// The count of refused frames of the input.
     pub(crate) refused: u128,
-    /// The number of octets that the writer took.
-    pub(crate) written: u128,
-    /// The rows that wait.
-    pub(crate) held: Vec<u8>,
+    pub(crate) rows: HeldRows,
 }
 
 impl<'c> Lister<'c> {
     pub(crate) fn new(alloc: Global, columns: &'c [Column]) -> Lister<'c>
         ensures columns { result.columns.now ≡ columns.now }
-        ensures written { result.written ≡ 0 }
-        ensures held { result.held.items ≡ [] }
+        ensures written { result.rows.written ≡ 0 }
+        ensures held { result.rows.held.items ≡ [] }
     {
         Lister {
             columns,
             input: 0,
             frames: 0,
             refused: 0,
-            written: 0,
-            held: Vec::new(alloc),
+            rows: HeldRows::new(alloc),
         }
     }
 
@@ -54,41 +49,22 @@ impl<'c> Lister<'c> {
         self.refused = 0;
     }
 
-    /// Writes the rows that wait. Returns `OutOfMemory` if it can't count the octets.
-    pub(crate) fn write_held<W: Sink>(&mut self, writer: &mut W) -> Result<(), ToolFault>
-        requires works { (W.writing writer.old).failed ≡ false }
-        ensures writes { WritesHeld self.old self.new (W.writing writer.old) (W.writing writer.new)
-            result }
-        ensures keeps { Keeps self.old self.new }
-    {
-        if self.held.is_empty() {
-            return Ok(());
-        }
-        let Some(written) = self.written.checked_add(self.held.len() as u128) else {
-            return Err(ToolFault::OutOfMemory);
-        };
-        write_after(writer, self.written, &self.held)?;
-        self.written = written;
-        self.held.clear();
-        Ok(())
-    }
-
     pub(crate) fn write_header<W: Sink>(&mut self, writer: &mut W) -> Result<(), ToolFault>
         requires works { (W.writing writer.old).failed ≡ false }
-        requires none { self.old.held.items ≡ [] }
+        requires none { self.old.rows.held.items ≡ [] }
         ensures writes { WritesHeader self.old self.new (W.writing writer.old)
             (W.writing writer.new) result }
         ensures keeps { Keeps self.old self.new }
     {
-        push_header(&mut self.held, self.columns)?;
-        self.write_held(writer)
+        push_header(&mut self.rows.held, self.columns)?;
+        self.rows.write(writer)
     }
 
     pub(crate) fn hand_on<W: Sink>(&self, writer: &mut W) -> Result<(), ToolFault>
         requires works { (W.writing writer.old).failed ≡ false }
-        ensures { WritesAfter self.now.written [] (W.writing writer.old) (W.writing writer.new) result }
+        ensures { WritesAfter self.now.rows.written [] (W.writing writer.old) (W.writing writer.new) result }
     {
-        write_out(writer, self.written, b"")
+        write_out(writer, self.rows.written, b"")
     }
 
     /// Holds the row of the frame of octets at a place, and counts the frame.
@@ -109,7 +85,7 @@ impl<'c> Lister<'c> {
             place,
             octets,
         };
-        let refused = hold_row(alloc, &mut self.held, self.columns, &frame)?;
+        let refused = hold_row(alloc, &mut self.rows.held, self.columns, &frame)?;
         self.frames += 1;
         self.refused += u128::from(refused);
         Ok(())
@@ -120,7 +96,7 @@ impl<'c> Lister<'c> {
         requires works { (W.writing writer.old).failed ≡ false }
         ensures { Stops self.old (W.writing writer.old) (W.writing writer.new) result }
     {
-        match self.write_held(writer) {
+        match self.rows.write(writer) {
             Ok(()) => ToolFault::OutOfMemory,
             Err(fault) => fault,
         }

@@ -52,8 +52,8 @@ fn list_inputs<S: Source, W: Sink>(
     requires some { 0 < length room.old }
     requires short { length room.old ≤ longest_piece }
     requires works { (W.writing writer.old).failed ≡ false }
-    requires none { lister.old.held.items ≡ [] }
-    requires unwritten { lister.old.written ≡ 0 }
+    requires none { lister.old.rows.held.items ≡ [] }
+    requires unwritten { lister.old.rows.written ≡ 0 }
     ensures bounded { AreReadAtMost reads (map S.reading inputs.new) }
     ensures lists { ListsInputs lister.old.columns.now reads (map S.reading inputs.old)
         (map S.reading inputs.new) (W.writing writer.old) (W.writing writer.new) lister.new result }

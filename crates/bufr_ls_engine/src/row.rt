@@ -255,9 +255,9 @@ pub(crate) fn push_short(
         Column::Hour => u16::from(said.hour()),
         Column::Minute => u16::from(said.minute()),
         Column::Second => u16::from(said.second()),
-        Column::Subsets => said.count(),
-        Column::Observed => u16::from(said.observed()),
-        Column::Compressed => u16::from(said.compressed()),
+        Column::Subsets => said.count,
+        Column::Observed => u16::from(said.observed),
+        Column::Compressed => u16::from(said.compressed),
         Column::Descriptors | Column::Reason => return text.push_reserved(end),
     };
     push_count(text, number, end);
@@ -304,7 +304,7 @@ pub(crate) fn push_listed(text: &mut Vec<u8>, said: &SectionsInPlace<'_>) -> Res
         ++ join_by six_digits (32 ∷ []) said.now.descriptors) }
     ensures kept { OnErr result (take (length text.old.items) text.new.items ≡ text.old.items) }
 {
-    push_descriptors(text, said.listed())
+    push_descriptors(text, said.listed)
 }
 
 /// Adds the descriptors of two octets each, with spaces between them.

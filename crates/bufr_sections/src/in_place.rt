@@ -1,9 +1,10 @@
 //! The sections of a message, as they are in its octets.
 
 ghost use Rattle.std.specs.Prelude.{◌≡◌, ◌≤◌, drop, length, IfOk};
-ghost use Rattle.bufr_sections.specs.Sections.{descriptors_of, year_of_century};
-ghost use Rattle.bufr_sections.specs.SectionsRead.{head3_with, head4_with};
+ghost use Rattle.bufr_sections.specs.Sections.{year_of_century};
+ghost use Rattle.bufr_sections.specs.SectionsRead.{envelope, head3_with, head4_with};
 
+use crate::envelope::Envelope;
 use crate::layout::Layout;
 use crate::listed::number_of_two;
 use crate::message::Head;
@@ -15,24 +16,40 @@ use std::marker::Model;
 #[derive(Drop)]
 pub struct SectionsInPlace<'a> {
     pub(crate) layout: Layout,
-    // The octets of sections 1 and 3 after their lengths.
+    // The octets of section 1 after its length.
     pub(crate) one: &'a [u8],
-    pub(crate) section2: Option<&'a [u8]>,
-    pub(crate) three: &'a [u8],
-    pub(crate) contents: &'a [u8],
+    /// The octets for local use of section 2, if there is one.
+    pub section2: Option<&'a [u8]>,
+    /// The flag for observed data.
+    pub observed: bool,
+    /// The flag for compressed data.
+    pub compressed: bool,
+    /// The octets of section 3 from the eighth on: two for each descriptor, perhaps one more.
+    pub listed: &'a [u8],
+    /// The number of subsets.
+    pub count: u16,
+    /// The octets of section 4 from the fifth on.
+    pub contents: &'a [u8],
 }
 
 impl<'a> Model for SectionsInPlace<'a> {
     ghost use Rattle.std.specs.Prelude.{◌≤◌, ◌+◌, length, option_map};
-    ghost use Rattle.bufr_sections.specs.Sections.{Envelope, shortest1};
-    ghost use Rattle.bufr_sections.specs.InPlace.{in_place};
+    ghost use Rattle.bufr_sections.specs.Sections.{Envelope, descriptors_of, shortest1};
+    ghost use Rattle.bufr_sections.specs.InPlace.{head_in};
 
     ghost Value = { Envelope };
 
-    ghost view = { λ s. in_place s.layout s.one.now (option_map (λ local. local.now) s.section2)
-        s.three.now s.contents.now };
+    ghost view = { λ s. record {
+      head = head_in s.layout s.one.now;
+      section2 = option_map (λ local. local.now) s.section2;
+      observed = s.observed;
+      compressed = s.compressed;
+      descriptors = descriptors_of s.listed.now;
+      count = s.count;
+      contents = s.contents.now;
+    } };
 
-    ghost invariant = { λ s. (shortest1 s.layout ≤ 3 + length s.one.now) × (4 ≤ length s.three.now) };
+    ghost invariant = { λ s. shortest1 s.layout ≤ 3 + length s.one.now };
 }
 
 impl<'a> SectionsInPlace<'a> {
@@ -190,42 +207,32 @@ impl<'a> SectionsInPlace<'a> {
         }
     }
 
-    /// Returns the number of subsets.
+    /// Copies the sections, all but the descriptors and section 4.
+    // A call would copy them once more.
     #[inline(always)]
-    pub fn count(&self) -> u16
-        ensures { result ≡ self.now.count }
+    pub fn copied(&self, alloc: Global) -> Result<Envelope<'a>, OutOfMemory>
+        ensures { IfOk result (λ copy. envelope copy ≡ self.now) }
     {
-        number_of_two(self.three[1], self.three[2])
-    }
-
-    /// Returns the flag for observed data.
-    #[inline(always)]
-    pub fn observed(&self) -> bool
-        ensures { result ≡ self.now.observed }
-    {
-        self.three[3] >= 128
-    }
-
-    /// Returns the flag for compressed data.
-    #[inline(always)]
-    pub fn compressed(&self) -> bool
-        ensures { result ≡ self.now.compressed }
-    {
-        self.three[3] / 64 % 2 == 1
-    }
-
-    /// Returns the octets of section 3 from the eighth on: two for each descriptor, perhaps one more.
-    #[inline(always)]
-    pub fn listed(&self) -> &'a [u8]
-        ensures { descriptors_of result.now ≡ self.now.descriptors }
-    {
-        &self.three[4..]
+        let head = self.copied_head(alloc)?;
+        let section2 = match self.section2 {
+            Some(local) => Some(Items::from_vec(Vec::from_slice(alloc, local)?)),
+            None => None,
+        };
+        Ok(Envelope {
+            head,
+            section2,
+            observed: self.observed,
+            compressed: self.compressed,
+            listed: self.listed,
+            count: self.count,
+            contents: self.contents,
+        })
     }
 
     /// Copies section 1.
     // A call would copy the head once more.
     #[inline(always)]
-    pub(crate) fn copied_head(&self, alloc: Global) -> Result<Head, OutOfMemory>
+    fn copied_head(&self, alloc: Global) -> Result<Head, OutOfMemory>
         ensures { IfOk result (λ head. head ≡ self.now.head) }
     {
         match self.layout {

@@ -1,20 +1,21 @@
 //! Reads the sections from the left, to the first fault.
 
-ghost use Rattle.std.specs.Prelude.{◌≡◌, List, ℕ, Bool, Option, ◌≤◌, ◌+◌, drop, length, option_map};
+ghost use Rattle.std.specs.Prelude.{◌≡◌, List, ℕ, Bool, Option, ◌≤◌, ◌+◌, length, option_map};
 ghost use Rattle.std.specs.Prelude.{IfOk, codes};
 ghost use Rattle.std.specs.Str.{bytes_eq};
 ghost use Rattle.bufr_base.specs.Answers.{Gives};
 ghost use Rattle.bufr_sections.specs.declared.message.Head.{Head};
-ghost use Rattle.bufr_sections.specs.Sections.{envelope_of, head3_of, head4_of, head_of, room_of};
+ghost use Rattle.bufr_sections.specs.Sections.{envelope_of, head_of, room_of};
 ghost use Rattle.bufr_sections.specs.Sections.{section2_at, section_at, shortest1, three};
-ghost use Rattle.bufr_sections.specs.SectionsRead.{envelope, head3_with, head4_with};
+ghost use Rattle.bufr_sections.specs.SectionsRead.{envelope};
 ghost use Rattle.bufr_sections.specs.InPlace.{Finds, head_in};
 
 use crate::envelope::Envelope;
 use crate::fault::Refused;
 use crate::in_place::SectionsInPlace;
 use crate::layout::Layout;
-use bufr_base::{Failure, Items, OutOfMemory};
+use crate::listed::number_of_two;
+use bufr_base::Failure;
 use std::alloc::Global;
 
 #[inline(always)]
@@ -87,54 +88,27 @@ fn section_at(shortest: usize, fault: Refused, room: &[u8]) -> Result<(&[u8], &[
     }
 }
 
-#[inline(always)]
-fn behind_first(octets: &[u8]) -> &[u8]
-    ensures { result.now ≡ drop 1 octets.now }
-{
-    match octets {
-        [_reserved, rest @ ..] => rest,
-        [] => octets,
-    }
-}
-
-/// Returns whether section 1 of edition 4 announces a section 2.
-#[inline(always)]
-#[tactic(auto, using(crate::proofs::HeadFacts::head4_said, crate::proofs::HeadFacts::head4_other))]
-fn announces4(one: &[u8]) -> Result<bool, Refused>
-    requires { 19 ≤ length one.now }
-    ensures { Finds {Y = Head × Bool}
-        (λ announced. (head4_with one.now (drop 19 one.now), announced)) result (head4_of one.now) }
-{
-    if one[0] != 0 {
-        return Err(Refused::MasterTable(one[0]));
-    }
-    Ok(one[6] >= 128)
-}
-
-/// Returns whether section 1 of edition 3 announces a section 2.
-#[inline(always)]
-#[tactic(auto, using(crate::proofs::HeadFacts::head3_said, crate::proofs::HeadFacts::head3_other))]
-fn announces3(one: &[u8]) -> Result<bool, Refused>
-    requires { 14 ≤ length one.now }
-    ensures { Finds {Y = Head × Bool}
-        (λ announced. (head3_with one.now (drop 14 one.now), announced)) result (head3_of one.now) }
-{
-    if one[0] != 0 {
-        return Err(Refused::MasterTable(one[0]));
-    }
-    Ok(one[4] >= 128)
-}
-
 /// Returns whether section 1 announces a section 2.
 #[inline(always)]
+#[tactic(auto, using(crate::proofs::HeadFacts::head4_said, crate::proofs::HeadFacts::head4_other, crate::proofs::HeadFacts::head3_said, crate::proofs::HeadFacts::head3_other))]
 fn announces(layout: Layout, one: &[u8]) -> Result<bool, Refused>
     requires { shortest1 layout ≤ 3 + length one.now }
     ensures { Finds {Y = Head × Bool} (λ announced. (head_in layout one.now, announced)) result
         (head_of layout one.now) }
 {
     match layout {
-        Layout::Edition4 => announces4(one),
-        Layout::Edition3 => announces3(one),
+        Layout::Edition4 => {
+            if one[0] != 0 {
+                return Err(Refused::MasterTable(one[0]));
+            }
+            Ok(one[6] >= 128)
+        }
+        Layout::Edition3 => {
+            if one[0] != 0 {
+                return Err(Refused::MasterTable(one[0]));
+            }
+            Ok(one[4] >= 128)
+        }
     }
 }
 
@@ -149,7 +123,7 @@ fn section2_at(announced: bool, room: &[u8]) -> Result<(Option<&[u8]>, &[u8]), R
         return Ok((None, room));
     }
     let (octets, left) = section_at(4, Refused::Section2Length, room)?;
-    Ok((Some(behind_first(octets)), left))
+    Ok((Some(&octets[1..]), left))
 }
 
 /// Finds the sections of a message in its octets, without a copy. Returns the first fault of M1 to M9
@@ -172,38 +146,20 @@ pub fn find_sections(octets: &[u8]) -> Result<SectionsInPlace<'_>, Refused>
         layout,
         one,
         section2,
-        three,
-        contents: behind_first(four),
+        observed: three[3] >= 128,
+        compressed: three[3] / 64 % 2 == 1,
+        listed: &three[4..],
+        count: number_of_two(three[1], three[2]),
+        contents: &four[1..],
     })
-}
-
-/// Copies octets for local use.
-fn copied(alloc: Global, octets: Option<&[u8]>) -> Result<Option<Items<u8>>, OutOfMemory>
-    ensures { IfOk result (λ copy. copy ≡ option_map (λ local. local.now) octets.entry) }
-{
-    match octets {
-        Some(octets) => Ok(Some(Items::from_vec(Vec::from_slice(alloc, octets)?))),
-        None => Ok(None),
-    }
 }
 
 /// Reads the sections of a message. Returns what they hold, or the first fault of M1 to M9.
 pub fn read_sections(alloc: Global, octets: &[u8]) -> Result<Envelope<'_>, Failure<Refused>>
     ensures { Gives envelope result (envelope_of octets.now) }
 {
-    let found = match find_sections(octets) {
-        Ok(found) => found,
-        Err(why) => return Err(Failure::Fault(why)),
-    };
-    let head = found.copied_head(alloc)?;
-    let section2 = copied(alloc, found.section2)?;
-    Ok(Envelope {
-        head,
-        section2,
-        observed: found.observed(),
-        compressed: found.compressed(),
-        listed: found.listed(),
-        count: found.count(),
-        contents: found.contents,
-    })
+    match find_sections(octets) {
+        Ok(found) => Ok(found.copied(alloc)?),
+        Err(why) => Err(Failure::Fault(why)),
+    }
 }

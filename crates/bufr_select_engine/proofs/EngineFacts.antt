@@ -24,7 +24,8 @@ use Rattle.bufr_io.specs.ReaderLaws.{Through, Reached, at_most_fresh, at_most_se
 use Rattle.bufr_io.specs.ReaderLaws.{read_before, stops_here, streams_read, through_first, through_more}
 use Rattle.bufr_io.specs.WritingLaws.{fails_longer, writes_more, writes_none}
 use Rattle.bufr_select_rows.specs.Rows.{header}
-use Rattle.bufr_select_engine.specs.HeldTexts.{HasPut, HasTold, PutsOrStops}
+use Rattle.bufr_io.specs.HeldTexts.{HasPut, PutsOrStops}
+use Rattle.bufr_select_engine.specs.Tells.{HasTold}
 use Rattle.bufr_select_engine.specs.Selected.{Selection, counted, frame_refusal, frame_refused}
 use Rattle.bufr_select_engine.specs.Selected.{frame_rows, frames_of, refusals, refusals_to, refused_of}
 use Rattle.bufr_select_engine.specs.Selected.{selected, selected_to}
@@ -33,9 +34,9 @@ use Rattle.bufr_select_engine.specs.Selectors.{SelectsInput, SelectsInputs, Tell
 use Rattle.bufr_select_engine.specs.Selectors.{rows_of, selection_of}
 use Rattle.bufr_select_engine.specs.Selects.{EndsSelecting, Selects, Takes, TakesFirst, WritesFront}
 use Rattle.bufr_select_engine.specs.Selects.{Writings}
-use Rattle.bufr_select_engine.specs.declared.held_rows.HeldRows.{HeldRows}
+use Rattle.bufr_io.specs.declared.held_rows.HeldRows.{HeldRows}
 use Rattle.bufr_select_engine.specs.declared.selector.Selector.{Selector}
-use Rattle.bufr_select_engine.proofs.HeldFacts.{rows_failed, stop_unwritten}
+use Rattle.bufr_io.specs.HeldLaws.{rows_failed, stop_unwritten}
 use Rattle.bufr_select_engine.proofs.SelectedFacts.{refused_few}
 
 -- ---- writers

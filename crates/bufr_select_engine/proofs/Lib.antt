@@ -1,10 +1,6 @@
 mod OnLiterals
-mod PairFacts
 mod FileFacts
-mod HeldFacts
 mod ToldFacts
 mod SelectorFacts
 mod SelectedFacts
 mod EngineFacts
-mod PickedFacts
-mod PickFacts

@@ -14,7 +14,7 @@ use Rattle.bufr_sections.specs.Sections.{room_in, room_of, section_at, sections_
 use Rattle.bufr_message.specs.Messages.{message_in, message_of}
 use Rattle.bufr_select_rows.specs.Columns.{told_word}
 use Rattle.bufr_select_rows.specs.Rows.{before_each, spans, told_number}
-use Rattle.bufr_select_engine.specs.Pairs.{message_under}
+use Rattle.bufr_select_rows.specs.Pairs.{message_under}
 
 -- opens the definitions on octets and numbers
 unfoldable pub frames_on_literals : Unit {0}

@@ -22,10 +22,11 @@ use Rattle.bufr_io.specs.Reached.{frames_by}
 use Rattle.bufr_io.specs.ReachedLaws.{frames_from-append, frames_from-more}
 use Rattle.bufr_io.specs.Taking.{EndsEarly, unread, at_piece, at_end}
 use Rattle.bufr_io.specs.WritingLaws.{fails_longer}
-use Rattle.bufr_select_engine.specs.HeldTexts.{IsStop, Puts, StopsPutting, StopsWriting, Tells}
-use Rattle.bufr_select_engine.specs.HeldTexts.{WritesHeld}
-use Rattle.bufr_select_engine.specs.declared.held_rows.HeldRows.{HeldRows}
-use Rattle.bufr_select_engine.specs.Pairs.{message_under}
+use Rattle.bufr_io.specs.HeldTexts.{IsStop, Puts, StopsPutting, StopsWriting}
+use Rattle.bufr_io.specs.HeldTexts.{WritesHeld}
+use Rattle.bufr_select_engine.specs.Tells.{Tells}
+use Rattle.bufr_io.specs.declared.held_rows.HeldRows.{HeldRows}
+use Rattle.bufr_select_rows.specs.Pairs.{message_under}
 use Rattle.bufr_select_engine.specs.Selected.{Selection, frame_refusal, frame_refused, frame_rows}
 use Rattle.bufr_select_engine.specs.Selected.{refused_as, refused_of}
 use Rattle.bufr_select_engine.specs.Selectors.{AreHeard, CountsFrame, HasSelected}
@@ -33,10 +34,10 @@ use Rattle.bufr_select_engine.specs.Selectors.{HasSelectedFrames, IsReady, Keeps
 use Rattle.bufr_select_engine.specs.Selectors.{StopsSelecting, TellsFirst, refusals_of, rows_of}
 use Rattle.bufr_select_engine.specs.Selectors.{selection_of}
 use Rattle.bufr_select_engine.specs.Selects.{Writings}
-use Rattle.bufr_select_engine.specs.declared.pairs.Unread.{Unread}
+use Rattle.bufr_select_rows.specs.declared.pairs.Unread.{Unread}
 use Rattle.bufr_select_engine.specs.declared.selector.Selector.{Selector}
-use Rattle.bufr_select_engine.proofs.HeldFacts.{puts_more, puts_none, rows_written, stop_fault}
-use Rattle.bufr_select_engine.proofs.HeldFacts.{stops_writing}
+use Rattle.bufr_io.specs.HeldLaws.{puts_more, puts_none, rows_written, stop_fault}
+use Rattle.bufr_io.specs.HeldLaws.{stops_writing}
 use Rattle.bufr_select_engine.proofs.ToldFacts.{tells_more, tells_none}
 
 -- ---- counts

@@ -13,18 +13,20 @@ use Rattle.bufr_sections.specs.SectionsRead.{message_lent}
 use Rattle.bufr_sections.specs.declared.lent_sections.LentSections.{LentSections}
 use Rattle.bufr_select_rows.specs.Asks.{IsSetOf}
 use Rattle.bufr_select_rows.specs.Rows.{Origin}
-use Rattle.bufr_select_engine.specs.HeldTexts.{Puts, PutsOrStops, Tells, WritesHeld}
-use Rattle.bufr_select_engine.specs.Pairs.{message_under}
+use Rattle.bufr_io.specs.HeldTexts.{Puts, PutsOrStops, WritesHeld}
+use Rattle.bufr_select_engine.specs.Tells.{Tells}
+use Rattle.bufr_select_rows.specs.Pairs.{message_under}
 use Rattle.bufr_select_engine.specs.Selected.{Selection, from_message, message_rows, refusal_as}
-use Rattle.bufr_select_engine.specs.Selected.{refusal_line, refused_as, rows_as, subsets_rows}
+use Rattle.bufr_select_engine.specs.Selected.{refusal_line, refused_as, rows_as}
+use Rattle.bufr_select_rows.specs.MessageRows.{subsets_rows}
 use Rattle.bufr_select_engine.specs.Selectors.{AreHeard, CountsFrame, IsReady, Keeps, TakesFrame}
 use Rattle.bufr_select_engine.specs.Selectors.{selection_of}
 use Rattle.bufr_select_engine.specs.Selects.{Writings}
-use Rattle.bufr_select_engine.specs.declared.held_rows.HeldRows.{HeldRows}
-use Rattle.bufr_select_engine.specs.declared.pairs.Unread.{Unread}
-use Rattle.bufr_select_engine.specs.declared.picker.Picker.{Picker}
+use Rattle.bufr_io.specs.declared.held_rows.HeldRows.{HeldRows}
+use Rattle.bufr_select_rows.specs.declared.pairs.Unread.{Unread}
+use Rattle.bufr_select_rows.specs.declared.picker.Picker.{Picker}
 use Rattle.bufr_select_engine.specs.declared.selector.Selector.{Selector}
-use Rattle.bufr_select_engine.proofs.HeldFacts.{puts_none, stops_none}
+use Rattle.bufr_io.specs.HeldLaws.{puts_none, stops_none}
 use Rattle.bufr_select_engine.proofs.ToldFacts.{tells_none}
 
 -- ---- rows that wait

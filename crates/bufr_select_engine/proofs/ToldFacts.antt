@@ -6,7 +6,7 @@ use Rattle.std.proofs.lemmas.List.{append-nil}
 use Rattle.bufr_bits.specs.Devices.{Writing}
 use Rattle.bufr_io.specs.Engines.{FailsAfter, WritesAll}
 use Rattle.bufr_io.specs.WritingLaws.{fails_longer, fails_more, writes_more}
-use Rattle.bufr_select_engine.specs.HeldTexts.{HasTold, Tells}
+use Rattle.bufr_select_engine.specs.Tells.{HasTold, Tells}
 
 -- no text
 pub tells_none : (unheard : Bool) (w : Writing) → Tells [] unheard w unheard w

@@ -1,10 +1,10 @@
 -- The command line of the program, by the words of `clap`.
-use Rattle.std.specs.Prelude.{ℕ, ◌<◌, Bool, true, false, List, [], ◌∷◌, codes, Option, Some, unwrap_or}
-use Rattle.clap.specs.Words.{App, Row, Rule, all_of, first_of, matches_of, new_app, new_rule}
-use Rattle.clap.specs.Words.{with_rule}
+use Rattle.std.specs.Prelude.{ℕ, ◌<◌, Bool, true, false, List, [], ◌∷◌, codes, Option, Some}
+use Rattle.clap.specs.Words.{App, Row, Rule, first_of, matches_of, new_app, new_rule, with_rule}
 use Rattle.clap.specs.Simple.{on_top}
 use Rattle.clap.specs.declared.builder.action.ArgAction.{ArgAction}
 use Rattle.clap.specs.declared.builder.action.ArgAction.TheVariants.{Set, Append}
+use Rattle.bufr_program.specs.Arguments.{files_argument, values_in}
 
 -- ---- the arguments
 
@@ -17,11 +17,6 @@ option_of id letter action required = record
       value_names = 1;
       required = required;
     }
-
--- the files, one at least
-abbrev pub files_argument : Rule
-files_argument = record
-    (new_rule (codes "file")) { action = Some Append; value_names = 1; required = true }
 
 -- the program, which has a version, and gets words without its name
 abbrev pub bare_program : App
@@ -49,10 +44,6 @@ program = with_rule
 -- the value of an argument in rows
 abbrev pub value_in : List ℕ → List Row → Option (List ℕ)
 value_in id rows = first_of id rows
-
--- all values that it has there, in order
-abbrev pub values_in : List ℕ → List Row → List (List ℕ)
-values_in id rows = unwrap_or (all_of id rows) []
 
 -- the value of an argument in words, by the parse that `clap` defines for them
 abbrev pub value_of : List ℕ → List (List ℕ) → Option (List ℕ)

@@ -1,7 +1,6 @@
-pub mod Pairs
 pub mod Selected
 pub mod Selects
-pub mod HeldTexts
+pub mod Tells
 pub mod Selectors
 pub mod CommandLines
 pub mod FrameSamples

@@ -2,7 +2,6 @@
 use Rattle.std.specs.Prelude.{ℕ, ◌+◌, List, [], ◌∷◌, ◌++◌, length, codes, decimal, sum_by}
 use Rattle.std.specs.Prelude.{Option, Result, Ok, Err}
 use Rattle.std.specs.List.{flat_map}
-use Rattle.bufr_fields.specs.declared.field.Subset.{Subset}
 use Rattle.bufr_message.specs.declared.Decoded.{Decoded}
 use Rattle.bufr_message.specs.declared.Message.{Message}
 use Rattle.bufr_frame.specs.declared.frames.Found.{Found}
@@ -10,10 +9,11 @@ use Rattle.bufr_frame.specs.Streams.{cut}
 use Rattle.bufr_io.specs.declared.fault.Tally.{Tally}
 use Rattle.bufr_io.specs.Numbered.{inputs_from, inputs_to}
 use Rattle.bufr_select_rows.specs.declared.column.Column.{Column}
-use Rattle.bufr_select_rows.specs.Rows.{Origin, header, rows}
-use Rattle.bufr_select_engine.specs.Pairs.{message_under, unread_reason}
-use Rattle.bufr_select_engine.specs.declared.pairs.Pair.{Pair}
-use Rattle.bufr_select_engine.specs.declared.pairs.Unread.{Unread}
+use Rattle.bufr_select_rows.specs.MessageRows.{subsets_rows}
+use Rattle.bufr_select_rows.specs.Rows.{Origin, header}
+use Rattle.bufr_select_rows.specs.Pairs.{message_under, unread_reason}
+use Rattle.bufr_select_rows.specs.declared.pairs.Pair.{Pair}
+use Rattle.bufr_select_rows.specs.declared.pairs.Unread.{Unread}
 
 -- what is selected: the pairs of tables, the columns, and the descriptor whose fields have a row each
 pub record Selection : Type 0 where
@@ -34,13 +34,6 @@ from_message input number place m = record {
   observed = m.observed;
   compressed = m.compressed;
 }
-
--- the rows of subsets, from the subset of this number on
-abbrev pub subsets_rows : Option ℕ → List Column → Origin → ℕ → List Subset → List ℕ
-subsets_rows each columns o number [] = []
-subsets_rows each columns o number (subset ∷ subsets) =
-    rows columns each (record o { subset = number }) subset.fields
-    ++ subsets_rows each columns o (number + 1) subsets
 
 -- the rows of a message
 abbrev pub message_rows : Selection → ℕ → ℕ → ℕ → Message → List ℕ

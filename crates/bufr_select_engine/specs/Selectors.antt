@@ -14,8 +14,8 @@ use Rattle.bufr_io.specs.Numbered.{frames_from}
 use Rattle.bufr_io.specs.Reached.{GivesFrames}
 use Rattle.bufr_io.specs.Readers.{WereReadOut}
 use Rattle.bufr_select_rows.specs.Asks.{IsSetOf}
-use Rattle.bufr_select_engine.specs.HeldTexts.{HasPut, HasTold, IsStop, Puts, PutsOrStops, StopsWriting}
-use Rattle.bufr_select_engine.specs.HeldTexts.{Tells}
+use Rattle.bufr_io.specs.HeldTexts.{HasPut, IsStop, Puts, PutsOrStops, StopsWriting}
+use Rattle.bufr_select_engine.specs.Tells.{HasTold, Tells}
 use Rattle.bufr_select_engine.specs.Selected.{Selection, frame_refusal, frame_refused, frame_rows, refused_of}
 use Rattle.bufr_select_engine.specs.Selected.{counted, refusals, selected}
 use Rattle.bufr_select_engine.specs.Selects.{Selects, Writings}

@@ -6,10 +6,12 @@ ghost use Rattle.std.specs.Option.{IfNone};
 ghost use Rattle.clap.specs.Words.{FailsBy, app_of, fault_of, found_of, kind_of, rows_of, rule_of, takes};
 ghost use Rattle.clap.specs.declared.error.ErrorKind.TheVariants.{OutOfMemory as NoMemory};
 ghost use Rattle.bufr_select_engine.specs.CommandLines as lines;
-ghost use Rattle.bufr_select_engine.specs.CommandLines.{IsVersion, option_of, value_in, value_of, values_in, values_of};
+ghost use Rattle.bufr_program.specs.Arguments.{values_in};
+ghost use Rattle.bufr_select_engine.specs.CommandLines.{IsVersion, option_of, value_in, value_of, values_of};
 
 use bufr_base::OutOfMemory;
 use bufr_fields::Decimal;
+use bufr_program::{files_argument, values};
 use clap::{Arg, ArgAction, ArgMatches, Command, Error};
 use std::alloc::Global;
 use std::convert::AsStr;
@@ -103,21 +105,6 @@ fn value<'a>(matches: &ArgMatches<'a>, id: &str) -> Option<&'a str>
     matches.get_str(id)
 }
 
-/// Returns the values of an argument, in order.
-fn values<'a>(
-    alloc: Global,
-    matches: &ArgMatches<'a>,
-    id: &str,
-) -> Result<Vec<&'a str>, OutOfMemory>
-    ensures { IfOk result (λ found. map (λ value. value.now) found.items
-        ≡ values_in id.now (rows_of (found_of matches.now))) }
-{
-    match matches.get_strs(id) {
-        Some(values) => Vec::from_slice(alloc, values),
-        None => Ok(Vec::new(alloc)),
-    }
-}
-
 /// Describes the program.
 fn program<'a>(alloc: Global) -> Result<Command<'a>, OutOfMemory>
     ensures { IfOk result (λ c. app_of c ≡ lines.program) }
@@ -209,18 +196,6 @@ fn option<'a>(
         .help(help)
         .required(required)
         .action(action)
-}
-
-/// Describes the argument of the files.
-fn files_argument<'a>(alloc: Global) -> Arg<'a>
-    ensures rule { rule_of result ≡ lines.files_argument }
-    ensures local { result.global ≡ false }
-{
-    Arg::new(alloc, "file")
-        .value_name("FILE")
-        .help("The files of the messages, or /dev/stdin")
-        .required(true)
-        .action(ArgAction::Append)
 }
 
 /// Returns the version, 0 to 255, that a text spells.

@@ -4,21 +4,16 @@
 mod command;
 mod command_line;
 mod frames;
-mod held_rows;
 mod line_faults;
 mod outputs;
-mod pairs;
-mod picker;
-mod picks;
 mod select;
 mod selector;
 mod worked_frames;
 mod worked_lines;
 
 pub use bufr_program::words_of;
-pub use bufr_select_rows::{Column, ColumnsFault, Told, columns_of};
+pub use bufr_select_rows::{Column, ColumnsFault, Pair, Told, Unread, columns_of};
 pub use command::run_command;
 pub use command_line::{CommandLine, line};
 pub use outputs::Outputs;
-pub use pairs::{Pair, Unread};
 pub use select::run_select;

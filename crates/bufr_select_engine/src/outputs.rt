@@ -1,7 +1,7 @@
 //! Where rows and refusals go.
 
 ghost use Rattle.std.specs.Prelude.{◌≡◌};
-ghost use Rattle.bufr_select_engine.specs.HeldTexts.{Tells};
+ghost use Rattle.bufr_select_engine.specs.Tells.{Tells};
 
 use bufr_bits::Sink;
 use bufr_bits::device::write_all;

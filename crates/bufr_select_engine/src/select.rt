@@ -8,11 +8,10 @@ ghost use Rattle.bufr_select_engine.specs.Selectors.{IsReady, SelectsInputs, sel
 
 use crate::frames::select_input;
 use crate::outputs::Outputs;
-use crate::pairs::Pair;
 use crate::selector::Selector;
 use bufr_bits::{Sink, Source};
 use bufr_io::{Tally, ToolFault, room};
-use bufr_select_rows::Column;
+use bufr_select_rows::{Column, Pair};
 use bufr_tables::Fxy;
 use std::alloc::Global;
 

@@ -5,21 +5,21 @@ ghost use Rattle.bufr_bits.specs.Devices.{Writing};
 ghost use Rattle.bufr_io.specs.Engines.{WritesAfter};
 ghost use Rattle.bufr_io.specs.Taking.{frame_at};
 ghost use Rattle.bufr_select_rows.specs.Rows.{header};
-ghost use Rattle.bufr_select_engine.specs.HeldTexts.{IsStop, IsWorkingAfter, PutsOrStops, StopsPutting};
-ghost use Rattle.bufr_select_engine.specs.HeldTexts.{StopsWriting, Tells};
+ghost use Rattle.bufr_io.specs.HeldTexts.{IsStop, IsWorkingAfter, PutsOrStops, StopsPutting};
+ghost use Rattle.bufr_io.specs.HeldTexts.{StopsWriting};
+ghost use Rattle.bufr_select_engine.specs.Tells.{Tells};
 ghost use Rattle.bufr_select_engine.specs.Selected.{message_rows, refusal_line};
 ghost use Rattle.bufr_select_engine.specs.Selectors.{AreHeard, CountsFrame, IsReady, Keeps, TakesFrame};
 ghost use Rattle.bufr_select_engine.specs.Selectors.{selection_of};
 
-use crate::held_rows::HeldRows;
 use crate::outputs::{Outputs, tell};
-use crate::pairs::{Pair, Unread, view_under};
-use crate::picker::{Picker, put_message};
 use bufr_base::{Failure, OutOfMemory};
 use bufr_bits::Sink;
-use bufr_io::{ToolFault, write_out};
+use bufr_io::{HeldRows, ToolFault, write_out};
 use bufr_message::View;
-use bufr_select_rows::{Column, Origin, push_header};
+use bufr_select_rows::{
+    Column, Origin, Pair, Picker, Unread, push_header, put_message, view_under,
+};
 use bufr_tables::Fxy;
 use std::alloc::Global;
 

@@ -8,10 +8,10 @@ ghost use Rattle.bufr_select_rows.specs.declared.told.Told.TheVariants.{Centre, 
 ghost use Rattle.bufr_select_rows.specs.declared.told.Told.TheVariants.{Message, Observed, Place, Subset};
 ghost use Rattle.bufr_select_engine.specs.FrameSamples.{chosen, message_with, pair_to, read};
 ghost use Rattle.bufr_select_engine.specs.FrameSamples.{read_streams, refused_streams};
-ghost use Rattle.bufr_select_engine.specs.Pairs.{first_reading, message_of_version, reads_version};
+ghost use Rattle.bufr_select_rows.specs.Pairs.{first_reading, message_of_version, reads_version};
 ghost use Rattle.bufr_select_engine.specs.Selected.{counted, message_rows, refusal_line, refusals};
 ghost use Rattle.bufr_select_engine.specs.Selected.{selected};
-ghost use Rattle.bufr_select_engine.specs.declared.pairs.Unread.TheVariants.{NoTables, Refused};
+ghost use Rattle.bufr_select_rows.specs.declared.pairs.Unread.TheVariants.{NoTables, Refused};
 
 /// States which pair reads a version.
 pub fn pairs_that_read_versions()
@@ -63,4 +63,6 @@ pub fn frames_of_inputs()
         ++ line_of (codes "bufr-select: input 3 at 0: M2 Edition 5") }
     ensures count { counted (read []) read_streams
         ≡ record { frames = 2; refused = 1; skipped = 0; reports = 0 } }
+    ensures none_read { counted (chosen [] None) refused_streams
+        ≡ record { frames = 3; refused = 3; skipped = 0; reports = 0 } }
 {}

@@ -10,3 +10,6 @@ mod SameLines
 mod BareFacts
 mod WrittenFacts
 mod NotedFacts
+mod PickedFacts
+mod PickFacts
+mod PairFacts

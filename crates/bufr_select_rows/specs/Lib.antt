@@ -8,3 +8,6 @@ pub mod Cells
 pub mod CellLaws
 pub mod Samples
 pub mod ListedCells
+pub mod MessageRows
+pub mod RowLaws
+pub mod Pairs

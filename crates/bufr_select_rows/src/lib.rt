@@ -1,4 +1,5 @@
-//! The rows of subsets: columns, the values of fields as text, and lines of comma-separated values.
+//! The rows of messages: columns, pairs of tables, the values of fields as text, and lines of
+//! comma-separated values.
 #![tactic(auto)]
 
 mod asked;
@@ -8,6 +9,9 @@ mod column;
 mod columns;
 pub mod laws;
 mod origin;
+mod pairs;
+mod picker;
+mod picks;
 mod quotes;
 mod row;
 mod row_line;
@@ -18,10 +22,11 @@ mod written;
 
 pub use asked::Asked;
 pub use cell::Cell;
-pub use cells::{begin_cells, cells_of, note_field, note_number, open_cells};
 pub use column::Column;
 pub use columns::{ColumnsFault, columns_of};
 pub use origin::Origin;
+pub use pairs::{Pair, Unread, view_under};
+pub use picker::{Picker, put_message};
 pub use row::push_header;
 pub use row_line::RowLine;
 pub use text::Text;

@@ -1,7 +1,7 @@
 ghost use Rattle.std.specs.Prelude.{◌≡◌, ◌∷◌, [], Some, IsTrue};
 ghost use Rattle.std.specs.List.{list_all};
 ghost use Rattle.std.specs.Char.{is_ascii_digit};
-ghost use Rattle.bufr_tables.specs.Descriptors.{digit, f_of, x_of, y_of, in_ranges};
+ghost use Rattle.bufr_tables.specs.Descriptors.{f_of, x_of, y_of, in_ranges};
 ghost use Rattle.bufr_tables.specs.Descriptors.{of_text, six_digits};
 
 use std::fmt;
@@ -64,6 +64,18 @@ impl Fxy {
         bits
     }
 
+    /// Returns F, X and Y.
+    pub fn parts(self) -> (u8, u8, u8)
+        ensures { result ≡ (f_of self, x_of self, y_of self) }
+    {
+        let Fxy(bits) = self;
+        (
+            (bits >> 14) as u8,
+            (bits >> 8 & 63) as u8,
+            (bits & 255) as u8,
+        )
+    }
+
     /// Returns F, 0 to 3.
     pub fn f(self) -> u8
         ensures { result ≡ f_of self }
@@ -89,22 +101,16 @@ impl Fxy {
     pub fn digits(self) -> [u8; 6]
         ensures { result ≡ six_digits self }
     {
-        let (x, y) = (self.x(), self.y());
+        let (f, x, y) = self.parts();
         [
-            digit(self.f()),
-            digit(x / 10),
-            digit(x),
-            digit(y / 100),
-            digit(y / 10),
-            digit(y),
+            b'0' + f,
+            b'0' + x / 10,
+            b'0' + x % 10,
+            b'0' + y / 100,
+            b'0' + y / 10 % 10,
+            b'0' + y % 10,
         ]
     }
-}
-
-fn digit(number: u8) -> u8
-    ensures { result ≡ digit number }
-{
-    b'0' + number % 10
 }
 
 /// Returns whether all octets are ASCII digits.

@@ -1,8 +1,7 @@
-ghost use Rattle.std.specs.Prelude.{◌≡◌, ◌↔◌, IsTrue, [], false, option_copied, OnErr};
+ghost use Rattle.std.specs.Prelude.{◌≡◌, ◌↔◌, IsTrue, [], false, OnErr};
 ghost use Rattle.bufr_tables.specs.declared.element.Kind.TheVariants as kinds;
 ghost use Rattle.bufr_base.specs.Answers.{Gives};
 ghost use Rattle.bufr_tables.specs.Elements.{same_kind};
-ghost use Rattle.bufr_tables.specs.Entries.{at, AreElements};
 ghost use Rattle.bufr_tables.specs.ElementJoins.{with_element};
 
 use crate::element::Element;
@@ -18,7 +17,7 @@ mod file;
 /// A Table B: elements by descriptor.
 #[derive(Drop)]
 pub struct TableB {
-    rows: BTreeMap<Fxy, Element>,
+    pub(crate) rows: BTreeMap<Fxy, Element>,
 }
 
 impl Model for TableB {
@@ -56,13 +55,6 @@ impl TableB {
         }
         self.rows.insert(fxy, element)?;
         Ok(())
-    }
-
-    pub(crate) fn element(&self, fxy: Fxy) -> Option<&Element>
-        ensures value { option_copied result ≡ at fxy self.now }
-        ensures table { AreElements self.now }
-    {
-        self.rows.get(&fxy)
     }
 
     pub(crate) fn same(&self, other: &TableB) -> bool

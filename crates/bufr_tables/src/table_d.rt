@@ -1,5 +1,5 @@
-ghost use Rattle.std.specs.Prelude.{◌≡◌, ◌↔◌, IsTrue, option_map};
-ghost use Rattle.bufr_tables.specs.Entries.{at, Rising};
+ghost use Rattle.std.specs.Prelude.{◌≡◌, ◌↔◌, IsTrue};
+ghost use Rattle.bufr_tables.specs.Entries.{Rising};
 
 use crate::fxy::Fxy;
 use bufr_base::Items;
@@ -11,7 +11,7 @@ mod file;
 /// A Table D: sequences by descriptor.
 #[derive(Drop)]
 pub struct TableD {
-    rows: BTreeMap<Fxy, Items<Fxy>>,
+    pub(crate) rows: BTreeMap<Fxy, Items<Fxy>>,
 }
 
 impl Model for TableD {
@@ -32,16 +32,6 @@ impl TableD {
         ensures { result ≡ rows.entries }
     {
         TableD { rows }
-    }
-
-    pub(crate) fn sequence(&self, fxy: Fxy) -> Option<&[Fxy]>
-        ensures value { option_map (λ s. s.now) result ≡ at fxy self.now }
-        ensures table { Rising self.now }
-    {
-        match self.rows.get(&fxy) {
-            Some(list) => Some(list.as_slice()),
-            None => None,
-        }
     }
 
     pub(crate) fn same(&self, other: &TableD) -> bool

@@ -38,7 +38,7 @@ impl Tables {
         ensures value { option_copied result ≡ element self.now fxy }
         ensures tables { AreElements self.now.elements }
     {
-        self.elements.element(fxy)
+        self.elements.rows.get(&fxy)
     }
 
     /// Finds the descriptors of a sequence in Table D.
@@ -46,7 +46,10 @@ impl Tables {
         ensures value { option_map (λ s. s.now) result ≡ sequence self.now fxy }
         ensures tables { Rising self.now.sequences }
     {
-        self.sequences.sequence(fxy)
+        match self.sequences.rows.get(&fxy) {
+            Some(list) => Some(list.as_slice()),
+            None => None,
+        }
     }
 
     /// Returns whether both tables are equal.

@@ -1,4 +1,5 @@
 //! The public calls of bufr_archive, each by its path and with its parameters.
+ghost use Rattle.std.specs.Prelude.{◌≡◌};
 
 use super::{ARCHIVE, BARE, STATION, tables};
 use bufr_archive::{Items, MapShelf, Shelf, SortedShelf};
@@ -121,15 +122,29 @@ fn text<S: Shelf>(
     sink.into_inner()
 }
 
+fn assert_taken_in<'t, S: Shelf>(
+    rt: &impl Abort,
+    into: &mut bufr_archive::Archive<'t, S>,
+    from: &bufr_archive::Archive<'t, S>,
+)
+    requires { into.old.tables ≡ from.now.tables }
+{
+    let merged: Result<(), bufr_archive::JoinFault> = into.merge(from);
+    assert!(rt; merged.is_ok() && into.len() == 1);
+}
+
+fn assert_bare<S: Shelf>(rt: &impl Abort, alloc: Global, archive: &bufr_archive::Archive<'_, S>) {
+    assert!(rt; archive.get(&wmo_key()).is_none());
+    assert!(rt; text(rt, alloc, archive).as_slice() == BARE);
+}
+
 /// An archive that takes in a copy of itself stays as it is.
 fn assert_archive<S: Shelf>(rt: &impl Abort, alloc: Global) {
     let tables = tables(rt, alloc);
     let archive: bufr_archive::Archive<'_, S> = archive(rt, alloc, &tables, BARE);
     let mut copied = archive.copy().expect(rt, "room");
-    let merged: Result<(), bufr_archive::JoinFault> = copied.merge(&archive);
-    assert!(rt; merged.is_ok() && copied.len() == 1);
-    assert!(rt; copied.get(&wmo_key()).is_none());
-    assert!(rt; text(rt, alloc, &copied).as_slice() == BARE);
+    assert_taken_in(rt, &mut copied, &archive);
+    assert_bare(rt, alloc, &copied);
 }
 
 #[test]
@@ -166,15 +181,24 @@ fn refused_messages(rt: HostRuntime) {
 }
 
 /// Returns the key of the only report of a message.
+fn report_of(
+    rt: &impl Abort,
+    alloc: Global,
+    tables: &Tables,
+    message: &[u8],
+) -> bufr_message::Report {
+    let view = bufr_message::view(alloc, tables, message).expect(rt, "a view");
+    assert!(rt; view.count() == 1);
+    view.report(alloc, 1).expect(rt, "room")
+}
+
 fn key_of(
     rt: &impl Abort,
     alloc: Global,
     tables: &Tables,
     message: &[u8],
 ) -> Option<bufr_archive::Key> {
-    let view = bufr_message::view(alloc, tables, message).expect(rt, "a view");
-    assert!(rt; view.count() == 1);
-    let report: bufr_message::Report = view.report(alloc, 1).expect(rt, "room");
+    let report = report_of(rt, alloc, tables, message);
     bufr_archive::key_of(alloc, &report).expect(rt, "room")
 }
 

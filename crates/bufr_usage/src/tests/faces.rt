@@ -25,6 +25,7 @@ fn temperature(rt: &impl Abort) -> Fxy {
 fn descriptors(rt: HostRuntime) {
     let fxy = temperature(&rt);
     assert!(rt; fxy.f() == 0 && fxy.x() == 12 && fxy.y() == 101);
+    assert!(rt; fxy.parts() == (0, 12, 101));
     assert!(rt; Fxy::from_text(b"012101") == Some(fxy));
 }
 

@@ -3,8 +3,8 @@ use Rattle.bufr_expand.proofs.ExpansionFacts.{expanded}
 use Rattle.bufr_expand.proofs.expand.+expand.Given as goal
 
 -- a part calls for a list with one level fewer
-abbrev pub decreases-add_part : goal.decreases-add_part
-decreases-add_part l = 2 * (l.sequences + l.replications)
+abbrev pub decreases-add_first : goal.decreases-add_first
+decreases-add_first l = 2 * (l.sequences + l.replications)
 
 -- a list calls for its parts with the same levels
 abbrev pub decreases-expand : goal.decreases-expand

@@ -25,6 +25,6 @@ returns-clause-lists g c =
     let few : length t.1 ≤ 2 ^ 48 = omega (arith, t.6, c.requires.few) in
     input_whole c.args.reads (g.S.Source.reading c.args.reader.now)
     (g.S.Source.reading c.take_stream.new.reader) c.args.lister.now c.take_stream.new.taker
-    c.write_held.new.self (g.W.Sink.writing c.args.writer.now)
-    (g.W.Sink.writing c.take_stream.new.out) (g.W.Sink.writing c.write_held.new.writer) t.1
-    c.write_held.result t.0 t.2 t.3 t.4 few c.write_held.ensures.writes c.write_held.ensures.keeps
+    c.write.new.self (g.W.Sink.writing c.args.writer.now)
+    (g.W.Sink.writing c.take_stream.new.out) (g.W.Sink.writing c.write.new.writer) t.1
+    c.write.result t.0 t.2 t.3 t.4 few c.write.ensures.writes

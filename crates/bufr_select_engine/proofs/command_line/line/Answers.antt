@@ -8,7 +8,8 @@ use Rattle.clap.specs.declared.error.Error.{Error}
 use Rattle.clap.proofs.OnLiterals.{clap_on_literals}
 use Rattle.clap.proofs.KindLemmas.{fails_by_from}
 use Rattle.clap.proofs.TakesLemmas.{passed_up}
-use Rattle.bufr_select_engine.specs.CommandLines.{program, value_in, values_in}
+use Rattle.bufr_program.specs.Arguments.{values_in}
+use Rattle.bufr_select_engine.specs.CommandLines.{program, value_in}
 use Rattle.bufr_select_engine.proofs.command_line.line.Goals as goal
 
 -- the program's words are read in the simple way

@@ -1,6 +1,6 @@
 -- The clause `tells` of `tell`: the line is written, or the writer fails, or it failed before.
 use Rattle.std.proofs.Common.{true, false, sym, subst, arith}
-use Rattle.bufr_select_engine.specs.HeldTexts.{Tells}
+use Rattle.bufr_select_engine.specs.Tells.{Tells}
 use Rattle.bufr_select_engine.proofs.ToldFacts.{line_failed, line_taken, line_unheard}
 use Rattle.bufr_select_engine.proofs.outputs.tell.Goals as goal
 

@@ -1,6 +1,6 @@
 -- The clause of `line_of`: the pieces of the line.
 use Rattle.std.proofs.Common.{◌∙◌, ◌∷◌, [], codes, decimal}
-use Rattle.bufr_select_engine.specs.Pairs.{unread_reason}
+use Rattle.bufr_select_rows.specs.Pairs.{unread_reason}
 use Rattle.bufr_select_engine.proofs.ToldFacts.{pieces_joined}
 use Rattle.bufr_select_engine.proofs.selector.line_of.Goals as goal
 

@@ -29,7 +29,7 @@ returns-in-Ok-clause-taken g c first begin frames h =
 pub returns-in-Err-clause-stopped : goal.returns-in-Err-clause-stopped
 returns-in-Err-clause-stopped g c first begin frames h =
     let frame = frame_at c.args.place c.args.octets.now in
-    stops_further first.columns.now first.input first.written frames (frame ∷ [])
+    stops_further first.columns.now first.input first.rows.written frames (frame ∷ [])
     (frames ++ frame ∷ []) (g.W.Sink.writing begin) (g.W.Sink.writing c.stop.new.writer)
     c.stop.result refl
     (listing_stopped first (g.W.Sink.writing begin) c.hold_frame.new.self

@@ -5,12 +5,12 @@ use Rattle.bufr_message.specs.declared.Decoded.{Decoded}
 use Rattle.bufr_io.specs.declared.fault.ToolFault.TheVariants as faults
 use Rattle.bufr_io.specs.PassingLaws.{passed}
 use Rattle.bufr_io.specs.Taking.{frame_at}
-use Rattle.bufr_select_engine.specs.Pairs.{message_under}
+use Rattle.bufr_select_rows.specs.Pairs.{message_under}
 use Rattle.bufr_select_engine.specs.Selected.{frame_rows}
 use Rattle.bufr_select_engine.specs.Selectors.{IsReady, TakesFrame, selection_of}
 use Rattle.bufr_select_engine.specs.Selects.{Writings}
-use Rattle.bufr_select_engine.specs.declared.pairs.Unread.{Unread}
-use Rattle.bufr_select_engine.proofs.HeldFacts.{stops_none}
+use Rattle.bufr_select_rows.specs.declared.pairs.Unread.{Unread}
+use Rattle.bufr_io.specs.HeldLaws.{stops_none}
 use Rattle.bufr_select_engine.proofs.SelectorFacts.{shown_stops, takes_none, takes_refused, takes_shown}
 use Rattle.bufr_select_engine.proofs.selector.Selector.put_frame.Goals as goal
 

@@ -1,6 +1,6 @@
 -- The clauses of `put_view`: the rows that are picked are those of the selection.
 use Rattle.std.proofs.Common.{◌+◌, List, ℕ, subst}
-use Rattle.bufr_select_engine.specs.HeldTexts.{PutsOrStops}
+use Rattle.bufr_io.specs.HeldTexts.{PutsOrStops}
 use Rattle.bufr_select_engine.proofs.SelectorFacts.{cells_covered, from_lent, picker_kept, ready_kept}
 use Rattle.bufr_select_engine.proofs.SelectorFacts.{rows_picked}
 use Rattle.bufr_select_engine.proofs.selector.Selector.put_view.Goals as goal

@@ -1,6 +1,6 @@
 -- The clause `tells` of `refuse`: the text of the line.
 use Rattle.std.proofs.Common.{◌∙◌, List, ℕ, subst}
-use Rattle.bufr_select_engine.specs.HeldTexts.{Tells}
+use Rattle.bufr_select_engine.specs.Tells.{Tells}
 use Rattle.bufr_select_engine.proofs.selector.Selector.refuse.Goals as goal
 
 -- the line that was told is that of the frame

@@ -1,7 +1,7 @@
 -- The clauses of `stop`: the rows that wait were written after the want of memory, or the writer failed.
 use Rattle.std.proofs.Common.{Ok, Err, refl, subst}
-use Rattle.bufr_select_engine.specs.HeldTexts.{StopsPutting}
-use Rattle.bufr_select_engine.proofs.HeldFacts.{stops_writing}
+use Rattle.bufr_io.specs.HeldTexts.{StopsPutting}
+use Rattle.bufr_io.specs.HeldLaws.{stops_writing}
 use Rattle.bufr_select_engine.proofs.SelectedFacts.{is_stop}
 use Rattle.bufr_select_engine.proofs.selector.Selector.stop.Goals as goal
 

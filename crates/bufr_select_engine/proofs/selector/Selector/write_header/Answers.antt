@@ -5,9 +5,9 @@ use Rattle.bufr_io.specs.Lines.{AreWholeLines}
 use Rattle.bufr_io.specs.PassingLaws.{passed}
 use Rattle.bufr_select_rows.specs.Columns.{word}
 use Rattle.bufr_select_rows.specs.Rows.{header}
-use Rattle.bufr_select_engine.specs.HeldTexts.{Puts, PutsOrStops}
-use Rattle.bufr_select_engine.proofs.HeldFacts.{row_written, stops_none}
-use Rattle.bufr_select_engine.proofs.PickedFacts.{row_whole}
+use Rattle.bufr_io.specs.HeldTexts.{Puts, PutsOrStops}
+use Rattle.bufr_io.specs.HeldLaws.{row_written, stops_none}
+use Rattle.bufr_select_rows.specs.RowLaws.{row_whole}
 use Rattle.bufr_select_engine.proofs.SelectorFacts.{written_none}
 use Rattle.bufr_select_engine.proofs.selector.Selector.write_header.Goals as goal
 

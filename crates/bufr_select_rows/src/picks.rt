@@ -1,0 +1,60 @@
+//! Sources of the fields that are asked for.
+
+ghost use Rattle.std.specs.Prelude.{List, Some, IfOk, IfSome, IfNone};
+ghost use Rattle.bufr_fields.specs.declared.field.Field.{Field as AField};
+ghost use Rattle.bufr_fields.specs.Values.{as_field};
+ghost use Rattle.bufr_data.specs.Handed.{HandsOutAsked, PassesUnasked};
+ghost use Rattle.bufr_select_rows.specs.Asks.{flagged};
+
+use crate::asked::Asked;
+use bufr_base::OutOfMemory;
+use bufr_data::{LaidFields, NumberField};
+use bufr_message::{Field, Fields};
+use std::alloc::Global;
+
+/// A source of the fields of a subset.
+pub(crate) trait Picks {
+    /// The fields that are left.
+    ghost left: { Self → List AField };
+
+    /// Hands out the next field that is asked for if it is a number. Else returns `None`, for `pick` to take
+    /// it.
+    fn pick_number(&mut self, asked: &Asked) -> Option<NumberField>
+        ensures found { IfSome result (λ number. HandsOutAsked (flagged asked.now) (left self.old)
+            (Some (as_field number)) (left self.new)) }
+        ensures others { IfNone result (PassesUnasked (flagged asked.now) (left self.old)
+            (left self.new)) };
+
+    /// Hands out the next field that is asked for, or `None` if none is left.
+    fn pick(&mut self, alloc: Global, asked: &Asked) -> Result<Option<Field>, OutOfMemory>
+        ensures { IfOk result (λ found.
+            HandsOutAsked (flagged asked.now) (left self.old) found (left self.new)) };
+}
+
+impl<'v> Picks for Fields<'v> {
+    ghost left = { λ f. f };
+
+    #[inline(always)]
+    fn pick_number(&mut self, asked: &Asked) -> Option<NumberField> {
+        self.next_asked_number(asked)
+    }
+
+    #[inline(always)]
+    fn pick(&mut self, alloc: Global, asked: &Asked) -> Result<Option<Field>, OutOfMemory> {
+        self.next_asked(alloc, asked)
+    }
+}
+
+impl<'v> Picks for LaidFields<'v> {
+    ghost left = { λ f. f };
+
+    #[inline(always)]
+    fn pick_number(&mut self, asked: &Asked) -> Option<NumberField> {
+        self.next_asked_number(asked)
+    }
+
+    #[inline(always)]
+    fn pick(&mut self, alloc: Global, asked: &Asked) -> Result<Option<Field>, OutOfMemory> {
+        self.next_asked(alloc, asked)
+    }
+}
