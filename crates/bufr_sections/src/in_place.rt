@@ -2,9 +2,8 @@
 
 ghost use Rattle.std.specs.Prelude.{◌≡◌, ◌≤◌, drop, length, IfOk};
 ghost use Rattle.bufr_sections.specs.Sections.{year_of_century};
-ghost use Rattle.bufr_sections.specs.SectionsRead.{envelope, head3_with, head4_with};
+ghost use Rattle.bufr_sections.specs.SectionsRead.{head3_with, head4_with};
 
-use crate::envelope::Envelope;
 use crate::layout::Layout;
 use crate::listed::number_of_two;
 use crate::message::Head;
@@ -207,32 +206,10 @@ impl<'a> SectionsInPlace<'a> {
         }
     }
 
-    /// Copies the sections, all but the descriptors and section 4.
-    // A call would copy them once more.
-    #[inline(always)]
-    pub fn copied(&self, alloc: Global) -> Result<Envelope<'a>, OutOfMemory>
-        ensures { IfOk result (λ copy. envelope copy ≡ self.now) }
-    {
-        let head = self.copied_head(alloc)?;
-        let section2 = match self.section2 {
-            Some(local) => Some(Items::from_vec(Vec::from_slice(alloc, local)?)),
-            None => None,
-        };
-        Ok(Envelope {
-            head,
-            section2,
-            observed: self.observed,
-            compressed: self.compressed,
-            listed: self.listed,
-            count: self.count,
-            contents: self.contents,
-        })
-    }
-
     /// Copies section 1.
     // A call would copy the head once more.
     #[inline(always)]
-    fn copied_head(&self, alloc: Global) -> Result<Head, OutOfMemory>
+    pub(crate) fn copied_head(&self, alloc: Global) -> Result<Head, OutOfMemory>
         ensures { IfOk result (λ head. head ≡ self.now.head) }
     {
         match self.layout {

@@ -15,7 +15,7 @@ use crate::fault::Refused;
 use crate::in_place::SectionsInPlace;
 use crate::layout::Layout;
 use crate::listed::number_of_two;
-use bufr_base::Failure;
+use bufr_base::{Failure, Items};
 use std::alloc::Global;
 
 #[inline(always)]
@@ -158,8 +158,22 @@ pub fn find_sections(octets: &[u8]) -> Result<SectionsInPlace<'_>, Refused>
 pub fn read_sections(alloc: Global, octets: &[u8]) -> Result<Envelope<'_>, Failure<Refused>>
     ensures { Gives envelope result (envelope_of octets.now) }
 {
-    match find_sections(octets) {
-        Ok(found) => Ok(found.copied(alloc)?),
-        Err(why) => Err(Failure::Fault(why)),
-    }
+    let found = match find_sections(octets) {
+        Ok(found) => found,
+        Err(why) => return Err(Failure::Fault(why)),
+    };
+    let head = found.copied_head(alloc)?;
+    let section2 = match found.section2 {
+        Some(local) => Some(Items::from_vec(Vec::from_slice(alloc, local)?)),
+        None => None,
+    };
+    Ok(Envelope {
+        head,
+        section2,
+        observed: found.observed,
+        compressed: found.compressed,
+        listed: found.listed,
+        count: found.count,
+        contents: found.contents,
+    })
 }

@@ -18,7 +18,7 @@ use std::marker::Model;
 const ROW_END: usize = 31;
 
 /// What a text is.
-#[derive(Clone, Copy, Debug)]
+#[derive(Clone, Copy)]
 pub(crate) enum Standing {
     /// The octets of the text.
     Octets,
