@@ -8,7 +8,7 @@ use crate::compressed::fields::ColumnFields;
 use crate::plain::fields::PlainFields;
 use crate::plain::laid_fields::LaidFields;
 use bufr_base::{Items, OutOfMemory};
-use bufr_expand::Asks;
+use bufr_expand::{Asks, Spec};
 use bufr_fields::{Field, NumberField};
 use std::alloc::Global;
 use std::marker::Model;
@@ -112,5 +112,24 @@ impl<'v> Fields<'v> {
             fields.push(field)?;
         }
         Ok(Items::from_vec(fields))
+    }
+}
+
+/// Copies a spec part by part, since a copy of its padding is slow.
+#[inline(always)]
+pub(crate) fn by_parts(spec: Spec) -> Spec
+    ensures { result ≡ spec }
+{
+    let Spec {
+        kind,
+        scale,
+        reference,
+        width,
+    } = spec;
+    Spec {
+        kind,
+        scale,
+        reference,
+        width,
     }
 }

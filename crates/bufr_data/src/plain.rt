@@ -5,6 +5,7 @@ pub(crate) mod copy;
 pub(crate) mod fields;
 pub(crate) mod index;
 pub(crate) mod laid_fields;
+pub(crate) mod laid_reader;
 pub(crate) mod layout;
 pub(crate) mod pass;
 pub(crate) mod plan;

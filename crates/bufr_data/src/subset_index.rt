@@ -96,6 +96,7 @@ impl<'a> SubsetIndex<'a> {
     }
 
     /// Returns the fields of the subset at an index, from 0.
+    #[inline(always)]
     pub fn fields(&self, alloc: Global, index: usize) -> Result<Fields<'_>, OutOfMemory>
         requires { index < length self.now }
         ensures { IfOk result (λ fields.

@@ -70,6 +70,8 @@ impl<'t> Walk<'t> {
     ghost use Rattle.bufr_expand.specs.Asked.{TellsNone};
     ghost use Rattle.bufr_expand.specs.Runs.{PassesRun};
     ghost use Rattle.bufr_expand.specs.declared.standing.State.TheVariants.{Going};
+    ghost use Rattle.bufr_expand.specs.declared.walk.Step.TheVariants.{Field};
+    ghost use Rattle.std.specs.Prelude.{Ok};
 
     /// Starts a walk after `used` items of the message, with room for all levels.
     pub fn start(alloc: Global, template: &'t Template, used: u64) -> Result<Walk<'t>, OutOfMemory>
@@ -149,6 +151,74 @@ impl<'t> Walk<'t> {
         self.place = turn.to;
         self.stop = turn.stop;
         Some(run)
+    }
+
+    /// Steps past the next field if an element comes next whose field is no count and not chosen.
+    /// Returns its descriptor and its spec.
+    #[inline(always)]
+    pub fn pass_unasked<A: Asks>(&mut self, asked: &A) -> Option<(Fxy, Spec)>
+        requires { waits self.old ≡ false }
+        ensures passed { IfSome result (λ field.
+            Goes (left self.old) (Ok (Field field.0 field.1)) self.new) }
+        ensures unasked { IfSome result (λ field. A.is_asked asked.now field.0 ≡ false) }
+        ensures answered { waits self.new ≡ false }
+        ensures unmoved { IfNone result (self.new ≡ self.old) }
+    {
+        let (fxy, spec) = self.field_ahead()?;
+        if asked.asks(fxy) {
+            return None;
+        }
+        match spec.kind {
+            Kind::Count => None,
+            _ => {
+                self.pass_node();
+                Some((fxy, spec))
+            }
+        }
+    }
+
+    /// Returns the field of the next node, if that is an element with a spec.
+    #[inline(always)]
+    fn field_ahead(&self) -> Option<(Fxy, Spec)>
+        ensures goes { IfSome result (λ field. self.now.state ≡ Going) }
+        ensures more { IfSome result (λ field. self.now.place < self.now.stop) }
+        ensures fits { IfSome result (λ field. self.now.items < most_items) }
+        ensures field { IfSome result (λ field. left self.now
+            ≡ asks (self.now.items + 1) field.0 field.1 (λ n. going self.now.nodes.now
+            (self.now.place + 1) self.now.stop self.now.loops.items self.now.operators
+            (self.now.items + 1))) }
+    {
+        match self.state {
+            State::Going if self.place < self.stop && self.items < MOST_ITEMS => {}
+            _ => return None,
+        }
+        let node = self.nodes[self.place];
+        match node {
+            Node::Element(fxy, element) => {
+                let spec = self.operators.effective(&element, fxy).ok()?;
+                Some((fxy, spec))
+            }
+            Node::Untouched(fxy, element) => {
+                let spec = untouched(&element)?;
+                Some((fxy, spec))
+            }
+            Node::Operator(_) | Node::Repeated(_, _) | Node::Delayed(_, _, _) => None,
+        }
+    }
+
+    #[inline(always)]
+    #[tactic(auto, unfolding(crate::specs::Walks::left, crate::specs::Walks::waits, crate::specs::Walks::items_met))]
+    fn pass_node(&mut self)
+        requires goes { self.old.state ≡ Going }
+        requires more { self.old.place < self.old.stop }
+        requires fits { self.old.items < most_items }
+        ensures course { left self.new ≡ going self.old.nodes.now (self.old.place + 1)
+            self.old.stop self.old.loops.items self.old.operators (self.old.items + 1) }
+        ensures answered { waits self.new ≡ false }
+        ensures items { items_met self.new ≡ self.old.items + 1 }
+    {
+        self.items += 1;
+        self.place += 1;
     }
 
     /// Returns the items of the message met.

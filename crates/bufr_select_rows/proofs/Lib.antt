@@ -13,3 +13,4 @@ mod NotedFacts
 mod PickedFacts
 mod PickFacts
 mod PairFacts
+mod SettledFacts

@@ -1,7 +1,8 @@
 -- The cells of a row, as fields come one after another (private contracts): what they hold, and the text
 -- of the rows that are due then. `CellLaws` ties them to `rows`.
 use Rattle.std.specs.Prelude.{ℕ, zero, suc, ◌==◌, Bool, true, false, List, [], ◌∷◌, ◌++◌, map}
-use Rattle.std.specs.Prelude.{decimal, Option, Some, None, if◌then◌else◌}
+use Rattle.std.specs.Prelude.{◌≡◌, decimal, Option, Some, None, if◌then◌else◌, take}
+use Rattle.std.specs.List.{list_all}
 use Rattle.std.specs.Option.{option_map_or}
 use Rattle.csv.specs.Writing.{default_writer, row_text}
 use Rattle.bufr_fields.specs.declared.field.Field.{Field}
@@ -63,6 +64,20 @@ noted_by (columns.Nth d n) false f c = c
 -- a field, whatever its descriptor
 abbrev pub noted : Bool → Field → Cell → Cell
 noted in_span f c = noted_by c.column in_span f c
+
+-- whether no later field of a span changes the text of a cell, by its column
+abbrev pub settled_by : Column → Cell → Bool
+settled_by (columns.Told fact) c = true
+settled_by (columns.First d) c = c.ahead == 0
+settled_by (columns.Nth d n) c = c.ahead == 0
+
+-- of a cell
+abbrev pub is_settled : Cell → Bool
+is_settled c = settled_by c.column c
+
+-- of the first n cells
+abbrev pub AreSettled : ℕ → List Cell → Type 0
+AreSettled n cells = list_all is_settled (take n cells) ≡ true
 
 -- the text of a cell, given how many fields are ahead
 abbrev pub shown_at : ℕ → Cell → List ℕ

@@ -2,7 +2,8 @@
 
 ghost use Rattle.std.specs.Prelude.{◌≡◌, OnOk, if◌then◌else◌};
 ghost use Rattle.bufr_fields.specs.Values.{as_field};
-ghost use Rattle.bufr_select_rows.specs.Cells.{begun, counted, fresh, noted, opened, put_before, shown};
+ghost use Rattle.bufr_select_rows.specs.Cells.{begun, counted, fresh, is_settled, noted, opened};
+ghost use Rattle.bufr_select_rows.specs.Cells.{put_before, shown};
 ghost use Rattle.bufr_select_rows.specs.Rows.{origin};
 
 use crate::column::Column;
@@ -174,6 +175,18 @@ impl Cell {
             return Ok(());
         }
         self.here.put_value(field)
+    }
+
+    /// Returns whether no later field of the span changes the text.
+    #[inline(always)]
+    pub(crate) fn is_settled(&self) -> bool
+        ensures { result ≡ is_settled self.now }
+    {
+        let column = self.column;
+        match column {
+            Column::Told(_) => true,
+            Column::First(_) | Column::Nth(_, _) => self.ahead == 0,
+        }
     }
 
     /// Returns the text of the cell.

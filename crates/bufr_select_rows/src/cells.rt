@@ -3,7 +3,7 @@
 ghost use Rattle.std.specs.Prelude.{◌≡◌, map, IfOk, OnOk};
 ghost use Rattle.bufr_fields.specs.Values.{as_field};
 ghost use Rattle.bufr_select_rows.specs.Asks.{Finds};
-ghost use Rattle.bufr_select_rows.specs.Cells.{begun, fresh, noted, opened};
+ghost use Rattle.bufr_select_rows.specs.Cells.{AreSettled, begun, fresh, noted, opened};
 ghost use Rattle.bufr_select_rows.specs.Rows.{origin};
 
 use crate::asked::Asked;
@@ -12,6 +12,7 @@ use crate::column::Column;
 use crate::origin::Origin;
 use crate::text::field_of;
 use bufr_base::OutOfMemory;
+use bufr_expand::Spec;
 use bufr_fields::{Field, NumberField};
 use std::alloc::Global;
 
@@ -71,10 +72,32 @@ pub fn note_number(
     requires { Finds asked.now (map (λ c. c.column) cells.old) }
     ensures { OnOk result (cells.new ≡ map (noted in_span (as_field number)) cells.old) }
 {
+    let number = by_parts(number);
     match asked.cell_of(number.fxy) {
         Some(index) if index < cells.len() => cells[index].note_number(in_span, number),
         _ => note_in_all(cells, in_span, &field_of(number)),
     }
+}
+
+/// Copies a field with a number part by part, since copies of its padding are slow.
+#[inline(always)]
+fn by_parts(field: NumberField) -> NumberField
+    ensures { result ≡ field }
+{
+    let NumberField { fxy, spec, number } = field;
+    let Spec {
+        kind,
+        scale,
+        reference,
+        width,
+    } = spec;
+    let spec = Spec {
+        kind,
+        scale,
+        reference,
+        width,
+    };
+    NumberField { fxy, spec, number }
 }
 
 /// Notes a field in each cell.
@@ -85,4 +108,17 @@ fn note_in_all(cells: &mut [Cell], in_span: bool, field: &Field) -> Result<(), O
         cell.note(in_span, field)?;
     }
     Ok(())
+}
+
+/// Returns the index of the first cell at `from` or after it that is not settled, or the number of cells.
+#[inline(always)]
+pub(crate) fn first_unsettled(cells: &[Cell], from: usize) -> usize
+    requires { AreSettled from cells.now }
+    ensures { AreSettled result cells.now }
+{
+    let mut index = from;
+    while index < cells.len() && cells[index].is_settled() {
+        index += 1;
+    }
+    index
 }

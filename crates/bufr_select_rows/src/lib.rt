@@ -7,6 +7,7 @@ mod cell;
 mod cells;
 mod column;
 mod columns;
+mod filling;
 pub mod laws;
 mod origin;
 mod pairs;

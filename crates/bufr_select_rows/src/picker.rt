@@ -14,6 +14,7 @@ use crate::asked::Asked;
 use crate::cell::Cell;
 use crate::cells::{begin_cells, cells_of, note_field, note_number, open_cells};
 use crate::column::Column;
+use crate::filling::fill_cells;
 use crate::origin::Origin;
 use crate::picks::Picks;
 use crate::row_line::RowLine;
@@ -243,6 +244,34 @@ fn put_fields<P: Picks, W: Sink>(
     }
 }
 
+/// Puts the rows of the fields that are left of a subset. Without spans it takes no more fields
+/// than the row needs.
+fn put_rows<P: Picks, W: Sink>(
+    alloc: Global,
+    each: Option<Fxy>,
+    asked: &Asked,
+    fields: &mut P,
+    line: &mut RowLine,
+    cells: &mut [Cell],
+    rows: &mut HeldRows,
+    writer: &mut W,
+) -> Result<(), ToolFault>
+    requires works { (W.writing writer.old).failed ≡ false }
+    requires covers { IsSetOf asked.now each (map (λ c. c.column) cells.old) }
+    ensures puts { PutsOrStops (rows_left each cells.old (opens_at_once each) (P.left fields.old))
+        rows.old (W.writing writer.old) rows.new (W.writing writer.new) result }
+    ensures columns { OnOk result (map (λ c. c.column) cells.new ≡ map (λ c. c.column) cells.old) }
+    ensures works { OnOk result ((W.writing writer.new).failed ≡ false) }
+{
+    match each {
+        Some(_) => put_fields(alloc, each, asked, fields, line, cells, rows, writer),
+        None => {
+            fill_cells(alloc, asked, fields, &mut *cells)?;
+            put_row(line, cells, rows, writer)
+        }
+    }
+}
+
 /// Puts the rows of a subset.
 fn put_subset<W: Sink>(
     alloc: Global,
@@ -264,8 +293,8 @@ fn put_subset<W: Sink>(
 {
     begin_cells(&mut *cells, from)?;
     match fields.laid() {
-        Ok(mut laid) => put_fields(alloc, each, asked, &mut laid, line, cells, rows, writer),
-        Err(mut left) => put_fields(alloc, each, asked, &mut left, line, cells, rows, writer),
+        Ok(mut laid) => put_rows(alloc, each, asked, &mut laid, line, cells, rows, writer),
+        Err(mut left) => put_rows(alloc, each, asked, &mut left, line, cells, rows, writer),
     }
 }
 

@@ -1,7 +1,8 @@
 -- Fields handed out one at a time.
 use Rattle.std.proofs.Common.{◌≡◌, ℕ, ◌+◌, Bool, List, [], ◌∷◌, Option, Some, None, Result, Ok, Err}
-use Rattle.std.proofs.Common.{refl, sym, ap, subst, ◌∙◌}
+use Rattle.std.proofs.Common.{◌≤◌, true, false, drop, length, refl, sym, ap, subst, ◌∙◌}
 use Rattle.std.specs.Prelude.{IsOk}
+use Rattle.std.proofs.lemmas.List.{drop-drop}
 use Rattle.bufr_base.specs.Answers.{◌>>=◌}
 use Rattle.bufr_expand.specs.declared.operators.Spec.{Spec}
 use Rattle.bufr_expand.specs.declared.walk.Step.TheVariants as steps
@@ -12,6 +13,7 @@ use Rattle.bufr_expand.specs.Courses.{Course, ends, stops, asks}
 use Rattle.bufr_expand.specs.Steady.{IsSteady}
 use Rattle.bufr_expand.specs.Walks as walks
 use Rattle.bufr_expand.specs.Walks.{Goes}
+use Rattle.bufr_bits.specs.Bits.{bits}
 use Rattle.bufr_bits.specs.Ends.{BitPlace, left}
 use Rattle.bufr_fields.specs.declared.field.Raw.{Raw}
 use Rattle.bufr_fields.specs.declared.field.Field.{Field}
@@ -24,9 +26,11 @@ use Rattle.bufr_data.specs.declared.plain.layout.LaidField.{LaidField}
 use Rattle.bufr_data.specs.declared.plain.fields.Due.{Due}
 use Rattle.bufr_data.specs.declared.plain.fields.Due.TheVariants.{Step, Text, Nothing}
 use Rattle.bufr_data.specs.Handed.{fields_ahead, text_first, StandAhead, StepsTo, StepsToNone}
+use Rattle.bufr_data.specs.Handed.{PassesOrStays, moved_on}
+use Rattle.bufr_data.specs.Plain.Starts.{PassesRaw}
 use Rattle.bufr_fields.specs.Steady.{WalkAdvances}
-use Rattle.bufr_fields.specs.StepLaws.{asks_field, steady_step, field_goes_on, stops_there}
-use Rattle.bufr_data.proofs.PlainFacts.Reads.{asked_field, found_is}
+use Rattle.bufr_fields.specs.StepLaws.{asks_field, steady_step, field_goes, field_goes_on, stops_there}
+use Rattle.bufr_data.proofs.PlainFacts.Reads.{asked_field, found_is, step_is_read}
 
 then_same : (f : SubsetRead → SubsetRead) (one other : Result SubsetRead DataFault)
     (found : SubsetRead) → ((x : SubsetRead) → one ≡ Ok x → other ≡ Ok x)
@@ -205,3 +209,32 @@ pub none_after : (due : Due) (walk after : Walk) (reader rest : BitPlace) (later
 none_after due walk after reader rest Step to none = absurd to.next
 none_after due walk after reader rest (Text f) to none = absurd (none f refl)
 none_after due walk after reader rest Nothing to none = (sym to.same, refl)
+
+-- the value of the field to which a walk steps is there
+pub value_there : (walk after : Walk) (reader : BitPlace) (d : ℕ) (spec : Spec)
+    → StandAhead Step walk reader → Goes (walks.left walk) (Ok (steps.Field d spec)) after
+    → IsOk (raw_or_ends 1 1 (raw_at spec (left reader)))
+value_there walk after reader d spec stand goes =
+    let a = asks_field (walks.left walk) d spec after goes in
+    asked_there (walks.left walk) a.met d spec a.more (left reader) a.is stand.1
+
+-- the walk passes a field that is not chosen, and the reader its bits
+pub field_passed : (P : ℕ → Bool) (walk after : Walk) (reader : BitPlace) (d : ℕ) (spec : Spec)
+    (size : ℕ) → StandAhead Step walk reader → Goes (walks.left walk) (Ok (steps.Field d spec)) after
+    → P d ≡ false
+    → ((front : List Bool) → IsOk (raw_or_ends 1 1 (raw_at spec front))
+    → (size ≤ length front) × PassesRaw 1 spec front (drop size front))
+    → PassesOrStays P walk reader after (moved_on reader size) true
+field_passed P walk after reader d spec size stand goes unasked takes =
+    let taken = takes (left reader) (value_there walk after reader d spec stand goes) in
+    let behind : left (moved_on reader size) ≡ drop size (left reader) =
+    sym (drop-drop size reader.place (bits reader.octets)) in
+    let field : Field = record { fxy = d; spec = spec; raw = taken.1.0 } in
+    let h =
+    one_handed Step walk after reader (moved_on reader size) field refl stand
+    (step_is_read (walks.left walk) (walks.left after) 1 d spec (left reader)
+    (left (moved_on reader size)) taken.1.0
+    (field_goes walk after d spec (number_of taken.1.0) stand.0 goes)
+    (taken.1.1 ∙ ap (λ bs. Ok (taken.1.0, bs)) (sym behind)))
+    (field_goes_on walk after d spec stand.0 goes) in
+    (h.ahead, (field, unasked, h.is))

@@ -9,6 +9,7 @@ ghost use Rattle.bufr_data.specs.Plain.{plain};
 ghost use Rattle.bufr_data.specs.Subsets.{Extends, has_own_form};
 
 use crate::compressed::index::{Place, number_there, value};
+use crate::fields::by_parts;
 use crate::plain::write::put_raw;
 use bufr_base::OutOfMemory;
 use bufr_bits::BitSink;
@@ -97,7 +98,7 @@ impl<'v> ColumnFields<'v> {
         self.places = others;
         Some(NumberField {
             fxy: place.fxy,
-            spec: place.spec,
+            spec: by_parts(place.spec),
             number,
         })
     }

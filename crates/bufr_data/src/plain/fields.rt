@@ -1,11 +1,14 @@
 //! Hands out the fields of a plain subset along a walk.
 
-ghost use Rattle.std.specs.Prelude.{◌≡◌, Some, IfOk, IfErr, IfSome, IfNone, OnErr};
+ghost use Rattle.std.specs.Prelude.{◌≡◌, false, Some, IfOk, IfErr, IfSome, IfNone, OnErr};
+ghost use Rattle.std.specs.Bool.{OnTrue};
 ghost use Rattle.bufr_fields.specs.Values.{as_field};
 ghost use Rattle.bufr_data.specs.Handed.{HandsOut, HandsOutAsked, PassesUnasked};
-ghost use Rattle.bufr_data.specs.Handed.{StandAhead, StepsTo, StepsToNone};
+ghost use Rattle.bufr_data.specs.Handed.{PassesFirst, PassesOrStays, StandAhead, StepsTo, StepsToNone};
+ghost use Rattle.bufr_data.specs.declared.plain.fields.Due.TheVariants as dues;
 
 use crate::plain::layout::LaidField;
+use crate::plain::pass::{pass_bits, standing_bits};
 use crate::plain::read::{read_count, read_number, read_raw};
 use bufr_base::OutOfMemory;
 use bufr_bits::BitReader;
@@ -81,15 +84,31 @@ impl<'v> PlainFields<'v> {
                 return None;
             }
         }
-        while let Some(number) = self.next_number() {
+        loop {
+            if self.pass_unasked(asked) {
+                continue;
+            }
+            let number = self.next_number()?;
             if asked.asks(number.fxy) {
                 return Some(number);
             }
         }
-        None
+    }
+
+    /// Skips the next field if the walk shows that it is not chosen. Returns whether it did.
+    #[inline(always)]
+    fn pass_unasked<A: Asks>(&mut self, asked: &A) -> bool
+        ensures passed { OnTrue result (PassesFirst (A.is_asked asked.now) self.old self.new) }
+        ensures stays { result ≡ false → self.new ≡ self.old }
+    {
+        match self.due {
+            Due::Step => pass_unasked(asked, &mut self.walk, &mut self.reader),
+            Due::Text(_) | Due::Nothing => false,
+        }
     }
 
     /// Hands out the next field if it is a number. `None` at a text and at the end.
+    #[inline(always)]
     fn next_number(&mut self) -> Option<NumberField>
         ensures found { IfSome result (λ number.
             HandsOut self.old (Some (as_field number)) self.new) }
@@ -130,6 +149,21 @@ impl<'v> PlainFields<'v> {
     }
 }
 
+/// Passes the bits of the next field if the walk passes it. Returns whether it did.
+#[inline(always)]
+fn pass_unasked<A: Asks>(asked: &A, walk: &mut Walk, reader: &mut BitReader) -> bool
+    requires { StandAhead dues.Step walk.old reader.old }
+    ensures { PassesOrStays (A.is_asked asked.now) walk.old reader.old walk.new reader.new result }
+{
+    match walk.pass_unasked(asked) {
+        None => false,
+        Some((_, spec)) => {
+            pass_bits(reader, standing_bits(spec));
+            true
+        }
+    }
+}
+
 /// Makes a field of one with a number.
 #[inline(always)]
 fn field_of(number: NumberField) -> Field
@@ -142,6 +176,7 @@ fn field_of(number: NumberField) -> Field
 
 /// Steps to the next field and reads it if it is a number. At a text and at the end it returns what
 /// comes next then.
+#[inline(always)]
 fn step(due: Due, walk: &mut Walk, reader: &mut BitReader) -> Result<NumberField, Due>
     requires { StandAhead due walk.old reader.old }
     ensures found { IfOk result (λ number.

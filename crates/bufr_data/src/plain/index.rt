@@ -15,6 +15,7 @@ use crate::fields::{FieldSource, Fields};
 use crate::plain::alike::Alike;
 use crate::plain::fields::{Due, PlainFields};
 use crate::plain::laid_fields::LaidFields;
+use crate::plain::laid_reader::LaidReader;
 use crate::plain::layout::Layout;
 use crate::plain::pass::pass_subset;
 use crate::plain::read::FIELDS_WITH_ROOM;
@@ -66,6 +67,7 @@ impl<'a> Model for PlainSubsets<'a> {
 impl<'a> PlainSubsets<'a> {
     /// Returns the fields of the subset at an index, from 0: by the layout, without memory, or by a
     /// walk.
+    #[inline(always)]
     pub(crate) fn fields(&self, alloc: Global, index: usize) -> Result<Fields<'_>, OutOfMemory>
         requires { index < length self.now }
         ensures { IfOk result (λ fields.
@@ -73,8 +75,9 @@ impl<'a> PlainSubsets<'a> {
     {
         let start = self.starts.at(index);
         match &self.layout {
-            Some(layout) if layout.has_room(start.used) => {
-                let reader = BitReader::at(self.octets, start.bit);
+            Some(layout)
+                if self.octets.len() <= MOST_COUNTED_OCTETS && layout.has_room(start.used) => {
+                let reader = LaidReader::at(self.octets, start.bit as u64);
                 let fields = layout.fields.as_slice();
                 let laid = LaidFields { fields, reader };
                 Ok(Fields {

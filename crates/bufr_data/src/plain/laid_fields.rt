@@ -1,20 +1,16 @@
 //! Hands out the fields of a plain subset by its layout.
 
-ghost use Rattle.std.specs.Prelude.{◌≡◌, ◌≤◌, Bool, List, length, drop, Some, IfOk, IsOk, IfSome, IfNone, OnErr};
-ghost use Rattle.bufr_bits.specs.Ends.{left};
+ghost use Rattle.std.specs.Prelude.{◌≡◌, Some, IfOk, IfSome, IfNone, OnErr};
 ghost use Rattle.bufr_data.specs.Handed.{HandsOut, HandsOutAsked, FirstIsAsked, PassesUnasked};
 ghost use Rattle.bufr_data.specs.Handed.{PassesLaid, StandLaid, fields_laid, moved_on};
 ghost use Rattle.bufr_fields.specs.Values.{as_field};
-ghost use Rattle.bufr_data.specs.Plain.{raw_at};
-ghost use Rattle.bufr_data.specs.Plain.Reads.{raw_or_ends};
-ghost use Rattle.bufr_data.specs.Plain.Starts.{PassesRaw};
 
+use crate::fields::by_parts;
+use crate::plain::laid_reader::LaidReader;
 use crate::plain::layout::LaidField;
-use crate::plain::pass::bits_of;
-use crate::plain::read::{read_number, read_raw};
+use crate::plain::pass::standing_bits;
 use bufr_base::OutOfMemory;
-use bufr_bits::BitReader;
-use bufr_expand::{Asks, Spec};
+use bufr_expand::Asks;
 use bufr_fields::{Field, NumberField};
 use std::alloc::Global;
 use std::marker::Model;
@@ -23,7 +19,7 @@ use std::marker::Model;
 #[derive(Drop)]
 pub struct LaidFields<'v> {
     pub(crate) fields: &'v [LaidField],
-    pub(crate) reader: BitReader<'v>,
+    pub(crate) reader: LaidReader<'v>,
 }
 
 impl<'v> Model for LaidFields<'v> {
@@ -50,7 +46,7 @@ impl<'v> LaidFields<'v> {
             return Ok(None);
         };
         let field = *field;
-        match read_raw(alloc, field.spec, &mut self.reader, 1) {
+        match self.reader.take_raw(alloc, field.spec) {
             Ok(raw) => {
                 self.fields = others;
                 Ok(Some(Field {
@@ -94,7 +90,7 @@ impl<'v> LaidFields<'v> {
             return None;
         };
         let field = *field;
-        let number = read_number(field.spec, &mut self.reader)?;
+        let number = self.reader.take_number(field.spec)?;
         self.fields = others;
         Some(NumberField {
             fxy: field.fxy,
@@ -109,37 +105,8 @@ impl<'v> LaidFields<'v> {
         ensures asked { FirstIsAsked (A.is_asked asked.now) self.new }
     {
         let (fields, bits) = first_asked(asked, self.fields, &self.reader);
-        move_on(&mut self.reader, bits);
+        self.reader.move_on(bits);
         self.fields = fields;
-    }
-}
-
-/// Copies a spec part by part, since a copy of its padding is slow.
-#[inline(always)]
-fn by_parts(spec: Spec) -> Spec
-    ensures { result ≡ spec }
-{
-    let Spec {
-        kind,
-        scale,
-        reference,
-        width,
-    } = spec;
-    Spec {
-        kind,
-        scale,
-        reference,
-        width,
-    }
-}
-
-/// Skips `bits` bits.
-fn move_on(reader: &mut BitReader, bits: u128)
-    requires { bits ≤ length (left reader.old) }
-    ensures { reader.new ≡ moved_on reader.old bits }
-{
-    if bits > 0 {
-        let _enough = reader.pass(bits);
     }
 }
 
@@ -147,8 +114,8 @@ fn move_on(reader: &mut BitReader, bits: u128)
 fn first_asked<'f, A: Asks>(
     asked: &A,
     fields: &'f [LaidField],
-    reader: &BitReader,
-) -> (&'f [LaidField], u128)
+    reader: &LaidReader,
+) -> (&'f [LaidField], u64)
     requires { StandLaid fields.now reader.now }
     ensures passed { PassesLaid (A.is_asked asked.now) fields.now result.0.now reader.now
         result.1 }
@@ -157,7 +124,7 @@ fn first_asked<'f, A: Asks>(
 {
     // The bits left bound the sum.
     let _most = reader.left();
-    let mut bits = 0u128;
+    let mut bits = 0;
     let mut left = fields;
     while let Some((field, others)) = left.split_first() {
         if asked.asks(field.fxy) {
@@ -167,15 +134,4 @@ fn first_asked<'f, A: Asks>(
         left = others;
     }
     (left, bits)
-}
-
-/// Returns the bits of a field that is there.
-fn standing_bits(spec: Spec) -> u128
-    ensures { (front : List Bool) → IsOk (raw_or_ends 1 1 (raw_at spec front))
-        → (result ≤ length front) × PassesRaw 1 spec front (drop result front) }
-{
-    match bits_of(spec) {
-        Some(bits) => bits as u128,
-        None => 0,
-    }
 }

@@ -1,7 +1,7 @@
 //! Passes plain subsets and reads only their counts. After a fault the reader may have moved.
 
 ghost use Rattle.std.specs.Prelude.{◌≡◌, ◌+◌, ◌≤◌, true, Ok, Err, IfOk, IfErr, OnOk, IfSome};
-ghost use Rattle.std.specs.Prelude.{IfNone, OnSome};
+ghost use Rattle.std.specs.Prelude.{Bool, List, drop, length, IfNone, IsOk, OnSome};
 ghost use Rattle.bufr_bits.specs.Ends.{left};
 ghost use Rattle.bufr_base.specs.Answers.{Fails};
 ghost use Rattle.bufr_tables.specs.declared.element.Kind.TheVariants.{Count};
@@ -9,6 +9,7 @@ ghost use Rattle.bufr_tables.specs.Elements.{same_kind};
 ghost use Rattle.bufr_expand.specs.Courses.{course};
 ghost use Rattle.bufr_expand.specs.Walks as walks;
 ghost use Rattle.bufr_fields.specs.declared.field.Raw.TheVariants.{Number};
+ghost use Rattle.bufr_data.specs.Handed.{moved_on};
 ghost use Rattle.bufr_data.specs.Plain.Alike.{TakesBits, NoBitsHold};
 ghost use Rattle.bufr_data.specs.Plain.{raw_at, fields_at};
 ghost use Rattle.bufr_data.specs.Plain.Reads.{raw_or_ends};
@@ -125,5 +126,26 @@ fn take_count(spec: Spec, reader: &mut BitReader, i: u64) -> Result<u64, DataFau
     match reader.take(spec.width) {
         None => Err(DataFault::DataEnds(1, i)),
         Some(number) => Ok(number),
+    }
+}
+
+/// Returns the bits of a field that is there.
+pub(crate) fn standing_bits(spec: Spec) -> u64
+    ensures { (front : List Bool) → IsOk (raw_or_ends 1 1 (raw_at spec front))
+        → (result ≤ length front) × PassesRaw 1 spec front (drop result front) }
+{
+    match bits_of(spec) {
+        Some(bits) => bits,
+        None => 0,
+    }
+}
+
+/// Skips `bits` bits.
+pub(crate) fn pass_bits(reader: &mut BitReader, bits: u64)
+    requires { bits ≤ length (left reader.old) }
+    ensures { reader.new ≡ moved_on reader.old bits }
+{
+    if bits > 0 {
+        let _enough = reader.pass(u128::from(bits));
     }
 }

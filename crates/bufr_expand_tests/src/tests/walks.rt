@@ -47,3 +47,37 @@ fn no_more_that_are_asked_for(rt: HostRuntime) {
         assert_tells(&rt, &mut walk, wanted);
     }
 }
+
+/// Takes the widths of fields that the walk passes, and then passes none.
+fn assert_passes(rt: &impl Abort, walk: &mut Walk<'_>, widths: &[u32])
+    requires { waits walk.old ≡ false }
+{
+    for width in widths {
+        let (_, spec) = walk.pass_unasked(&Temperatures).expect(rt, "a field");
+        same(rt, spec.width, *width);
+    }
+    assert!(rt; walk.pass_unasked(&Temperatures).is_none());
+}
+
+/// Descriptors, and the widths of the fields that are passed.
+const PASSED: &[(&[u32], &[u32])] = &[
+    (&[1001, 1011, 2001, 12101, 1002], &[7, 72, 2]),
+    (&[12101, 1001], &[]),
+    (&[1001, 1002], &[7, 10]),
+    (&[1001, 31001, 1002], &[7, 8, 10]),
+    (&[1001, 201130, 1002], &[7]),
+    (&[1001, 12102, 1002], &[7]),
+    (&[1001, 101000, 31001, 1002], &[7]),
+    (&[101002, 1001], &[]),
+];
+
+/// The walk passes elements up to a temperature, an operator, a field with too many bits, a
+/// replication or the end.
+#[test]
+fn fields_passed_unasked(rt: HostRuntime) {
+    for (digits, widths) in PASSED {
+        let template = template_of(&rt, rt.alloc(), digits);
+        let mut walk = Walk::start(rt.alloc(), &template, 0).expect(&rt, "room");
+        assert_passes(&rt, &mut walk, widths);
+    }
+}

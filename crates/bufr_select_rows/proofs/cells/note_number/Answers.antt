@@ -10,9 +10,10 @@ pub returns-in-Some : goal.returns-in-Some
 returns-in-Some c =
     let cells = c.args.cells.now in
     let i = c.in-Some.index in
-    let f = as_field c.args.number in
-    on_ok_then c.note_number.result
+    let f = as_field c.by_parts-number.result in
+    rw (← c.by_parts-number.ensures)
+    (on_ok_then c.note_number.result
     (λ e. ap (λ (x : Cell). slice_set cells i x) e
     ∙ one_noted c.args.in_span f i cells c.index-cells-index.result
     (c.requires f.fxy i c.in-Some.ensures) c.if-index-cells.true)
-    c.note_number.ensures
+    c.note_number.ensures)

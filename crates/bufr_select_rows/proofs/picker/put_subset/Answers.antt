@@ -9,8 +9,8 @@ use Rattle.bufr_io.specs.HeldTexts.{PutsOrStops}
 use Rattle.bufr_select_rows.proofs.PickedFacts.{rows_begun}
 use Rattle.bufr_select_rows.proofs.picker.put_subset.Goals as goal
 
-pub put_fields-requires-clause-covers : goal.put_fields-requires-clause-covers
-put_fields-requires-clause-covers g c =
+pub put_rows-requires-clause-covers : goal.put_rows-requires-clause-covers
+put_rows-requires-clause-covers g c =
     let a = c.args in
     let is = ap (λ (cells : List Cell). map (λ cell. cell.column) cells)
     c.in_ok-begin_cells.ensures
@@ -21,12 +21,12 @@ pub returns-in-Ok-clause-puts : goal.returns-in-Ok-clause-puts
 returns-in-Ok-clause-puts g c =
     let a = c.args in
     subst
-    (λ text. PutsOrStops text a.rows.now (g.W.Sink.writing a.writer.now) c.put_fields.new.rows
-    (g.W.Sink.writing c.put_fields.new.writer) c.put_fields.result)
+    (λ text. PutsOrStops text a.rows.now (g.W.Sink.writing a.writer.now) c.put_rows.new.rows
+    (g.W.Sink.writing c.put_rows.new.writer) c.put_rows.result)
     (ap (rows_left a.each c.begin_cells.new.cells (opens_at_once a.each)) c.in-Ok.ensures.laid
     ∙ rows_begun a.each (origin a.from.now) a.cells.now c.begin_cells.new.cells a.fields
     c.in_ok-begin_cells.ensures)
-    c.put_fields.ensures.puts
+    c.put_rows.ensures.puts
 
 pub returns-in-Ok-clause-columns : goal.returns-in-Ok-clause-columns
 returns-in-Ok-clause-columns g c =
@@ -35,11 +35,11 @@ returns-in-Ok-clause-columns g c =
     c.in_ok-begin_cells.ensures
     ∙ columns_begun (origin a.from.now) a.cells.now in
     subst
-    (λ columns. OnOk c.put_fields.result (map (λ cell. cell.column) c.put_fields.new.cells ≡ columns))
-    is c.put_fields.ensures.columns
+    (λ columns. OnOk c.put_rows.result (map (λ cell. cell.column) c.put_rows.new.cells ≡ columns))
+    is c.put_rows.ensures.columns
 
-pub put_fields-requires-in-Err-clause-covers : goal.put_fields-requires-in-Err-clause-covers
-put_fields-requires-in-Err-clause-covers g c =
+pub put_rows-requires-in-Err-clause-covers : goal.put_rows-requires-in-Err-clause-covers
+put_rows-requires-in-Err-clause-covers g c =
     let a = c.args in
     let is = ap (λ (cells : List Cell). map (λ cell. cell.column) cells)
     c.in_ok-begin_cells.ensures
@@ -50,12 +50,12 @@ pub returns-in-Err-clause-puts : goal.returns-in-Err-clause-puts
 returns-in-Err-clause-puts g c =
     let a = c.args in
     subst
-    (λ text. PutsOrStops text a.rows.now (g.W.Sink.writing a.writer.now) c.put_fields-in-Err.new.rows
-    (g.W.Sink.writing c.put_fields-in-Err.new.writer) c.put_fields-in-Err.result)
+    (λ text. PutsOrStops text a.rows.now (g.W.Sink.writing a.writer.now) c.put_rows-in-Err.new.rows
+    (g.W.Sink.writing c.put_rows-in-Err.new.writer) c.put_rows-in-Err.result)
     (ap (rows_left a.each c.begin_cells.new.cells (opens_at_once a.each)) c.in-Err.ensures.others
     ∙ rows_begun a.each (origin a.from.now) a.cells.now c.begin_cells.new.cells a.fields
     c.in_ok-begin_cells.ensures)
-    c.put_fields-in-Err.ensures.puts
+    c.put_rows-in-Err.ensures.puts
 
 pub returns-in-Err-clause-columns : goal.returns-in-Err-clause-columns
 returns-in-Err-clause-columns g c =
@@ -64,5 +64,5 @@ returns-in-Err-clause-columns g c =
     c.in_ok-begin_cells.ensures
     ∙ columns_begun (origin a.from.now) a.cells.now in
     subst
-    (λ columns. OnOk c.put_fields-in-Err.result (map (λ cell. cell.column) c.put_fields-in-Err.new.cells ≡ columns))
-    is c.put_fields-in-Err.ensures.columns
+    (λ columns. OnOk c.put_rows-in-Err.result (map (λ cell. cell.column) c.put_rows-in-Err.new.cells ≡ columns))
+    is c.put_rows-in-Err.ensures.columns

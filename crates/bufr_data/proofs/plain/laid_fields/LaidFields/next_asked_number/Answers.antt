@@ -8,8 +8,8 @@ use Rattle.bufr_data.proofs.AskedFacts.{asked_handed}
 use Rattle.bufr_data.proofs.PlainFacts.Layouts.{first_handed, first_there}
 use Rattle.bufr_data.proofs.plain.laid_fields.LaidFields.next_asked_number.Goals as goal
 
-pub read_number-requires : goal.read_number-requires
-read_number-requires g c =
+pub take_number-requires : goal.take_number-requires
+take_number-requires g c =
     first_there c.in-Some.others.now c.in-Some.field.now c.self.inside.reader
     (subst (λ fields. StandLaid fields c.self.inside.reader) c.in-Some.ensures.cases.0
     c.self.invariant)
@@ -17,7 +17,7 @@ read_number-requires g c =
 pub invariant_of-self-2 : goal.invariant_of-self-2
 invariant_of-self-2 g c =
     (first_handed c.self.inside.fields.now c.in-Some.others.now c.in-Some.field.now
-    c.self.inside.reader c.read_number.new.reader (Number c.in_ok-number.number)
+    c.self.inside.reader c.take_number.new.self (Number c.in_ok-number.number)
     c.in-Some.ensures.cases.0 c.self.invariant c.in_ok-number.ensures.found).there
 
 pub returns-clause-found : goal.returns-clause-found
@@ -30,9 +30,9 @@ returns-clause-found g c =
     } in
     let h =
     first_handed c.self.inside.fields.now c.in-Some.others.now field c.self.inside.reader
-    c.read_number.new.reader (Number c.in_ok-number.number) c.in-Some.ensures.cases.0
+    c.take_number.new.self (Number c.in_ok-number.number) c.in-Some.ensures.cases.0
     c.self.invariant c.in_ok-number.ensures.found in
     rw c.by_parts.ensures
     (asked_handed (g.A.Asks.is_asked c.args.asked.now) c.args.self.now c.pass_unasked.new.self
-    (fields_laid c.in-Some.others.now c.read_number.new.reader) (Some (as_field number))
+    (fields_laid c.in-Some.others.now c.take_number.new.self) (Some (as_field number))
     c.pass_unasked.ensures.passed c.pass_unasked.ensures.asked (sym c.self.view_is ∙ h.is))

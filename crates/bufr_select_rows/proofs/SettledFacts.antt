@@ -1,0 +1,89 @@
+-- Settled cells: no later field changes the row.
+use Rattle.std.proofs.Common.{◌≡◌, ◌==◌, ◌≤◌, ℕ, zero, suc, ◌&&◌, Bool, true, false, List, [], ◌∷◌, Some, None, length}
+use Rattle.std.proofs.Common.{map, take, cond, refl, sym, ap, ◌∙◌, subst}
+use Rattle.std.specs.List.{list_all}
+use Rattle.std.proofs.lemmas.Bool.{eqb-true}
+use Rattle.std.proofs.lemmas.List.{take_all}
+use Rattle.bufr_fields.specs.declared.field.Field.{Field}
+use Rattle.bufr_data.specs.Handed.{HandsOutAsked}
+use Rattle.bufr_select_rows.specs.Asks.{Covers}
+use Rattle.bufr_select_rows.specs.CellLaws.{columns_after}
+use Rattle.bufr_select_rows.specs.Cells.{AreSettled, counted, counted_at, is_settled, noted, noted_by}
+use Rattle.bufr_select_rows.specs.Cells.{row_of, rows_left, settled_by}
+use Rattle.bufr_select_rows.specs.declared.cell.Cell.{Cell}
+use Rattle.bufr_select_rows.specs.declared.column.Column.{Column}
+use Rattle.bufr_select_rows.specs.declared.column.Column.TheVariants as columns
+use Rattle.bufr_select_rows.proofs.PickedFacts.{field_next}
+
+-- a choice between two that are the same
+choice_same : {A : Type 0} (b : Bool) (x y : A) → x ≡ y → cond b x y ≡ y
+choice_same true x y is = is
+choice_same false x y is = refl
+
+-- a settled cell stays as it is, by its column
+stays_by : (column : Column) (f : Field) (c : Cell) → settled_by column c ≡ true
+    → noted_by column true f c ≡ c
+stays_by (columns.Told fact) f c settled = refl
+stays_by (columns.First d) f c settled =
+    choice_same (f.fxy == d) (counted f c) c (ap (λ n. counted_at n f c) (eqb-true c.ahead 0 settled))
+stays_by (columns.Nth d n) f c settled =
+    choice_same (f.fxy == d) (counted f c) c (ap (λ k. counted_at k f c) (eqb-true c.ahead 0 settled))
+
+-- both hold
+both_true : (a b : Bool) → (a && b) ≡ true → (a ≡ true) × (b ≡ true)
+both_true true b is = (refl, is)
+both_true false b is = absurd cc
+
+-- all cells are settled, so they stay as they are
+all_stay : (f : Field) (cells : List Cell) → list_all is_settled cells ≡ true
+    → map (noted true f) cells ≡ cells
+all_stay f [] settled = refl
+all_stay f (c ∷ cells) settled =
+    let both = both_true (is_settled c) (list_all is_settled cells) settled in
+    ap (λ x. x ∷ map (noted true f) cells) (stays_by c.column f c both.0)
+    ∙ ap (λ cs. c ∷ cs) (all_stay f cells both.1)
+
+-- so no later field changes the row
+pub rows_settled : (cells : List Cell) (fields : List Field) → list_all is_settled cells ≡ true
+    → rows_left None cells true fields ≡ row_of cells
+unfolding rows_left
+rows_settled cells [] settled = refl
+rows_settled cells (f ∷ fields) settled =
+    ap (λ cs. rows_left None cs true fields) (all_stay f cells settled)
+    ∙ rows_settled cells fields settled
+
+-- the first cells stay settled
+settled_kept : (n : ℕ) (f : Field) (cells : List Cell) → AreSettled n cells
+    → AreSettled n (map (noted true f) cells)
+settled_kept zero f cells settled = refl
+settled_kept (suc n) f [] settled = refl
+settled_kept (suc n) f (c ∷ cells) settled =
+    let both = both_true (is_settled c) (list_all is_settled (take n cells)) settled in
+    ap (λ x. is_settled x && list_all is_settled (take n (map (noted true f) cells)))
+    (stays_by c.column f c both.0)
+    ∙ ap (λ b. is_settled c && b) (settled_kept n f cells both.1)
+    ∙ ap (λ b. b && true) both.0
+
+-- all cells are among the first n
+pub all_settled : (n : ℕ) (cells : List Cell) → length cells ≤ n → AreSettled n cells
+    → list_all is_settled cells ≡ true
+all_settled n cells within settled = ap (list_all is_settled) (sym (take_all n cells within)) ∙ settled
+
+-- the cells took the next field, and none of its row is due
+pub row_next : (asked : ℕ → Bool) (cells cells' : List Cell) (f : Field) (old new : List Field)
+    → Covers asked None (map (λ c. c.column) cells) → HandsOutAsked asked old (Some f) new
+    → cells' ≡ map (noted true f) cells
+    → rows_left None cells true old ≡ rows_left None cells' true new
+row_next asked cells cells' f old new covers hands is =
+    field_next asked None cells cells' true true f old new covers hands is refl
+
+-- they have the same columns, and the first ones stay settled
+pub columns_kept : (cells cells' : List Cell) (f : Field) → cells' ≡ map (noted true f) cells
+    → map (λ c. c.column) cells' ≡ map (λ c. c.column) cells
+columns_kept cells cells' f is =
+    ap (λ (cs : List Cell). map (λ c. c.column) cs) is ∙ columns_after None true cells f
+
+pub settled_next : (n : ℕ) (cells cells' : List Cell) (f : Field) → cells' ≡ map (noted true f) cells
+    → AreSettled n cells → AreSettled n cells'
+settled_next n cells cells' f is settled =
+    subst (AreSettled n) (sym is) (settled_kept n f cells settled)

@@ -1,0 +1,89 @@
+-- Field by field, until all cells are settled or no field is left.
+use Rattle.std.proofs.Common.{◌≡◌, Some, None, true, ◌∙◌, sym, subst, arith}
+use Rattle.bufr_fields.specs.Values.{as_field}
+use Rattle.bufr_select_rows.specs.Asks.{IsSetOf, flagged}
+use Rattle.bufr_select_rows.proofs.PickFacts.{picked_after}
+use Rattle.bufr_select_rows.proofs.PickedFacts.{rows_last}
+use Rattle.bufr_select_rows.proofs.SettledFacts.{all_settled, columns_kept, row_next, rows_settled}
+use Rattle.bufr_select_rows.proofs.SettledFacts.{settled_next}
+use Rattle.bufr_select_rows.proofs.filling.fill_cells.Goals as goal
+
+-- all cells are settled
+pub returns-then-settled-cells-clause-row : goal.returns-then-settled-cells-clause-row
+returns-then-settled-cells-clause-row g c =
+    c.fields.invariant.row
+    ∙ rows_settled c.fields.cells (g.P.Picks.left c.fields.fields)
+    (all_settled c.first_unsettled-settled.result c.fields.cells
+    (omega (arith, c.if-settled-cells.true)) c.first_unsettled-settled.ensures)
+
+-- one number more was taken
+pub fields-preserved-in-Some : goal.fields-preserved-in-Some
+fields-preserved-in-Some g c =
+    let a = c.args in
+    let inv = c.fields.invariant in
+    let field = as_field c.in-Some.number in
+    let covers = subst (IsSetOf a.asked.now None) (sym inv.columns) c.requires in
+    let e = c.in_ok-note_number.ensures in
+    record {
+      row = inv.row ∙ row_next (flagged a.asked.now) c.fields.cells c.note_number.new.cells field
+          (g.P.Picks.left c.fields.fields) (g.P.Picks.left c.pick_number.new.self) covers.0
+          c.in-Some.ensures.found e;
+      columns = columns_kept c.fields.cells c.note_number.new.cells field e ∙ inv.columns;
+      settled = settled_next c.first_unsettled-settled.result c.fields.cells
+          c.note_number.new.cells field e c.first_unsettled-settled.ensures;
+    }
+
+-- no field is left
+pub returns-in-Ok-None-clause-row : goal.returns-in-Ok-None-clause-row
+returns-in-Ok-None-clause-row g c =
+    let a = c.args in
+    let inv = c.fields.invariant in
+    let so : c.in-Ok-None.field-0 ≡ None = rw c.in-Ok-None.is at c.in-Ok-None.field-0-is in
+    let handed = rw (c.in-Ok-None.is, so) at (picked_after (flagged a.asked.now) c.pick-next.result
+    (g.P.Picks.left c.fields.fields) (g.P.Picks.left c.pick_number.new.self)
+    (g.P.Picks.left c.pick-next.new.self) c.in_default.ensures.others c.pick-next.ensures) in
+    let covers = subst (IsSetOf a.asked.now None) (sym inv.columns) c.requires in
+    inv.row
+    ∙ rows_last (flagged a.asked.now) None c.fields.cells true (g.P.Picks.left c.fields.fields)
+    (g.P.Picks.left c.pick-next.new.self) covers.0 handed
+
+-- one field more was taken
+pub fields-preserved-in_ok-note_field-in-Ok-Some :
+    goal.fields-preserved-in_ok-note_field-in-Ok-Some
+fields-preserved-in_ok-note_field-in-Ok-Some g c =
+    let a = c.args in
+    let inv = c.fields.invariant in
+    let field = c.in-Ok-Some.field in
+    let so : c.in-Ok-Some.field-0 ≡ Some field = rw c.in-Ok-Some.is at c.in-Ok-Some.field-0-is in
+    let handed = rw (c.in-Ok-Some.is, so) at (picked_after (flagged a.asked.now) c.pick-next.result
+    (g.P.Picks.left c.fields.fields) (g.P.Picks.left c.pick_number.new.self)
+    (g.P.Picks.left c.pick-next.new.self) c.in_default.ensures.others c.pick-next.ensures) in
+    let covers = subst (IsSetOf a.asked.now None) (sym inv.columns) c.requires in
+    let e = c.in_ok-note_field-in-Ok-Some.ensures in
+    record {
+      row = inv.row ∙ row_next (flagged a.asked.now) c.fields.cells c.note_field.new.cells field
+          (g.P.Picks.left c.fields.fields) (g.P.Picks.left c.pick-next.new.self) covers.0 handed e;
+      columns = columns_kept c.fields.cells c.note_field.new.cells field e ∙ inv.columns;
+      settled = settled_next c.first_unsettled-settled.result c.fields.cells c.note_field.new.cells
+          field e c.first_unsettled-settled.ensures;
+    }
+
+pub fields-preserved-in_ok-note_field-in-Ok-Some-2 :
+    goal.fields-preserved-in_ok-note_field-in-Ok-Some-2
+fields-preserved-in_ok-note_field-in-Ok-Some-2 g c =
+    let a = c.args in
+    let inv = c.fields.invariant in
+    let field = c.in-Ok-Some.field in
+    let so : c.in-Ok-Some.field-0 ≡ Some field = rw c.in-Ok-Some.is at c.in-Ok-Some.field-0-is in
+    let handed = rw (c.in-Ok-Some.is, so) at (picked_after (flagged a.asked.now) c.pick-next.result
+    (g.P.Picks.left c.fields.fields) (g.P.Picks.left c.pick_number.new.self)
+    (g.P.Picks.left c.pick-next.new.self) c.in_default.ensures.others c.pick-next.ensures) in
+    let covers = subst (IsSetOf a.asked.now None) (sym inv.columns) c.requires in
+    let e = c.in_ok-note_field-in-Ok-Some.ensures in
+    record {
+      row = inv.row ∙ row_next (flagged a.asked.now) c.fields.cells c.note_field.new.cells field
+          (g.P.Picks.left c.fields.fields) (g.P.Picks.left c.pick-next.new.self) covers.0 handed e;
+      columns = columns_kept c.fields.cells c.note_field.new.cells field e ∙ inv.columns;
+      settled = settled_next c.first_unsettled-settled.result c.fields.cells c.note_field.new.cells
+          field e c.first_unsettled-settled.ensures;
+    }
