@@ -28,6 +28,7 @@ use Rattle.bufr_fields.specs.FormLaws.{form_passes, form_is}
 use Rattle.bufr_data.proofs.ListFacts.{all_replicated}
 use Rattle.bufr_data.proofs.PlainFacts.{raw_again, raw_read}
 pub mod Best
+pub mod Chosen
 pub mod Courses
 pub mod Increments
 pub mod Indexed

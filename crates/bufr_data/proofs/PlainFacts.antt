@@ -35,6 +35,7 @@ pub mod Even
 pub mod Handed
 pub mod Layouts
 pub mod Passed
+pub mod Placed
 pub mod Reads
 pub mod Refusals
 pub mod Shown

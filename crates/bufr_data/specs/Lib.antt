@@ -9,6 +9,7 @@ pub mod Compressed
 pub mod Data
 pub mod Shown
 pub mod Handed
+pub mod Chosen
 pub mod LeftFields
 pub mod Kept
 pub use Rattle.bufr_base.specs.Answers

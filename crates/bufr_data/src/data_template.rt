@@ -3,16 +3,17 @@
 ghost use Rattle.std.specs.Prelude.{◌≡◌, Bool, List, IfOk, OnErr};
 ghost use Rattle.bufr_bits.specs.Ends.{left};
 ghost use Rattle.bufr_base.specs.Answers.{Gives};
-ghost use Rattle.bufr_fields.specs.declared.field.Subset.{Subset};
+ghost use Rattle.bufr_fields.specs.declared.field.Subset.{Subset as ASubset};
 ghost use Rattle.bufr_data.specs.Data.{subsets_in};
 
 use crate::plain::alike::FixedSize;
 use crate::plain::plan::FieldLayout;
 use crate::subset_index::{SubsetIndex, index_known};
-use bufr_base::{Failure, OutOfMemory};
+use crate::subsets::read_subsets;
+use bufr_base::{Failure, Items, OutOfMemory};
 use bufr_bits::BitReader;
 use bufr_expand::Template;
-use bufr_fields::DataFault;
+use bufr_fields::{DataFault, Subset};
 use std::alloc::Global;
 use std::marker::Model;
 
@@ -60,6 +61,23 @@ impl DataTemplate {
         self.template.share()
     }
 
+    /// Reads the subsets of a message like `read_subsets`.
+    pub fn read(
+        &self,
+        alloc: Global,
+        compressed: bool,
+        count: u16,
+        reader: &mut BitReader,
+    ) -> Result<Items<Subset>, Failure<DataFault>>
+        ensures exact { Gives {Y = List ASubset × List Bool}
+            (λ subsets. (subsets, left reader.new)) result
+            (subsets_in self.now compressed count (left reader.old)) }
+        ensures octets { reader.new.octets ≡ reader.old.octets }
+        ensures err { OnErr result (reader.new ≡ reader.old) }
+    {
+        read_subsets(alloc, &self.template, compressed, count, reader)
+    }
+
     /// Indexes the subsets of a message like `SubsetIndex::index`, and keeps what it learns for the
     /// next one.
     pub fn index<'a>(
@@ -69,7 +87,27 @@ impl DataTemplate {
         reader: &mut BitReader<'a>,
         count: u16,
     ) -> Result<SubsetIndex<'a>, Failure<DataFault>>
-        ensures exact { Gives {Y = List Subset × List Bool} (λ subsets. (subsets, left reader.new))
+        ensures exact { Gives {Y = List ASubset × List Bool} (λ subsets. (subsets, left reader.new))
+            result (subsets_in self.old compressed count (left reader.old)) }
+        ensures octets { reader.new.octets ≡ reader.old.octets }
+        ensures err { OnErr result (reader.new ≡ reader.old) }
+        ensures same { self.new ≡ self.old }
+    {
+        self.index_for(alloc, &[], compressed, reader, count)
+    }
+
+    /// Indexes the subsets like `index`, and finds the places of the fields of some descriptors,
+    /// given by their 16 bits, for `SubsetIndex::chosen`. It keeps the places of the first such
+    /// list.
+    pub fn index_for<'a>(
+        &mut self,
+        alloc: Global,
+        asked: &[u16],
+        compressed: bool,
+        reader: &mut BitReader<'a>,
+        count: u16,
+    ) -> Result<SubsetIndex<'a>, Failure<DataFault>>
+        ensures exact { Gives {Y = List ASubset × List Bool} (λ subsets. (subsets, left reader.new))
             result (subsets_in self.old compressed count (left reader.old)) }
         ensures octets { reader.new.octets ≡ reader.old.octets }
         ensures err { OnErr result (reader.new ≡ reader.old) }
@@ -82,10 +120,12 @@ impl DataTemplate {
         };
         let template = self.template.share()?;
         let layout = if alike.is_some() {
-            self.plan.serve(alloc, &self.template, count)?
+            self.plan.serve(alloc, &self.template, asked, count)?
         } else {
             None
         };
-        index_known(alloc, template, alike, layout, compressed, reader, count)
+        index_known(
+            alloc, template, asked, alike, layout, compressed, reader, count,
+        )
     }
 }

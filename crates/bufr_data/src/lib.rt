@@ -2,6 +2,7 @@
 //! and sinks unchanged. Every call that allocates can return `OutOfMemory`.
 #![tactic(auto)]
 
+mod chosen;
 mod compressed;
 mod data_template;
 mod descriptor_list;
@@ -22,6 +23,7 @@ pub use bufr_fields::{
     DataFault, Decimal, Field, MOST_DECIMAL_SCALE, MOST_INCREMENT_BITS, MOST_RAW_BITS, MOST_VALUES,
     MisfitFault, NumberField, Raw, Subset,
 };
+pub use chosen::ChosenFields;
 pub use compressed::index::Columns;
 pub use compressed::read::read_compressed;
 pub use compressed::write::write_compressed;

@@ -8,6 +8,8 @@ pub(crate) mod laid_fields;
 pub(crate) mod laid_reader;
 pub(crate) mod layout;
 pub(crate) mod pass;
+pub(crate) mod placed_fields;
+pub(crate) mod places;
 pub(crate) mod plan;
 pub(crate) mod read;
 pub(crate) mod read_each;

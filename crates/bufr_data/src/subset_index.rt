@@ -6,6 +6,7 @@ ghost use Rattle.bufr_bits.specs.Bits.{bits};
 ghost use Rattle.bufr_bits.specs.Ends.{left};
 ghost use Rattle.bufr_base.specs.Answers.{Gives};
 ghost use Rattle.bufr_fields.specs.declared.field.Subset.{Subset};
+ghost use Rattle.bufr_data.specs.Chosen.{chosen};
 ghost use Rattle.bufr_data.specs.Data.{subsets_in};
 ghost use Rattle.bufr_data.specs.Plain.{plain};
 ghost use Rattle.bufr_data.specs.Plain.Alike.{IsAlike};
@@ -13,6 +14,7 @@ ghost use Rattle.bufr_data.specs.Plain.Layouts.{IsLaid};
 ghost use Rattle.bufr_data.specs.Shown.{shown};
 ghost use Rattle.bufr_data.specs.Subsets.{Extends, filled};
 
+use crate::chosen::{ChosenFields, ChosenSource};
 use crate::compressed::index::Columns;
 use crate::fields::Fields;
 use crate::plain::alike::{Alike, FixedSize};
@@ -73,7 +75,7 @@ impl<'a> SubsetIndex<'a> {
         } else {
             likeness.ask(alloc, &template, reader)?
         };
-        index_known(alloc, template, alike, None, compressed, reader, count)
+        index_known(alloc, template, &[], alike, None, compressed, reader, count)
     }
 
     /// Returns the number of subsets.
@@ -107,6 +109,32 @@ impl<'a> SubsetIndex<'a> {
             DataIndex::Compressed(columns) => {
                 let _count = columns.count();
                 Ok(columns.fields(index as u16))
+            }
+        }
+    }
+
+    /// Returns the chosen fields of the subset at an index, from 0: those of the descriptors in the
+    /// list, given by their 16 bits. `None` unless the list is that of the index, and its fields
+    /// have known places. Takes no memory.
+    #[inline(always)]
+    pub fn chosen(&self, asked: &[u16], index: usize) -> Option<ChosenFields<'_>>
+        requires { index < length self.now }
+        ensures { IfSome result (λ fields. IfSome (slice_get self.now index) (λ s.
+            fields ≡ chosen asked.now s.fields)) }
+    {
+        match &self.standing {
+            DataIndex::Plain(subsets) => {
+                let fields = subsets.chosen(asked, index)?;
+                Some(ChosenFields {
+                    source: ChosenSource::Placed(fields),
+                })
+            }
+            DataIndex::Compressed(columns) => {
+                let _count = columns.count();
+                let fields = columns.chosen(asked, index as u16)?;
+                Some(ChosenFields {
+                    source: ChosenSource::Compressed(fields),
+                })
             }
         }
     }
@@ -167,6 +195,7 @@ impl<'a> SubsetIndex<'a> {
 pub(crate) fn index_known<'a>(
     alloc: Global,
     template: Template,
+    asked: &[u16],
     alike: Option<Alike>,
     layout: Option<Rc<Layout>>,
     compressed: bool,
@@ -181,7 +210,7 @@ pub(crate) fn index_known<'a>(
     ensures err { OnErr result (reader.new ≡ reader.old) }
 {
     let standing = if compressed {
-        DataIndex::Compressed(Columns::index(alloc, &template, reader, count)?)
+        DataIndex::Compressed(Columns::index_for(alloc, &template, asked, reader, count)?)
     } else {
         let starts = starts_of(alloc, &template, alike, reader, count)?;
         DataIndex::Plain(PlainSubsets {

@@ -1,6 +1,7 @@
 //! Tests of subsets in bits and back.
 
 mod asked;
+mod chosen;
 mod decimals;
 mod index;
 mod many;

@@ -2,7 +2,7 @@
 use Rattle.std.proofs.Common.{◌≡◌, ℕ, ◌+◌, ◌-◌, ◌*◌, ◌/◌, ◌%◌, ◌^◌, ◌<◌, Bool, true, false, cond}
 use Rattle.std.proofs.Common.{List, [], ◌∷◌, ◌++◌, length, take, drop, Option, Some, None, Result, Ok, Err, refl}
 use Rattle.std.proofs.Common.{sym, ap, subst, ◌∙◌, arith, length-append, get_or}
-use Rattle.std.specs.Prelude.{bytes_eq, codes, option_map, slice_get, IfSome}
+use Rattle.std.specs.Prelude.{codes, option_map, slice_get, IfSome}
 use Rattle.std.proofs.lemmas.Option.{cond_some, same_Some, slice_get-map, slice_get-get_or, get_or_from_slice_get}
 use Rattle.std.specs.Int.{bytes_high_first}
 use Rattle.std.specs.List.{AllByRecursion}
@@ -26,8 +26,8 @@ use Rattle.bufr_report_keys.specs.Keys.{key}
 use Rattle.bufr_message.specs.Messages.{message_of, Spells}
 use Rattle.bufr_message.specs.OwnBits.{CanonicalIsOwn, spelt_alone}
 use Rattle.bufr_message.specs.Laws.{MessagesReadAreSpelt, BareAreWritten}
-use Rattle.bufr_message.specs.Reports.{without_local, report_of, reports_of, reports_read, reports_in, alone, canonical}
-use Rattle.bufr_message.specs.Reports.{if_written, IsCanonical, IsUnder, CanonicalIsRead}
+use Rattle.bufr_message.specs.Reports.{without_local, report_of, reports_of, reports_read, reports_in, canonical}
+use Rattle.bufr_message.specs.Reports.{IsCanonical, IsUnder, CanonicalIsRead}
 use Rattle.bufr_message.specs.Reports.{ReportsSpeltAreUnder}
 use Rattle.bufr_report_keys.specs.Usable.{◌>>=◌}
 use Rattle.bufr_entries.specs.declared.entry.Entry.{Entry}
@@ -328,6 +328,11 @@ key_there m i s head h found at head_is h_is key_is =
     (key_is ∙ ap (λ (x : ReportHead). key x s.fields) (h_is ∙ ap without_local head_is))
 
 -- one report of a message as its builder puts it
+pub subset_there : (subsets : List Subset) (i : ℕ) → i < length subsets
+    → (s : Subset) × (slice_get subsets i ≡ Some s)
+subset_there subsets i inside =
+    (get_or subsets i (record { fields = [] }), slice_get-get_or subsets i (record { fields = [] }) inside)
+
 pub put_slot : (m : Message) (i : ℕ) (s : Subset) (head : Head) (h : ReportHead) (slot : SlotView)
     → i < length m.subsets → slice_get m.subsets i ≡ Some s → head ≡ m.head
     → h ≡ without_local head → slot ≡ record { key = key h s.fields; update = h.update }

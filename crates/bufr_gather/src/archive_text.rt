@@ -22,6 +22,7 @@ use bufr_base::{Failure, OutOfMemory};
 use bufr_entries::PackedSlot;
 use bufr_message::MessageReader;
 use bufr_message::laws::written_messages_are_spelt;
+use bufr_report_keys::key_elements;
 use bufr_tables::Tables;
 use std::alloc::Global;
 use std::marker::Model;
@@ -80,7 +81,7 @@ impl<'t> ArchiveText<'t> {
         written_messages_are_spelt();
         let mut octets = octets;
         octets.shrink_to_fit();
-        let mut templates = MessageReader::new(alloc, tables);
+        let mut templates = MessageReader::for_elements(alloc, tables, key_elements());
         let marks = read_marks(alloc, &mut templates, &octets)?;
         Ok(ArchiveText {
             tables,

@@ -12,7 +12,7 @@ use crate::report_entry::{MessageReports, ReportOctets};
 use bufr_base::{Failure, OutOfMemory};
 use bufr_entries::{KeptOctets, ShelfBuilder};
 use bufr_message::{MessageReader, Refused, ReportHead};
-use bufr_report_keys::slot_of_fields;
+use bufr_report_keys::{key_elements, slot_in};
 use bufr_tables::Tables;
 use std::alloc::Global;
 use std::marker::Model;
@@ -42,7 +42,7 @@ impl<'t> ArchiveBuilder<'t> {
     {
         ArchiveBuilder {
             alloc,
-            templates: MessageReader::new(alloc, tables),
+            templates: MessageReader::for_elements(alloc, tables, key_elements()),
             entries: ShelfBuilder::new(alloc),
         }
     }
@@ -74,8 +74,7 @@ impl<'t> ArchiveBuilder<'t> {
     {
         let view = &reports.view;
         let head = ReportHead::of_head(view.head());
-        let fields = view.fields(self.alloc, index)?;
-        let slot = slot_of_fields(self.alloc, &head, fields)?;
+        let slot = slot_in(self.alloc, &head, view, index)?;
         self.entries.put_marked(slot, &ReportOctets { view, index })
     }
 

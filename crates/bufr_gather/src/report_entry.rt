@@ -16,7 +16,7 @@ use bufr_message::laws::{
     canonical_messages_are_own, reports_have_canonical_messages, written_messages_are_spelt,
 };
 use bufr_message::{MessageReader, Refused, Report, ReportHead, View, canonical};
-use bufr_report_keys::{key_in, key_of_fields, slot_of_fields};
+use bufr_report_keys::{key_in, key_of_fields, slot_in};
 use bufr_tables::Tables;
 use std::alloc::Global;
 
@@ -90,8 +90,7 @@ fn own_entry<'a>(
         return Ok(None);
     }
     let head = ReportHead::of_head(view.head());
-    let fields = view.fields(alloc, 0)?;
-    let mark = slot_of_fields(alloc, &head, fields)?;
+    let mark = slot_in(alloc, &head, view, 0)?;
     Ok(Some(ReadEntry {
         mark,
         bytes: octets,

@@ -40,6 +40,7 @@ pub use Rattle.bufr_listing_reader.specs.FirstFaults
 pub use Rattle.bufr_listing_reader.specs.Reading
 pub use Rattle.bufr_listing_reader.specs.Unread
 pub use Rattle.bufr_base.specs.declared.failure.Failure
+pub use Rattle.bufr_data.specs.Chosen
 pub use Rattle.bufr_data.specs.Handed
 pub use Rattle.bufr_data.specs.Kept as KeptTemplates
 pub use Rattle.bufr_data.specs.LeftFields

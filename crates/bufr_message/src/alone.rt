@@ -38,6 +38,18 @@ pub(crate) fn can_be_alone(
     Ok(true)
 }
 
+/// Returns whether each of these subsets fits a message of its own.
+pub(crate) fn are_short(descriptors: &[Fxy], subsets: &[Subset]) -> bool
+    ensures { result ≡ can_be_alone descriptors.now subsets.now }
+{
+    for subset in subsets {
+        if !is_short(descriptors, subset) {
+            return false;
+        }
+    }
+    true
+}
+
 /// Whether the message with this subset alone has at most 16,777,215 octets.
 fn is_short(descriptors: &[Fxy], subset: &Subset) -> bool
     ensures { result ≡ nat_le (octets_alone descriptors.now subset.now) longest }

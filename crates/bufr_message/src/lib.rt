@@ -19,7 +19,9 @@ mod worked_reports;
 mod worked_values;
 
 pub use bufr_base::{Failure, Items, OutOfMemory};
-pub use bufr_data::{DataFault, Decimal, Field, Fields, KeptTemplates, MisfitFault, Raw, Subset};
+pub use bufr_data::{
+    ChosenFields, DataFault, Decimal, Field, Fields, KeptTemplates, MisfitFault, Raw, Subset,
+};
 pub use bufr_expand::{Spec, TemplateFault};
 pub use bufr_sections::{Decoded, EncodeFault, Head, LentSections, Message, Refused};
 pub use bufr_tables::{Element, Fxy, Kind, TableB, TableD, TableFault, Tables};

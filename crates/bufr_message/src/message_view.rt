@@ -6,6 +6,7 @@ ghost use Rattle.bufr_bits.specs.Bits.{bits};
 ghost use Rattle.bufr_base.specs.Answers.{Gives, result_map};
 ghost use Rattle.bufr_tables.specs.Entries.{Entries};
 ghost use Rattle.bufr_fields.specs.declared.field.Subset.{Subset};
+ghost use Rattle.bufr_data.specs.Chosen.{chosen};
 ghost use Rattle.bufr_data.specs.Data.{subsets_in};
 ghost use Rattle.bufr_data.specs.Kept.{AreKept};
 ghost use Rattle.bufr_sections.specs.declared.message.Decoded.{Decoded};
@@ -27,7 +28,7 @@ use crate::report::{Report, report_with};
 use bufr_base::{Failure, Items, OutOfMemory};
 use bufr_bits::{BitReader, BitSink};
 use bufr_data::laws::data_hold_subsets;
-use bufr_data::{DataFault, DataTemplate, Fields, Kept, Subset, SubsetIndex};
+use bufr_data::{ChosenFields, DataFault, DataTemplate, Fields, Kept, Subset, SubsetIndex};
 use bufr_sections::{
     Decoded, Envelope, Head, LentSections, Message, Refused, are_bare, read_sections,
 };
@@ -128,6 +129,18 @@ impl<'a> View<'a> {
             slice_get self.now.message.subsets index ≡ Some (record { fields = fields })) }
     {
         self.subsets.fields(alloc, index)
+    }
+
+    /// Returns the chosen fields of the subset at an index, from 0: those of the elements in the
+    /// list. `None` unless the list is that of the message's reader, and these fields have known
+    /// places. Takes no memory.
+    #[inline(always)]
+    pub fn chosen(&self, asked: &[u16], index: usize) -> Option<ChosenFields<'_>>
+        requires { index < length self.now.message.subsets }
+        ensures { IfSome result (λ fields. IfSome (slice_get self.now.message.subsets index) (λ s.
+            fields ≡ chosen asked.now s.fields)) }
+    {
+        self.subsets.chosen(asked, index)
     }
 
     /// Builds the report of this number, from 1.
@@ -269,6 +282,7 @@ fn all_subsets(alloc: Global, subsets: &SubsetIndex<'_>) -> Result<Items<Subset>
 pub(crate) fn view_keeping<'a>(
     alloc: Global,
     tables: &Tables,
+    asked: &[u16],
     kept: &mut Vec<Kept>,
     octets: &'a [u8],
 ) -> Result<View<'a>, Failure<Refused>>
@@ -278,7 +292,7 @@ pub(crate) fn view_keeping<'a>(
 {
     let sections = read_sections(alloc, octets)?;
     bring_to_front(alloc, tables, kept, sections.listed)?;
-    view_in(alloc, &mut kept[0], octets, sections)
+    view_in(alloc, asked, &mut kept[0], octets, sections)
 }
 
 /// Judges the message that octets spell, and puts its list of descriptors first.
@@ -308,7 +322,7 @@ fn judge_in(
         (result_map judged (message_under kept.old.template (envelope sections.now))) }
     ensures same { kept.new ≡ kept.old }
 {
-    let (subsets, slack_octets) = subsets_of(alloc, kept, sections)?;
+    let (subsets, slack_octets) = subsets_of(alloc, &[], kept, sections)?;
     Ok(Judged {
         subsets: subsets.count() as u64,
         slack_octets,
@@ -318,8 +332,9 @@ fn judge_in(
 /// Views the message of sections, with their template.
 // A call would copy the sections once more.
 #[inline(always)]
-fn view_in<'a>(
+pub(crate) fn view_in<'a>(
     alloc: Global,
+    asked: &[u16],
     kept: &mut Kept,
     octets: &'a [u8],
     sections: Envelope<'a>,
@@ -332,7 +347,7 @@ fn view_in<'a>(
 {
     sections_are_spelt();
     let descriptors = kept.descriptors.clone()?;
-    let (subsets, slack_octets) = subsets_of(alloc, kept, &sections)?;
+    let (subsets, slack_octets) = subsets_of(alloc, asked, kept, &sections)?;
     Ok(View {
         octets,
         sections,
@@ -346,6 +361,7 @@ fn view_in<'a>(
 #[inline(always)]
 fn subsets_of<'a>(
     alloc: Global,
+    asked: &[u16],
     kept: &mut Kept,
     sections: &Envelope<'a>,
 ) -> Result<(SubsetIndex<'a>, u64), Failure<Refused>>
@@ -357,7 +373,7 @@ fn subsets_of<'a>(
     ensures count { IfOk result (λ x. length x.0 ≡ sections.now.count) }
     ensures same { kept.new ≡ kept.old }
 {
-    let (subsets, slack_octets) = index_of(alloc, &mut kept.template, sections)?;
+    let (subsets, slack_octets) = index_of(alloc, asked, &mut kept.template, sections)?;
     let there = 8 * sections.contents.len() as u128;
     if !can_be_alone(alloc, kept.descriptors.as_slice(), there, &subsets)? {
         return Err(Failure::Fault(Refused::Data(DataFault::TooLarge)));
@@ -368,6 +384,7 @@ fn subsets_of<'a>(
 #[inline(always)]
 fn index_of<'a>(
     alloc: Global,
+    asked: &[u16],
     template: &mut DataTemplate,
     sections: &Envelope<'a>,
 ) -> Result<(SubsetIndex<'a>, u64), Failure<Refused>>
@@ -383,7 +400,8 @@ fn index_of<'a>(
 {
     data_hold_subsets();
     let mut reader = BitReader::new(sections.contents);
-    match template.index(alloc, sections.compressed, &mut reader, sections.count) {
+    let compressed = sections.compressed;
+    match template.index_for(alloc, asked, compressed, &mut reader, sections.count) {
         Ok(subsets) => Ok((subsets, (reader.left() / 8) as u64)),
         Err(failure) => Err(failure.map(Refused::Data)),
     }

@@ -21,6 +21,7 @@ use std::marker::Model;
 #[derive(Drop)]
 pub struct MessageReader<'t> {
     tables: &'t Tables,
+    asked: &'t [u16],
     kept: Vec<Kept>,
 }
 
@@ -40,8 +41,17 @@ impl<'t> MessageReader<'t> {
     pub fn new(alloc: Global, tables: &'t Tables) -> MessageReader<'t>
         ensures { result ≡ tables.now }
     {
+        MessageReader::for_elements(alloc, tables, &[])
+    }
+
+    /// Starts without a template. It finds the places of the fields of some elements, given by the
+    /// 16 bits of their descriptors, for `View::chosen`.
+    pub fn for_elements(alloc: Global, tables: &'t Tables, asked: &'t [u16]) -> MessageReader<'t>
+        ensures { result ≡ tables.now }
+    {
         MessageReader {
             tables,
+            asked,
             kept: Vec::new(alloc),
         }
     }
@@ -67,7 +77,7 @@ impl<'t> MessageReader<'t> {
         ensures exact { Gives (λ d. d) result (message_of self.old octets.now) }
     {
         messages_are_spelt();
-        view_keeping(alloc, self.tables, &mut self.kept, octets)
+        view_keeping(alloc, self.tables, self.asked, &mut self.kept, octets)
     }
 
     /// Judges the message that octets spell, or refuses them as `view` does.

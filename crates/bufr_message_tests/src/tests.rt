@@ -1,5 +1,6 @@
 //! Reads, views and writes messages, their reports, sections and listings.
 
+mod chosen;
 mod listed;
 mod listing;
 mod long;

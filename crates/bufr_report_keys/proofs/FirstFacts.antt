@@ -4,11 +4,12 @@ use Rattle.std.proofs.Common.{◌≡◌, ℕ, ◌==◌, Bool, true, false, List,
 use Rattle.std.proofs.Common.{None, refl, sym, ap, subst, ◌∙◌, append_assoc, cond, length, drop}
 use Rattle.std.proofs.Common.{slice_index_or, ◌+◌, ◌<◌, ◌≤◌}
 use Rattle.std.specs.Option.{option_map, option_or, option_flatten}
-use Rattle.std.proofs.lemmas.Bool.{eqb-true}
+use Rattle.std.proofs.lemmas.Bool.{eqb-false, eqb-true, or_parts}
 use Rattle.std.proofs.lemmas.List.{append-nil, drop_all, drop_more}
 use Rattle.std.proofs.lemmas.List.Folds.{find-append}
 use Rattle.bufr_fields.specs.declared.field.Field.{Field}
-use Rattle.bufr_data.specs.Handed.{HandsOutAsked, NoneAsked, PassesUnasked}
+use Rattle.bufr_data.specs.Chosen.{chosen, is_listed}
+use Rattle.bufr_data.specs.Handed.{HandsOut, HandsOutAsked, NoneAsked, PassesUnasked}
 use Rattle.bufr_message.specs.declared.report.ReportHead.{ReportHead}
 use Rattle.bufr_report_keys.specs.declared.first_values.FirstValues.{FirstValues}
 use Rattle.bufr_report_keys.specs.declared.elements.TheConstants.{BLOCK_NUMBER, STATION_NUMBER}
@@ -19,7 +20,7 @@ use Rattle.bufr_report_keys.specs.declared.elements.TheConstants.{MONTH, DAY, HO
 use Rattle.bufr_report_keys.specs.Usable.{◌>>=◌, first_field, element_number, element_text}
 use Rattle.bufr_report_keys.specs.Usable.{usable_number, usable_text}
 use Rattle.bufr_report_keys.specs.Keys.{station, moment, key}
-use Rattle.bufr_report_keys.specs.Asked.{is_asked}
+use Rattle.bufr_report_keys.specs.Asked.{elements, is_asked}
 use Rattle.bufr_report_keys.specs.FirstValues.{first_number, first_text, first_values, known, noted}
 use Rattle.bufr_report_keys.specs.FirstValues.{all_noted, station_of, moment_of, key_of}
 
@@ -151,6 +152,82 @@ unfolding all_noted
 none_left old new (Some f) values handed none = absurd (none f refl)
 none_left old new None values handed none =
     ap (λ fields. all_noted fields values) (sym (append-nil old)) ∙ passed old [] values handed.0
+
+-- ---- fields of keys alone
+
+pub handed_noted : (old new : List Field) (f : Field) (values : FirstValues)
+    → HandsOut old (Some f) new → all_noted old values ≡ all_noted new (noted f values)
+unfolding all_noted
+handed_noted old new f values handed = ap (λ fields. all_noted fields values) handed
+
+pub none_handed : (old new : List Field) (found : Option Field) (values : FirstValues)
+    → HandsOut old found new → ((f : Field) → found ≡ Some f → ⊥)
+    → all_noted old values ≡ values
+unfolding all_noted
+none_handed old new (Some f) values handed none = absurd (none f refl)
+none_handed old new None values handed none =
+    ap (λ fields. all_noted fields values) handed.0
+
+-- a test with its sides exchanged
+other_side : (a b : ℕ) → (a == b) ≡ false → (b == a) ≡ false
+other_side a b differ = by_test (b == a) refl
+  where
+    by_test : (is : Bool) → (b == a) ≡ is → is ≡ false
+    by_test false h = refl
+    by_test true h = absurd (eqb-false a b differ (sym (eqb-true b a h)))
+
+-- an element that is in no list of elements of keys
+not_listed : (f : Field) (values : FirstValues) → is_listed elements f.fxy ≡ false
+    → noted f values ≡ values
+not_listed f values unlisted =
+    let n = Some (usable_number f) in
+    let t = Some (usable_text f) in
+    let a = or_parts _ _ unlisted in
+    let b = or_parts _ _ a.1 in
+    let c = or_parts _ _ b.1 in
+    let d = or_parts _ _ c.1 in
+    let e = or_parts _ _ d.1 in
+    let g = or_parts _ _ e.1 in
+    let h = or_parts _ _ g.1 in
+    let i = or_parts _ _ h.1 in
+    let j = or_parts _ _ i.1 in
+    let k = or_parts _ _ j.1 in
+    let l = or_parts _ _ k.1 in
+    let m = or_parts _ _ l.1 in
+    let o = or_parts _ _ m.1 in
+    rw (
+      by_other (f.fxy == BLOCK_NUMBER) values.block n (other_side BLOCK_NUMBER f.fxy a.0),
+      by_other (f.fxy == STATION_NUMBER) values.station n (other_side STATION_NUMBER f.fxy b.0),
+      by_other (f.fxy == MOBILE_IDENTIFIER) values.mobile t (other_side MOBILE_IDENTIFIER f.fxy c.0),
+      by_other (f.fxy == WIGOS_SERIES) values.series n (other_side WIGOS_SERIES f.fxy d.0),
+      by_other (f.fxy == WIGOS_ISSUER) values.issuer n (other_side WIGOS_ISSUER f.fxy e.0),
+      by_other (f.fxy == WIGOS_ISSUE_NUMBER) values.issue n (other_side WIGOS_ISSUE_NUMBER f.fxy g.0),
+      by_other (f.fxy == WIGOS_LOCAL_IDENTIFIER) values.local t (other_side WIGOS_LOCAL_IDENTIFIER f.fxy h.0),
+      by_other (f.fxy == YEAR) values.year n (other_side YEAR f.fxy i.0),
+      by_other (f.fxy == MONTH) values.month n (other_side MONTH f.fxy j.0),
+      by_other (f.fxy == DAY) values.day n (other_side DAY f.fxy k.0),
+      by_other (f.fxy == HOUR) values.hour n (other_side HOUR f.fxy l.0),
+      by_other (f.fxy == MINUTE) values.minute n (other_side MINUTE f.fxy m.0),
+      by_other (f.fxy == SECOND) values.second n (other_side SECOND f.fxy o.0),
+    ) refl
+
+one_chosen : (listed : Bool) (f : Field) (left all : List Field) (values : FirstValues)
+    → is_listed elements f.fxy ≡ listed
+    → ((vs : FirstValues) → all_noted left vs ≡ all_noted all vs)
+    → all_noted (cond listed (f ∷ left) left) values ≡ all_noted (f ∷ all) values
+unfolding all_noted
+one_chosen true f left all values is same = same (noted f values)
+one_chosen false f left all values is same =
+    same values ∙ ap (all_noted all) (sym (not_listed f values is))
+
+-- the fields of keys say what all fields do
+pub chosen_noted : (fields : List Field) (values : FirstValues)
+    → all_noted (chosen elements fields) values ≡ all_noted fields values
+unfolding all_noted
+chosen_noted [] values = refl
+chosen_noted (f ∷ fields) values =
+    one_chosen _ f (chosen elements fields) fields values refl
+    (λ vs. chosen_noted fields vs)
 
 -- ---- one field of a list
 

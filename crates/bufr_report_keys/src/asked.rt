@@ -9,7 +9,7 @@ use crate::elements::{
 };
 use crate::first_values::FirstValues;
 use bufr_base::{Items, OutOfMemory};
-use bufr_data::{Asks, Field, Fields, Raw};
+use bufr_data::{Asks, ChosenFields, Field, Fields, Raw};
 use bufr_tables::Fxy;
 use std::alloc::Global;
 
@@ -45,6 +45,26 @@ pub(crate) fn note_handed(
         if let Some(number) = fields.next_asked_number(&KeyElements) {
             values.note_number(number);
         } else if let Some(field) = fields.next_asked(alloc, &KeyElements)? {
+            values.note(field);
+        } else {
+            return Ok(());
+        }
+    }
+}
+
+/// Notes the fields that are left of those of keys.
+#[inline(always)]
+pub(crate) fn note_chosen(
+    alloc: Global,
+    mut fields: ChosenFields<'_>,
+    values: &mut FirstValues,
+) -> Result<(), OutOfMemory>
+    ensures { OnOk result (values.new ≡ all_noted fields.entry values.old) }
+{
+    loop {
+        if let Some(number) = fields.next_number() {
+            values.note_number(number);
+        } else if let Some(field) = fields.next(alloc)? {
             values.note(field);
         } else {
             return Ok(());

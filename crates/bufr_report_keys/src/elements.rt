@@ -1,6 +1,9 @@
 //! The elements of Table B that say a station or a time, as descriptors of 16 bits. The definitions
 //! cite them by these names, and `worked_values` pins each.
 
+ghost use Rattle.std.specs.Prelude.{◌≡◌};
+ghost use Rattle.bufr_report_keys.specs.Asked.{elements};
+
 /// WMO block number, 001001.
 pub(crate) const BLOCK_NUMBER: u16 = 0x0101;
 /// WMO station number, 001002.
@@ -27,3 +30,26 @@ pub(crate) const HOUR: u16 = 0x0404;
 pub(crate) const MINUTE: u16 = 0x0405;
 /// Second, 004006.
 pub(crate) const SECOND: u16 = 0x0406;
+
+static KEY_ELEMENTS: [u16; 13] = [
+    BLOCK_NUMBER,
+    STATION_NUMBER,
+    MOBILE_IDENTIFIER,
+    WIGOS_SERIES,
+    WIGOS_ISSUER,
+    WIGOS_ISSUE_NUMBER,
+    WIGOS_LOCAL_IDENTIFIER,
+    YEAR,
+    MONTH,
+    DAY,
+    HOUR,
+    MINUTE,
+    SECOND,
+];
+
+/// Returns the elements of keys, as the 16 bits of their descriptors.
+pub fn key_elements() -> &'static [u16]
+    ensures { result.now ≡ elements }
+{
+    &KEY_ELEMENTS
+}

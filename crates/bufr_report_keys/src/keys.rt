@@ -1,16 +1,21 @@
 //! The key of a report, by its head and fields.
-ghost use Rattle.std.specs.Prelude.{◌≡◌, IfOk};
+ghost use Rattle.std.specs.Prelude.{◌≡◌, ◌<◌, IfOk, List, Some, length, slice_get};
+ghost use Rattle.bufr_fields.specs.declared.field.Field.{Field as AField};
+ghost use Rattle.bufr_fields.specs.declared.field.Subset.{Subset};
+ghost use Rattle.bufr_data.specs.Chosen.{chosen};
+ghost use Rattle.bufr_report_keys.specs.Asked.{elements};
 ghost use Rattle.bufr_report_keys.specs.Keys.{key};
 ghost use Rattle.bufr_report_keys.specs.FirstValues.{key_of};
 
-use crate::asked::{note_handed, note_listed};
+use crate::asked::{note_chosen, note_handed, note_listed};
+use crate::elements::key_elements;
 use crate::first_values::FirstValues;
 use crate::moments::moment_of;
 use crate::stations::station_of;
 use bufr_base::OutOfMemory;
-use bufr_data::{Field, Fields};
+use bufr_data::{ChosenFields, Field, Fields};
 use bufr_entries::{FrontHead, Key, PackedSlot};
-use bufr_message::ReportHead;
+use bufr_message::{ReportHead, View};
 use std::alloc::Global;
 
 /// Makes the key of a report with this head and these fields. Returns none if the fields have no
@@ -52,6 +57,40 @@ pub fn slot_of_fields(
 {
     let mut values = FirstValues::none();
     note_handed(alloc, fields, &mut values)?;
+    slot_of(alloc, head, &mut values)
+}
+
+/// Makes the slot of a message's report at an index, from 0, as `slot_of_fields` does. It reads the
+/// fields of keys at their known places, if the reader of the message found these.
+pub fn slot_in(
+    alloc: Global,
+    head: &ReportHead,
+    view: &View<'_>,
+    index: usize,
+) -> Result<PackedSlot, OutOfMemory>
+    requires { index < length view.now.message.subsets }
+    ensures { IfOk result (λ slot. (s : Subset)
+        → slice_get view.now.message.subsets index ≡ Some s
+        → slot ≡ record { key = key head.now s.fields; update = head.now.update }) }
+{
+    if let Some(fields) = view.chosen(key_elements(), index) {
+        return slot_of_chosen(alloc, head, fields);
+    }
+    let fields = view.fields(alloc, index)?;
+    slot_of_fields(alloc, head, fields)
+}
+
+/// Makes the slot by the chosen fields, which are those of keys.
+fn slot_of_chosen(
+    alloc: Global,
+    head: &ReportHead,
+    fields: ChosenFields<'_>,
+) -> Result<PackedSlot, OutOfMemory>
+    ensures { IfOk result (λ slot. (all : List AField) → fields.entry ≡ chosen elements all
+        → slot ≡ record { key = key head.now all; update = head.now.update }) }
+{
+    let mut values = FirstValues::none();
+    note_chosen(alloc, fields, &mut values)?;
     slot_of(alloc, head, &mut values)
 }
 

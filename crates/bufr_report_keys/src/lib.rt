@@ -18,4 +18,5 @@ mod stations;
 mod usable;
 mod worked_values;
 
-pub use keys::{key_in, key_of_fields, slot_of_fields};
+pub use elements::key_elements;
+pub use keys::{key_in, key_of_fields, slot_in, slot_of_fields};

@@ -24,7 +24,7 @@ use Rattle.bufr_data.specs.declared.plain.layout.LaidField.{LaidField}
 use Rattle.bufr_data.specs.declared.plain.layout.Layout.{Layout}
 use Rattle.bufr_data.specs.Plain.{SubsetRead, raw_at, field_then, fields_at}
 use Rattle.bufr_fields.specs.Forms.{number_of}
-use Rattle.bufr_data.specs.Plain.Layouts.{laid_course, told_laid, HaveNoCount, IsLaid}
+use Rattle.bufr_data.specs.Plain.Layouts.{laid_course, told_laid, HaveNoCount, HasPlaces, IsLaid}
 use Rattle.bufr_bits.specs.Bits.{bits}
 use Rattle.bufr_bits.specs.Ends as ends_of
 use Rattle.bufr_bits.specs.Ends.{BitPlace}
@@ -70,25 +70,30 @@ one_laid c old new fields grown f is goes so_far =
           so_far.no_count a.kind;
     }
 
-pub all_laid : (tree : Tree) (old new : Walk) (layout : Layout)
+pub all_laid : (tree : Tree) (old new : Walk) (fields : List LaidField) (items : ℕ)
+    (layout : Layout)
     → ((tree : Tree) (used : ℕ) (fields : List Told) (met : ℕ)
     → used ≤ most_items → Allows (course tree used) fields met → Unrolls tree used fields met)
     → ((tree : Tree) (used : ℕ) (fields : List Told) (met : ℕ)
     → Unrolls tree used fields met → Allows (course tree used) fields met)
-    → Goes (left old) (Ok steps.End) new → layout.items ≡ items_met new
-    → LaidSoFar (course tree 0) layout.fields (left old) → IsLaid tree layout
-all_laid tree old new layout unrolled allowed goes met so_far =
+    → Goes (left old) (Ok steps.End) new → items ≡ items_met new
+    → LaidSoFar (course tree 0) fields (left old) → HasPlaces fields items layout
+    → IsLaid tree layout
+all_laid tree old new laid items layout unrolled allowed goes met so_far has =
     let fields = map told_laid layout.fields in
+    let here =
+    subst (λ fs. LaidSoFar (course tree 0) fs (left old)) (sym has.same_fields) so_far in
     let end : left old ≡ ends layout.items =
-    ends_there (left old) new goes ∙ ap ends (sym met) in
+    ends_there (left old) new goes ∙ ap ends (sym met ∙ sym has.same_items) in
     let u =
     unrolled tree 0 fields layout.items (omega arith)
-    (subst (After (course tree 0) fields) end so_far.behind) in
+    (subst (After (course tree 0) fields) end here.behind) in
     record {
-      no_count = so_far.no_count;
+      no_count = here.no_count;
       asked = λ used room.
           let sum : used + layout.items ≡ used + u.1 = omega (arith, u.3) in
           allowed tree used fields (used + layout.items) (u.0, u.1, u.2, sum, room);
+      placed = has.placed;
     }
 
 -- a reading without its number of items
@@ -97,7 +102,7 @@ uncounted (Ok found) = Ok (record found { items = 0 })
 uncounted (Err e) = Err e
 
 -- a field before others
-abbrev with_front : Field → Result SubsetRead DataFault → Result SubsetRead DataFault
+abbrev pub with_front : Field → Result SubsetRead DataFault → Result SubsetRead DataFault
 with_front f o = o >>= λ found. Ok (record found { fields = f ∷ found.fields })
 
 in_front : (f : Field) (one other : Result SubsetRead DataFault) → one ≡ uncounted other
@@ -200,6 +205,10 @@ unfolding fields_at laid_course
 first_there others f reader stand =
     asked_there (laid_course (f ∷ others)) 0 f.fxy f.spec (λ n. laid_course others)
     (ends_of.left reader) refl stand
+
+pub left_moved : (reader : BitPlace) (gap : ℕ)
+    → ends_of.left (moved_on reader gap) ≡ drop gap (ends_of.left reader)
+left_moved reader gap = sym (drop-drop gap reader.place (bits reader.octets))
 
 pub unmoved : (reader : BitPlace) → moved_on reader 0 ≡ reader
 unmoved reader =

@@ -15,6 +15,7 @@ use Rattle.bufr_expand.specs.Limits.{most_items}
 use Rattle.bufr_data.specs.declared.plain.layout.LaidField.{LaidField}
 use Rattle.bufr_data.specs.declared.plain.layout.Layout.{Layout}
 use Rattle.bufr_data.specs.declared.plain.plan.FieldLayout.{FieldLayout}
+use Rattle.bufr_data.specs.Chosen.{placed_from}
 use Rattle.bufr_data.specs.declared.plain.plan.FieldLayout.TheVariants.{Unserved, Served, Laid, Unlaid}
 
 -- the course that asks for these fields, whatever their numbers are
@@ -31,11 +32,18 @@ abbrev pub HaveNoCount : List LaidField → Type 0
 HaveNoCount fields = AllByRecursion (λ f. same_kind f.spec.kind kinds.Count ≡ false) fields
 
 -- every subset of this tree has these fields, none a count, and these items: its course asks for
--- exactly them, if the message has room
+-- exactly them, if the message has room; the chosen fields have their places
 pub record IsLaid (tree : Tree) (layout : Layout) : Type 0 where
   pub no_count : HaveNoCount layout.fields
   pub asked : (used : ℕ) → used + layout.items ≤ most_items
       → Allows (course tree used) (map told_laid layout.fields) (used + layout.items)
+  pub placed : layout.places ≡ placed_from layout.asked 0 layout.fields
+
+-- the layout of these fields and items, with the places of the fields that were asked for
+pub record HasPlaces (fields : List LaidField) (items : ℕ) (layout : Layout) : Type 0 where
+  pub same_fields : layout.fields ≡ fields
+  pub same_items : layout.items ≡ items
+  pub placed : layout.places ≡ placed_from layout.asked 0 layout.fields
 
 -- a known layout is the layout of the tree's subsets
 abbrev pub IsFieldLayout : Tree → FieldLayout → Type 0

@@ -86,7 +86,7 @@ impl<'v> ColumnFields<'v> {
 
     /// Hands out the next field if it is a number.
     #[inline(always)]
-    fn next_number(&mut self) -> Option<NumberField>
+    pub(crate) fn next_number(&mut self) -> Option<NumberField>
         ensures found { IfSome result (λ number.
             HandsOut self.old (Some (as_field number)) self.new) }
         ensures others { IfNone result (self.new ≡ self.old) }

@@ -16,9 +16,11 @@ ghost use Rattle.bufr_data.specs.Compressed.{subset_of, subsets_from};
 ghost use Rattle.bufr_data.specs.Data.{subsets_in};
 ghost use Rattle.bufr_data.specs.Compressed.Indexed.{Ahead, AllOpen, Opens, PassesPlace, column_from};
 ghost use Rattle.bufr_data.specs.Compressed.Indexed.{index_at};
+ghost use Rattle.bufr_data.specs.Chosen.{AreChosen, chosen};
 ghost use Rattle.bufr_fields.specs.Steady.{IsReady, WalkAdvances};
 ghost use Rattle.bufr_data.specs.Subsets.{Extends};
 
+use crate::chosen::is_listed;
 use crate::compressed::fields::ColumnFields;
 use crate::compressed::head::{ColumnHead, head_at, number_under};
 use crate::compressed::pass::{pass_column, pass_factor};
@@ -48,10 +50,19 @@ pub struct Columns<'a> {
     octets: &'a [u8],
     subsets: u16,
     places: Vec<Place>,
+    chosen: ChosenPlaces,
+}
+
+/// The places of the columns of some descriptors.
+#[derive(Drop)]
+pub(crate) struct ChosenPlaces {
+    pub(crate) asked: Items<u16>,
+    pub(crate) places: Vec<Place>,
 }
 
 impl<'a> Model for Columns<'a> {
     ghost use Rattle.std.specs.Prelude.{map};
+    ghost use Rattle.bufr_data.specs.Chosen.{AreChosen};
     ghost use Rattle.bufr_data.specs.Compressed.Indexed.{Indexed, AllOpen, column_from};
 
     ghost Value = { Indexed };
@@ -62,7 +73,8 @@ impl<'a> Model for Columns<'a> {
           map (column_from c.octets.now c.subsets) c.places.items;
     } };
 
-    ghost invariant = { λ c. AllOpen c.octets.now c.subsets c.places.items };
+    ghost invariant = { λ c. AllOpen c.octets.now c.subsets c.places.items
+        × AreChosen c.places.items c.chosen };
 }
 
 impl<'a> Columns<'a> {
@@ -82,13 +94,31 @@ impl<'a> Columns<'a> {
         ensures err { OnErr result (reader.new ≡ reader.old) }
         ensures onward { reader.old.place ≤ reader.new.place }
     {
+        Columns::index_for(alloc, template, &[], reader, subsets)
+    }
+
+    /// Finds the columns like `index`, and which of them have a descriptor that is asked for.
+    pub(crate) fn index_for(
+        alloc: Global,
+        template: &Template,
+        asked: &[u16],
+        reader: &mut BitReader<'a>,
+        subsets: u16,
+    ) -> Result<Columns<'a>, Failure<DataFault>>
+        ensures exact { Gives {Y = Ahead} (λ c. record { index = c; rest = left reader.new }) result
+            (index_at template.now subsets (left reader.old)) }
+        ensures octets { reader.new.octets ≡ reader.old.octets }
+        ensures err { OnErr result (reader.new ≡ reader.old) }
+        ensures onward { reader.old.place ≤ reader.new.place }
+    {
         let place = reader.place();
         let octets = reader.octets();
-        match column_places(alloc, template, reader, subsets) {
-            Ok(places) => Ok(Columns {
+        match places_for(alloc, template, asked, reader, subsets) {
+            Ok((places, chosen)) => Ok(Columns {
                 octets,
                 subsets,
                 places,
+                chosen,
             }),
             Err(failure) => {
                 reader.return_to(place);
@@ -146,6 +176,24 @@ impl<'a> Columns<'a> {
         self.column_fields(index).put(alloc, sink)
     }
 
+    /// Returns the chosen fields of the subset at an index, from 0, if just these descriptors were
+    /// asked for when the columns were found. Takes no memory.
+    pub(crate) fn chosen(&self, asked: &[u16], index: u16) -> Option<ColumnFields<'_>>
+        requires { index < self.now.subsets }
+        ensures { IfSome result (λ fields.
+            fields ≡ chosen asked.now (subset_of self.now.columns index).fields) }
+    {
+        if self.chosen.asked.as_slice() != asked {
+            return None;
+        }
+        Some(ColumnFields {
+            octets: self.octets,
+            subsets: self.subsets,
+            places: self.chosen.places.as_slice(),
+            index,
+        })
+    }
+
     fn column_fields(&self, index: u16) -> ColumnFields<'_>
         requires { index < self.now.subsets }
         ensures { result ≡ (subset_of self.now.columns index).fields }
@@ -157,6 +205,55 @@ impl<'a> Columns<'a> {
             index,
         }
     }
+}
+
+/// Finds the columns and those of the descriptors asked for; after an error the reader may have
+/// moved.
+fn places_for(
+    alloc: Global,
+    template: &Template,
+    asked: &[u16],
+    reader: &mut BitReader,
+    subsets: u16,
+) -> Result<(Vec<Place>, ChosenPlaces), Failure<DataFault>>
+    ensures exact { Gives {Y = Ahead} (λ found. record {
+      index = record {
+        subsets = subsets;
+        columns = map (column_from reader.old.octets subsets) found.0.items;
+      };
+      rest = left reader.new;
+    }) result (index_at template.now subsets (left reader.old)) }
+    ensures stand { IfOk result (λ found. AllOpen reader.old.octets subsets found.0.items) }
+    ensures chosen { IfOk result (λ found. AreChosen found.0.items found.1) }
+    ensures octets { reader.new.octets ≡ reader.old.octets }
+    ensures onward { reader.old.place ≤ reader.new.place }
+{
+    let places = column_places(alloc, template, reader, subsets)?;
+    let chosen = choose_places(alloc, asked, &places)?;
+    Ok((places, chosen))
+}
+
+/// Gathers the places of the columns of the descriptors asked for.
+fn choose_places(
+    alloc: Global,
+    asked: &[u16],
+    places: &[Place],
+) -> Result<ChosenPlaces, OutOfMemory>
+    ensures { IfOk result (AreChosen places.now) }
+{
+    let mut chosen = Vec::new(alloc);
+    let mut left = places;
+    while let Some((place, others)) = left.split_first() {
+        if is_listed(asked, place.fxy) {
+            chosen.push(*place)?;
+        }
+        left = others;
+    }
+    let asked = Vec::from_slice(alloc, asked)?;
+    Ok(ChosenPlaces {
+        asked: Items::from_vec(asked),
+        places: chosen,
+    })
 }
 
 /// Finds the columns; after an error the reader may have moved.

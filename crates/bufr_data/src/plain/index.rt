@@ -7,6 +7,7 @@ ghost use Rattle.bufr_base.specs.Answers.{Gives, Fails};
 ghost use Rattle.bufr_expand.specs.Courses.{course};
 ghost use Rattle.bufr_fields.specs.declared.field.Subset.{Subset};
 ghost use Rattle.bufr_data.specs.Plain.Alike.{IsAlike};
+ghost use Rattle.bufr_data.specs.Chosen.{chosen};
 ghost use Rattle.bufr_data.specs.Data.{subsets_in};
 ghost use Rattle.bufr_data.specs.Plain.{fields_at};
 ghost use Rattle.bufr_data.specs.Plain.Starts.{PassesSubset, AllBegin, subset_from};
@@ -18,6 +19,7 @@ use crate::plain::laid_fields::LaidFields;
 use crate::plain::laid_reader::LaidReader;
 use crate::plain::layout::Layout;
 use crate::plain::pass::pass_subset;
+use crate::plain::placed_fields::PlacedFields;
 use crate::plain::read::FIELDS_WITH_ROOM;
 use crate::plain::read_each::of_subset;
 use crate::plain::starts::{Spacing, Starts};
@@ -99,6 +101,31 @@ impl<'a> PlainSubsets<'a> {
                     room,
                 })
             }
+        }
+    }
+}
+
+impl<'a> PlainSubsets<'a> {
+    /// Returns the chosen fields of the subset at an index, from 0, if the layout has the places of
+    /// just these descriptors. Takes no memory.
+    #[inline(always)]
+    pub(crate) fn chosen(&self, asked: &[u16], index: usize) -> Option<PlacedFields<'_>>
+        requires { index < length self.now }
+        ensures { IfSome result (λ fields. IfSome (slice_get self.now index) (λ s.
+            fields ≡ chosen asked.now s.fields)) }
+    {
+        let start = self.starts.at(index);
+        match &self.layout {
+            Some(layout)
+                if self.octets.len() <= MOST_COUNTED_OCTETS
+                    && layout.has_room(start.used)
+                    && layout.asked.as_slice() == asked => {
+                let first = start.bit as u64;
+                let reader = LaidReader::at(self.octets, first);
+                let places = layout.places.as_slice();
+                Some(PlacedFields { places, reader })
+            }
+            _ => None,
         }
     }
 }

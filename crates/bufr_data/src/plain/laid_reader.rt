@@ -1,6 +1,6 @@
 //! Reads the bits of fields with a layout.
 
-ghost use Rattle.std.specs.Prelude.{◌≡◌, ◌+◌, ◌*◌, ◌^◌, ◌<◌, ◌≤◌, length, Bool, List, Ok};
+ghost use Rattle.std.specs.Prelude.{◌≡◌, ◌+◌, ◌*◌, ◌^◌, ◌<◌, ◌≤◌, drop, length, Bool, List, Ok};
 ghost use Rattle.std.specs.Prelude.{IsOk, IfSome, IfNone, OnErr};
 ghost use Rattle.bufr_base.specs.Answers.{Gives};
 ghost use Rattle.bufr_bits.specs.Ends.{left};
@@ -93,6 +93,49 @@ impl<'a> LaidReader<'a> {
                 Some(number)
             }
         }
+    }
+
+    /// Takes a number that is there after `gap` bits; at a text returns `None` without moving.
+    #[inline(always)]
+    pub(crate) fn number_after(&mut self, gap: u64, spec: Spec) -> Option<u64>
+        requires within { gap ≤ length (left self.old) }
+        requires there { IsOk (raw_or_ends 1 1 (raw_at spec (drop gap (left self.old)))) }
+        ensures found { IfSome result (λ number. raw_or_ends 1 1
+            (raw_at spec (drop gap (left self.old))) ≡ Ok (Number number, left self.new)) }
+        ensures unmoved { IfNone result (self.new ≡ self.old) }
+    {
+        match spec.kind {
+            Kind::Text => None,
+            _ => {
+                self.move_on(gap);
+                let number = self.here().take_left(spec.width);
+                self.move_on(u64::from(spec.width));
+                Some(number)
+            }
+        }
+    }
+
+    /// Takes a value that is there after `gap` bits.
+    pub(crate) fn raw_after(
+        &mut self,
+        alloc: Global,
+        gap: u64,
+        spec: Spec,
+    ) -> Result<Raw, Failure<DataFault>>
+        requires within { gap ≤ length (left self.old) }
+        requires there { IsOk (raw_or_ends 1 1 (raw_at spec (drop gap (left self.old)))) }
+        ensures exact { Gives {Y = Raw × List Bool} (λ raw. (raw, left self.new)) result
+            (raw_or_ends 1 1 (raw_at spec (drop gap (left self.old)))) }
+        ensures err { OnErr result (self.new ≡ self.old) }
+    {
+        let mut later = LaidReader {
+            octets: self.octets,
+            bit: self.bit,
+        };
+        later.move_on(gap);
+        let raw = later.take_raw(alloc, spec)?;
+        *self = later;
+        Ok(raw)
     }
 
     /// Takes a value that is there.

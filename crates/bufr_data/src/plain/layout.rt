@@ -3,9 +3,10 @@
 ghost use Rattle.std.specs.Prelude.{◌≡◌, ◌+◌, ◌≤◌, IfOk, IfSome};
 ghost use Rattle.std.specs.Bool.{OnTrue};
 ghost use Rattle.bufr_expand.specs.Limits.{most_items};
-ghost use Rattle.bufr_data.specs.Plain.Layouts.{IsLaid, TellsNext};
+ghost use Rattle.bufr_data.specs.Plain.Layouts.{HasPlaces, IsLaid, TellsNext};
 ghost use Rattle.bufr_fields.specs.Steady.{IsReady};
 
+use crate::plain::places::{PlacedField, place_fields};
 use bufr_base::{Items, OutOfMemory};
 use bufr_expand::laws::courses_are_unrollings;
 use bufr_expand::{MOST_ITEMS, Spec, Step, Template, Walk};
@@ -22,17 +23,24 @@ pub(crate) struct LaidField {
     pub(crate) spec: Spec,
 }
 
-/// A layout: the fields of every subset in order, and the number of its items.
+/// A layout: the fields of every subset in order, the number of its items, and the places of the
+/// fields of some descriptors.
 #[derive(Drop)]
 pub(crate) struct Layout {
     pub(crate) fields: Items<LaidField>,
     pub(crate) items: u64,
+    pub(crate) asked: Items<u16>,
+    pub(crate) places: Items<PlacedField>,
 }
 
 impl Layout {
-    /// Walks the template once. `None` if there is a count, a field without a spec, or too many
-    /// fields.
-    pub(crate) fn of(alloc: Global, template: &Template) -> Result<Option<Layout>, OutOfMemory>
+    /// Walks the template once, and places the fields of the descriptors asked for. `None` if there
+    /// is a count, a field without a spec, or too many fields or bits.
+    pub(crate) fn of(
+        alloc: Global,
+        template: &Template,
+        asked: &[u16],
+    ) -> Result<Option<Layout>, OutOfMemory>
         ensures { IfOk result (λ found. IfSome found (IsLaid template.now)) }
     {
         courses_are_unrollings();
@@ -43,8 +51,7 @@ impl Layout {
                 Ok(Some(field)) if fields.len() < MOST_LAID_FIELDS => fields.push(field)?,
                 Ok(None) => {
                     let items = walk.items();
-                    let fields = Items::from_vec(fields);
-                    return Ok(Some(Layout { fields, items }));
+                    return laid_out(alloc, asked, fields, items);
                 }
                 _ => return Ok(None),
             }
@@ -57,6 +64,27 @@ impl Layout {
     {
         used <= MOST_ITEMS && self.items <= MOST_ITEMS - used
     }
+}
+
+/// Makes the layout of these fields and items, if 64 bits can count the bits between its places.
+fn laid_out(
+    alloc: Global,
+    asked: &[u16],
+    fields: Vec<LaidField>,
+    items: u64,
+) -> Result<Option<Layout>, OutOfMemory>
+    ensures { IfOk result (λ found. IfSome found (HasPlaces fields.items items)) }
+{
+    let Some(places) = place_fields(alloc, asked, &fields)? else {
+        return Ok(None);
+    };
+    let asked = Vec::from_slice(alloc, asked)?;
+    Ok(Some(Layout {
+        fields: Items::from_vec(fields),
+        items,
+        asked: Items::from_vec(asked),
+        places: Items::from_vec(places),
+    }))
 }
 
 /// Returns the next field of a walk, `None` at its end, or an error at a count or fault.

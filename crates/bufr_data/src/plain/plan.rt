@@ -23,11 +23,13 @@ pub(crate) enum FieldLayout {
 }
 
 impl FieldLayout {
-    /// Notes a message of `count` subsets and returns the layout, if there is one.
+    /// Notes a message of `count` subsets and returns the layout, if there is one. A new one has the
+    /// places of the descriptors asked for.
     pub(crate) fn serve(
         &mut self,
         alloc: Global,
         template: &Template,
+        asked: &[u16],
         count: u16,
     ) -> Result<Option<Rc<Layout>>, OutOfMemory>
         requires { IsFieldLayout template.now self.old }
@@ -40,7 +42,7 @@ impl FieldLayout {
                 *self = FieldLayout::Served;
                 Ok(None)
             }
-            FieldLayout::Unserved | FieldLayout::Served => self.lay_out(alloc, template),
+            FieldLayout::Unserved | FieldLayout::Served => self.lay_out(alloc, template, asked),
             FieldLayout::Laid(layout) => Ok(Some(layout.clone()?)),
             FieldLayout::Unlaid => Ok(None),
         }
@@ -51,13 +53,14 @@ impl FieldLayout {
         &mut self,
         alloc: Global,
         template: &Template,
+        asked: &[u16],
     ) -> Result<Option<Rc<Layout>>, OutOfMemory>
         requires { IsFieldLayout template.now self.old }
         ensures found { IfOk result (λ found. IfSome found (λ layout.
             IsLaid template.now layout.value)) }
         ensures kept { IsFieldLayout template.now self.new }
     {
-        match Layout::of(alloc, template)? {
+        match Layout::of(alloc, template, asked)? {
             None => {
                 *self = FieldLayout::Unlaid;
                 Ok(None)

@@ -3,7 +3,10 @@
 ghost use Rattle.std.specs.Prelude.{◌==◌};
 
 use super::same;
-use super::samples::{Descriptors, number_of, template, text_of};
+use super::samples::{
+    BETWEEN, BETWEEN_OCTETS, Descriptors, EIGHT_BLOCKS, MIXED, MIXED_COLUMNS, MIXED_PLAIN,
+    number_of, template, text_of,
+};
 use bufr_bits::BitReader;
 use bufr_data::{Asks, DataTemplate, Fields, LaidFields, SubsetIndex};
 use bufr_tables::Fxy;
@@ -29,52 +32,6 @@ const TEMPERATURES: Alone = Alone(0x0C65);
 
 /// Names of stations, 0 01 011.
 const NAMES: Alone = Alone(0x010B);
-
-/// A block, a temperature of 63 bits, a name of 64 bits, two blocks, a station number, a block, and
-/// a temperature.
-const BETWEEN: Descriptors = &[
-    (0, 1, 1),
-    (2, 1, 175),
-    (0, 12, 101),
-    (2, 1, 0),
-    (2, 8, 8),
-    (0, 1, 11),
-    (2, 8, 0),
-    (0, 1, 1),
-    (0, 1, 1),
-    (0, 1, 2),
-    (0, 1, 1),
-    (0, 12, 101),
-];
-
-/// One subset: 10 in seven bits, 2 to the 63rd less 2 in 63, "SHIP1   ", 11 and 12 in seven, 384 in
-/// ten, 127 in seven, and 27315 in 16.
-const BETWEEN_OCTETS: &[u8] = &[
-    0x15, 0xFF, 0xFF, 0xFF, 0xFF, 0xFF, 0xFF, 0xFF, 0xF9, 0x4D, 0x21, 0x25, 0x40, 0xC4, 0x80, 0x80,
-    0x80, 0x58, 0xC6, 0x03, 0xFB, 0x55, 0x98,
-];
-
-const MIXED: Descriptors = &[
-    (0, 2, 1),
-    (0, 12, 101),
-    (2, 8, 2),
-    (0, 1, 11),
-    (0, 12, 101),
-    (0, 1, 1),
-    (0, 12, 101),
-];
-
-/// Two subsets: two bits, 16, "A " or "BC", 16, seven and 16: 1, 27315, 5, 94 and 65535; 2, 1, 2, 3 and 0.
-const MIXED_PLAIN: &[u8] = &[
-    0x5A, 0xAC, 0xD0, 0x48, 0x00, 0x01, 0x6F, 0x7F, 0xFF, 0xC0, 0x00, 0x28, 0x48, 0x60, 0x00, 0x40,
-    0xC0, 0x00, 0x00,
-];
-
-/// The same fields, each a minimum, NBINC, and both increments or texts if there are any.
-const MIXED_COLUMNS: &[u8] = &[
-    0x42, 0x16, 0xAB, 0x30, 0x84, 0x00, 0x00, 0x24, 0x12, 0x04, 0x24, 0x30, 0x00, 0x50, 0x2F, 0x00,
-    0x00, 0x0E, 0x11, 0x00,
-];
 
 /// Compares the numbers of the chosen fields, which are all that is left.
 fn hands_out<A: Asks>(
@@ -292,12 +249,6 @@ fn texts_are_no_numbers(rt: HostRuntime) {
         }
     }
 }
-
-/// Eight subsets of 16 bits and seven: 27301 and 10, 27302 and 20, to 27308 and 80.
-const EIGHT_BLOCKS: &[u8] = &[
-    0x6A, 0xA5, 0x14, 0xD5, 0x4C, 0x51, 0xAA, 0x9C, 0xF3, 0x55, 0x42, 0x86, 0xAA, 0x96, 0x4D, 0x55,
-    0x4F, 0x1A, 0xAA, 0xE3, 0x35, 0x56, 0x50,
-];
 
 /// Compares the last of `count` such subsets in a template's first message.
 fn serves_first(rt: &impl Abort, alloc: Global, count: u16, laid: bool, wanted: [u64; 2]) {

@@ -18,6 +18,58 @@ pub(crate) const TEMPERATURE: Descriptors = &[(0, 12, 101)];
 
 pub(crate) const DELAYED: Descriptors = &[(1, 1, 0), (0, 31, 1), (0, 12, 101)];
 
+/// A block, a temperature of 63 bits, a name of 64 bits, two blocks, a station number, a block, and
+/// a temperature.
+pub(crate) const BETWEEN: Descriptors = &[
+    (0, 1, 1),
+    (2, 1, 175),
+    (0, 12, 101),
+    (2, 1, 0),
+    (2, 8, 8),
+    (0, 1, 11),
+    (2, 8, 0),
+    (0, 1, 1),
+    (0, 1, 1),
+    (0, 1, 2),
+    (0, 1, 1),
+    (0, 12, 101),
+];
+
+/// One subset: 10 in seven bits, 2 to the 63rd less 2 in 63, "SHIP1   ", 11 and 12 in seven, 384 in
+/// ten, 127 in seven, and 27315 in 16.
+pub(crate) const BETWEEN_OCTETS: &[u8] = &[
+    0x15, 0xFF, 0xFF, 0xFF, 0xFF, 0xFF, 0xFF, 0xFF, 0xF9, 0x4D, 0x21, 0x25, 0x40, 0xC4, 0x80, 0x80,
+    0x80, 0x58, 0xC6, 0x03, 0xFB, 0x55, 0x98,
+];
+
+pub(crate) const MIXED: Descriptors = &[
+    (0, 2, 1),
+    (0, 12, 101),
+    (2, 8, 2),
+    (0, 1, 11),
+    (0, 12, 101),
+    (0, 1, 1),
+    (0, 12, 101),
+];
+
+/// Two subsets: two bits, 16, "A " or "BC", 16, seven and 16: 1, 27315, 5, 94 and 65535; 2, 1, 2, 3 and 0.
+pub(crate) const MIXED_PLAIN: &[u8] = &[
+    0x5A, 0xAC, 0xD0, 0x48, 0x00, 0x01, 0x6F, 0x7F, 0xFF, 0xC0, 0x00, 0x28, 0x48, 0x60, 0x00, 0x40,
+    0xC0, 0x00, 0x00,
+];
+
+/// The same fields, each a minimum, NBINC, and both increments or texts if there are any.
+pub(crate) const MIXED_COLUMNS: &[u8] = &[
+    0x42, 0x16, 0xAB, 0x30, 0x84, 0x00, 0x00, 0x24, 0x12, 0x04, 0x24, 0x30, 0x00, 0x50, 0x2F, 0x00,
+    0x00, 0x0E, 0x11, 0x00,
+];
+
+/// Eight subsets of 16 bits and seven: 27301 and 10, 27302 and 20, to 27308 and 80.
+pub(crate) const EIGHT_BLOCKS: &[u8] = &[
+    0x6A, 0xA5, 0x14, 0xD5, 0x4C, 0x51, 0xAA, 0x9C, 0xF3, 0x55, 0x42, 0x86, 0xAA, 0x96, 0x4D, 0x55,
+    0x4F, 0x1A, 0xAA, 0xE3, 0x35, 0x56, 0x50,
+];
+
 /// Elements with their unit, scale, reference value and width.
 const TABLE_B: &[u8] = b"FXY,BUFR_Unit,BUFR_Scale,BUFR_ReferenceValue,BUFR_DataWidth_Bits
 001001,Numeric,0,0,7

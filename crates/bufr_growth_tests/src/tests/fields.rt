@@ -22,14 +22,17 @@ const PLAIN: &[u8] = b"AB\x6A\xB3CDE";
 const PACKED: &[u8] =
     b"\x00\x00\x09\x05\x09\x19\x1D\xAA\xCC\x21\x00\x00\x00\x0D\x0D\x11\x15\x21\x25\x28";
 
-/// The three characters, 205003.
+/// The three characters, 205003, as 16 bits.
+const LAST: u16 = 0x8503;
+
+/// The three characters.
 struct LastText;
 
 impl Asks for LastText {
     ghost is_asked = { λ _ d. d == 34051 };
 
     fn asks(&self, fxy: Fxy) -> bool {
-        fxy.bits() == 0x8503
+        fxy.bits() == LAST
     }
 }
 
@@ -95,6 +98,15 @@ fn hands_out(rt: &impl Abort, alloc: Global, index: &SubsetIndex, laid: bool) {
     }
 }
 
+/// The last text comes at its known place, and no other field.
+fn last_comes_chosen(rt: &impl Abort, alloc: Global, index: &SubsetIndex) {
+    assert!(rt; 0 < index.count());
+    let mut fields = index.chosen(&[LAST], 0).expect(rt, "known places");
+    same(rt, fields.next_number(), None);
+    has_text(rt, repeated!(rt, fields.next(alloc)), b"CDE");
+    same(rt, repeated!(rt, fields.next(alloc)), None);
+}
+
 fn template(rt: &impl Abort, alloc: Global) -> Template {
     let tables = tables(rt, alloc);
     let list = DESCRIPTORS.map(Fxy::from_bits);
@@ -119,13 +131,26 @@ fn come_laid(rt: &impl Abort, alloc: Global) {
         let mut reader = BitReader::new(PLAIN);
         let index = repeated!(
             rt,
-            kept.index(alloc, false, &mut reader, 1),
+            kept.index_for(alloc, &[LAST], false, &mut reader, 1),
             same(rt, reader.place(), 0)
         );
         if message == 1 {
             hands_out(rt, alloc, &index, true);
+            last_comes_chosen(rt, alloc, &index);
         }
     }
+}
+
+/// Reads columns, of which the places of the last are asked for.
+fn come_chosen(rt: &impl Abort, alloc: Global) {
+    let mut kept = DataTemplate::new(template(rt, alloc));
+    let mut reader = BitReader::new(PACKED);
+    let index = repeated!(
+        rt,
+        kept.index_for(alloc, &[LAST], true, &mut reader, 2),
+        same(rt, reader.place(), 0)
+    );
+    last_comes_chosen(rt, alloc, &index);
 }
 
 #[test]
@@ -133,4 +158,5 @@ fn fields_handed_out(rt: HostRuntime) {
     come_unlaid(&rt, rt.alloc(), false, PLAIN, 1);
     come_unlaid(&rt, rt.alloc(), true, PACKED, 2);
     come_laid(&rt, rt.alloc());
+    come_chosen(&rt, rt.alloc());
 }

@@ -1,10 +1,9 @@
 -- Of two places the greater one would be a longer beginning that is a text.
-use Rattle.std.proofs.Common.{◌≡◌, ℕ, ◌<◌, ◌⊎◌, inl, inr, arith, List, length, take, sym, subst}
+use Rattle.std.proofs.Common.{inl, inr, arith, length, sym, subst}
 use Rattle.std.proofs.Math.Nat.{le_of_lt}
 use Rattle.std.proofs.lemmas.Bool.{cases_order}
 use Rattle.std.proofs.lemmas.List.{take_all}
-use Rattle.bufr_tables.specs.Entries.{Entries}
-use Rattle.bufr_gather.specs.ReportTexts.{IsText, BreaksAt}
+use Rattle.bufr_gather.specs.ReportTexts.{IsText}
 use Rattle.bufr_gather.specs.ReportLaws.{BreaksAreSingle, TextsAreWhole}
 use Rattle.bufr_gather.proofs.laws.texts_break_at_one_place.Goals as goal
 

@@ -1,5 +1,7 @@
+use Rattle.bufr_message.proofs.MessageFacts.{spelt_answered}
 use Rattle.bufr_message.proofs.decoding.decode.Goals as goal
 
 pub returns-clause-only : goal.returns-clause-only
-returns-clause-only c = λ m z s.
-    rw c.in_ok-into_decoded.ensures (c.in_ok-view.ensures.only m z s)
+returns-clause-only c =
+    spelt_answered c.messages_are_spelt.ensures.spelt c.args.tables.now c.args.octets.now
+    c.decode_sections.result c.decode_sections.ensures

@@ -2,7 +2,6 @@
 use Rattle.std.proofs.Common.{◌∙◌, ap, sym}
 use Rattle.std.specs.Prelude.{option_map}
 use Rattle.bufr_bits.specs.BitLaws.{some_is}
-use Rattle.bufr_fields.specs.declared.field.Raw.{Raw}
 use Rattle.bufr_fields.specs.declared.field.Raw.TheVariants.{Number}
 use Rattle.bufr_data.proofs.CompressedFacts.Values.{number_is, value_there}
 use Rattle.bufr_data.proofs.compressed.index.number_there.Goals as goal

@@ -1,6 +1,4 @@
-use Rattle.std.proofs.Common.{Option, Some, List, IfSome, IfNone, ◌≡◌, sym, subst, ◌∙◌}
-use Rattle.bufr_fields.specs.declared.field.NumberField.{NumberField}
-use Rattle.bufr_fields.specs.Values.{as_field}
+use Rattle.std.proofs.Common.{sym, subst}
 use Rattle.bufr_data.specs.Handed.{PassesUnasked, FirstIsAsked}
 use Rattle.bufr_data.proofs.AskedFacts.{one_passed, number_handed, number_refused}
 use Rattle.bufr_data.proofs.compressed.fields.ColumnFields.next_asked_number.Goals as goal

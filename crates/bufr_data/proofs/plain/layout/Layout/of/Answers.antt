@@ -1,5 +1,7 @@
 -- Field by field along the walk, until it ends or meets a count.
 use Rattle.std.proofs.Common.{arith}
+use Rattle.std.proofs.lemmas.Option.{IfSome_then}
+use Rattle.std.proofs.lemmas.Result.{IfOk-weaker}
 use Rattle.bufr_fields.specs.StepLaws.{ready_there, field_goes_on}
 use Rattle.bufr_data.proofs.PlainFacts.Layouts.{none_laid, one_laid, all_laid}
 use Rattle.bufr_data.proofs.plain.layout.Layout.of.Goals as goal
@@ -33,7 +35,9 @@ pub returns-in-Ok-None : goal.returns-in-Ok-None
 returns-in-Ok-None c =
     let goes = rw c.in-Ok-None.field-0-is at c.in-Ok-None.ensures in
     let law = c.courses_are_unrollings.ensures in
-    rw c.from_vec-fields.ensures
-    (all_laid c.args.template.now c.loop-field.walk c.next_laid.new.walk
-    (record { fields = c.loop-field.fields.items; items = c.items-items.result }) law.unrolled
-    law.allowed goes c.items-items.ensures c.loop-field.invariant.so_far)
+    IfOk-weaker c.laid_out.result _ _
+    (λ found made. IfSome_then found made
+    (λ layout has. all_laid c.args.template.now c.loop-field.walk c.next_laid.new.walk
+    c.loop-field.fields.items c.items-items.result layout law.unrolled law.allowed goes
+    c.items-items.ensures c.loop-field.invariant.so_far has))
+    c.laid_out.ensures

@@ -1,0 +1,264 @@
+-- The chosen fields of a layout at their places.
+use Rattle.std.proofs.Common.{◌≡◌, ℕ, ◌+◌, ◌*◌, ◌/◌, ◌≤◌, Bool, true, false, cond, List, [], ◌∷◌, ◌++◌}
+use Rattle.std.proofs.Common.{Option, Some, None, Result, Ok, Err, length, drop, refl, sym, ap, subst, ◌∙◌}
+use Rattle.std.proofs.Common.{append_assoc, append-nil, arith}
+use Rattle.std.specs.Prelude.{IsOk, nat_le, nat_lt}
+use Rattle.std.proofs.lemmas.Bool.{le-leb, ltb-true, ltb-false}
+use Rattle.std.proofs.lemmas.List.{drop-drop, length-drop}
+use Rattle.bufr_base.specs.AnswerLaws.{ok_is}
+use Rattle.bufr_bits.specs.Bits.{bits}
+use Rattle.bufr_tables.specs.declared.element.Kind.{Kind}
+use Rattle.bufr_tables.specs.declared.element.Kind.TheVariants as kinds
+use Rattle.bufr_expand.specs.declared.operators.Spec.{Spec}
+use Rattle.bufr_expand.specs.Trees.{Tree}
+use Rattle.bufr_expand.specs.Limits.{most_items}
+use Rattle.bufr_fields.specs.declared.field.Raw.{Raw}
+use Rattle.bufr_fields.specs.declared.field.Field.{Field}
+use Rattle.bufr_fields.specs.declared.fault.DataFault.{DataFault}
+use Rattle.bufr_data.specs.declared.plain.index.SubsetStart.{SubsetStart}
+use Rattle.bufr_data.specs.declared.plain.layout.LaidField.{LaidField}
+use Rattle.bufr_data.specs.declared.plain.layout.Layout.{Layout}
+use Rattle.bufr_data.specs.declared.plain.places.PlacedField.{PlacedField}
+use Rattle.bufr_data.specs.Chosen.{is_listed, chosen, field_size_by, field_size, placed_from}
+use Rattle.bufr_data.specs.Chosen.{placed_then, fields_placed, HoldPlaced}
+use Rattle.bufr_data.specs.Plain.{SubsetRead, raw_at, field_then, fields_at}
+use Rattle.bufr_data.specs.Plain.Layouts.{laid_course, IsLaid}
+use Rattle.bufr_data.specs.Plain.Reads.{raw_or_ends}
+use Rattle.bufr_data.specs.Plain.Starts.{PassesRaw, fields_of, subset_at, BeginsAtStart}
+use Rattle.bufr_data.proofs.PlainFacts.Alike.{text_takes}
+use Rattle.bufr_data.proofs.PlainFacts.Layouts.{with_front, laid_fields}
+use Rattle.bufr_data.proofs.PlainFacts.Passed.{number_has_bits, number_passes}
+use Rattle.bufr_data.proofs.PlainFacts.Reads.{found_is}
+
+-- ---- the bits of a field
+
+pub text_size : (kind : Kind) (width : ℕ) → kind ≡ kinds.Text
+    → field_size_by kind width ≡ 8 * (width / 8)
+text_size kind width is = ap (λ k. field_size_by k width) is
+
+pub number_size : (kind : Kind) (width : ℕ) → (kind ≡ kinds.Text → ⊥) → nat_le width 64 ≡ true
+    → field_size_by kind width ≡ width
+number_size kinds.Text width other few = absurd (other refl)
+number_size kinds.Code width other few = rw few refl
+number_size kinds.Flag width other few = rw few refl
+number_size kinds.Quantity width other few = rw few refl
+number_size kinds.Count width other few = rw few refl
+
+pub wide_size : (kind : Kind) (width : ℕ) → (kind ≡ kinds.Text → ⊥) → nat_le width 64 ≡ false
+    → field_size_by kind width ≡ 0
+wide_size kinds.Text width other wide = absurd (other refl)
+wide_size kinds.Code width other wide = rw wide refl
+wide_size kinds.Flag width other wide = rw wide refl
+wide_size kinds.Quantity width other wide = rw wide refl
+wide_size kinds.Count width other wide = rw wide refl
+
+-- a value that is there takes the bits of its field
+abbrev Takes : Spec → List Bool → Type 0
+Takes spec front =
+    (field_size spec ≤ length front) × PassesRaw 1 spec front (drop (field_size spec) front)
+
+number_takes : (spec : Spec) (front : List Bool) → (spec.kind ≡ kinds.Text → ⊥)
+    → IsOk (raw_or_ends 1 1 (raw_at spec front)) → Takes spec front
+number_takes spec front other ok =
+    let has = number_has_bits spec front other ok in
+    let size : field_size spec ≡ spec.width =
+    number_size spec.kind spec.width other (le-leb spec.width 64 has.narrow) in
+    let enough : field_size spec ≤ length front = omega (arith, size, has.enough) in (
+      enough,
+      number_passes 1 spec front (drop (field_size spec) front) (field_size spec) other has.narrow
+          size enough refl,
+    )
+
+text_there : (short : Bool) (spec : Spec) (front : List Bool) → spec.kind ≡ kinds.Text
+    → nat_lt (length front) (field_size spec) ≡ short
+    → IsOk (raw_or_ends 1 1 (raw_at spec front)) → Takes spec front
+text_there true spec front is less ok =
+    let takes =
+    text_takes spec (field_size spec) (spec.width / 8) is (text_size spec.kind spec.width is) refl in
+    let none = subst IsOk (takes.short 1 front (ltb-true _ _ less)) ok in absurd cc
+text_there false spec front is less ok =
+    let takes =
+    text_takes spec (field_size spec) (spec.width / 8) is (text_size spec.kind spec.width is) refl in
+    let enough : field_size spec ≤ length front = ltb-false _ _ less in
+    (enough, takes.there 1 front enough)
+
+takes_by : (kind : Kind) (spec : Spec) (front : List Bool) → spec.kind ≡ kind
+    → IsOk (raw_or_ends 1 1 (raw_at spec front)) → Takes spec front
+takes_by kinds.Text spec front is ok = text_there _ spec front is refl ok
+takes_by kinds.Code spec front is ok =
+    number_takes spec front (λ text. absurd (let same = sym is ∙ text in cc)) ok
+takes_by kinds.Flag spec front is ok =
+    number_takes spec front (λ text. absurd (let same = sym is ∙ text in cc)) ok
+takes_by kinds.Quantity spec front is ok =
+    number_takes spec front (λ text. absurd (let same = sym is ∙ text in cc)) ok
+takes_by kinds.Count spec front is ok =
+    number_takes spec front (λ text. absurd (let same = sym is ∙ text in cc)) ok
+
+-- the bits after a value
+pub size_taken : (spec : Spec) (front : List Bool) (x : Raw × List Bool) → raw_at spec front ≡ Some x
+    → (field_size spec ≤ length front) × (x.1 ≡ drop (field_size spec) front)
+size_taken spec front x read =
+    let there = ap (raw_or_ends 1 1) read in
+    let takes = takes_by spec.kind spec front refl (subst IsOk (sym there) refl) in
+    (takes.0, ap (λ (y : Raw × List Bool). y.1) (ok_is _ _ (sym there ∙ takes.1.1)))
+
+-- ---- the places of a layout
+
+-- the fields of a subset that are chosen are those at the places
+pub record ArePlaced (list : List ℕ) (places : List PlacedField) (front : List Bool)
+    (whole : Result SubsetRead DataFault) : Type 0 where
+  pub holds : HoldPlaced places front
+  pub are : fields_placed places front ≡ chosen list (fields_of whole)
+
+listed_placed : (list : List ℕ) (gap : ℕ) (f : LaidField) (others : List PlacedField)
+    (front : List Bool) (x : Raw × List Bool) (r : Result SubsetRead DataFault)
+    → is_listed list f.fxy ≡ true → gap ≤ length front → raw_at f.spec (drop gap front) ≡ Some x
+    → IsOk (with_front (record { fxy = f.fxy; spec = f.spec; raw = x.0 }) r)
+    → (IsOk r → ArePlaced list others x.1 r)
+    → ArePlaced list (record { gap = gap; field = f } ∷ others) front
+    (with_front (record { fxy = f.fxy; spec = f.spec; raw = x.0 }) r)
+listed_placed list gap f others front x (Ok found) listed within read ok after =
+    let h = after refl in
+    let field : Field = record { fxy = f.fxy; spec = f.spec; raw = x.0 } in
+    record {
+      holds = (within, x, read, h.holds);
+      are = ap (placed_then f (fields_placed others)) read ∙ ap (λ fs. field ∷ fs) h.are
+          ∙ sym (ap (λ b. cond b (field ∷ chosen list found.fields) (chosen list found.fields)) listed);
+    }
+listed_placed list gap f others front x (Err e) listed within read ok after = absurd cc
+
+unlisted_placed : (list : List ℕ) (places : List PlacedField) (front : List Bool) (f : Field)
+    (r : Result SubsetRead DataFault) → is_listed list f.fxy ≡ false → IsOk (with_front f r)
+    → (IsOk r → ArePlaced list places front r) → ArePlaced list places front (with_front f r)
+unlisted_placed list places front f (Ok found) listed ok after =
+    let h = after refl in
+    record {
+      holds = h.holds;
+      are = h.are
+          ∙ sym (ap (λ b. cond b (f ∷ chosen list found.fields) (chosen list found.fields)) listed);
+    }
+unlisted_placed list places front f (Err e) listed ok after = absurd cc
+
+-- the fields after one of a layout
+abbrev Later : List LaidField → ℕ → List Bool → Result SubsetRead DataFault
+Later fields i front = fields_at 1 (i + 1) (laid_course fields) front
+
+field_placed : (listed : Bool) (list : List ℕ) (gap : ℕ) (f : LaidField) (fields : List LaidField)
+    (i : ℕ) (front : List Bool) (o : Option (Raw × List Bool)) → is_listed list f.fxy ≡ listed
+    → raw_at f.spec (drop gap front) ≡ o → gap ≤ length front
+    → IsOk (field_then 1 i f.fxy f.spec (λ n rest. Later fields i rest) o)
+    → ((g : ℕ) (bs : List Bool) → g ≤ length bs → IsOk (Later fields i (drop g bs))
+    → ArePlaced list (placed_from list g fields) bs (Later fields i (drop g bs)))
+    → ArePlaced list
+    (cond listed (record { gap = gap; field = f } ∷ placed_from list 0 fields)
+    (placed_from list (gap + field_size f.spec) fields)) front
+    (field_then 1 i f.fxy f.spec (λ n rest. Later fields i rest) o)
+field_placed listed list gap f fields i front None is read within ok after = absurd cc
+field_placed true list gap f fields i front (Some x) is read within ok after =
+    listed_placed list gap f (placed_from list 0 fields) front x (Later fields i x.1) is within
+    read ok (λ there. after 0 x.1 (omega arith) there)
+field_placed false list gap f fields i front (Some x) is read within ok after =
+    let taken = size_taken f.spec (drop gap front) x read in
+    let more = gap + field_size f.spec in
+    let behind : drop more front ≡ x.1 = sym (taken.1 ∙ drop-drop (field_size f.spec) gap front) in
+    unlisted_placed list (placed_from list more fields) front
+    (record { fxy = f.fxy; spec = f.spec; raw = x.0 }) (Later fields i x.1) is ok
+    (λ there.
+    subst (λ bs. ArePlaced list (placed_from list more fields) front (Later fields i bs)) behind
+    (after more front (omega (arith, within, taken.0, length-drop gap front))
+    (subst (λ bs. IsOk (Later fields i bs)) (sym behind) there)))
+
+pub places_hold : (list : List ℕ) (gap : ℕ) (fields : List LaidField) (i : ℕ) (front : List Bool)
+    → gap ≤ length front → IsOk (fields_at 1 i (laid_course fields) (drop gap front))
+    → ArePlaced list (placed_from list gap fields) front
+    (fields_at 1 i (laid_course fields) (drop gap front))
+unfolding fields_at laid_course
+places_hold list gap [] i front within ok = record { holds = tt; are = refl }
+places_hold list gap (f ∷ fields) i front within ok =
+    field_placed _ list gap f fields i front _ refl refl within ok
+    (λ g bs short there. places_hold list g fields (i + 1) bs short there)
+
+-- the chosen fields of the subset at a start
+pub placed_here : (octets : List ℕ) (tree : Tree) (s : SubsetStart) (kept one two three : Layout)
+    (asked : List ℕ) → one ≡ kept → two ≡ kept → three ≡ kept → IsLaid tree kept
+    → s.used + one.items ≤ most_items → BeginsAtStart octets tree s → two.asked ≡ asked
+    → ArePlaced asked three.places (drop s.bit (bits octets)) (subset_at octets tree s)
+placed_here octets tree s kept one two three asked same_one same_two same_three laid room begins is =
+    let front = drop s.bit (bits octets) in
+    let same =
+    laid_fields tree kept s.used front laid
+    (subst (λ (l : Layout). s.used + l.items ≤ most_items) same_one room) begins.1 in
+    let held = places_hold asked 0 kept.fields 1 front (omega arith) same.there in
+    let list : kept.asked ≡ asked = ap (λ (l : Layout). l.asked) (sym same_two) ∙ is in
+    let places : three.places ≡ placed_from asked 0 kept.fields =
+    ap (λ (l : Layout). l.places) same_three ∙ laid.placed
+    ∙ ap (λ ds. placed_from ds 0 kept.fields) list in
+    subst (λ ps. ArePlaced asked ps front (subset_at octets tree s)) (sym places) (record {
+      holds = held.holds;
+      are = held.are ∙ ap (chosen asked) same.are;
+    })
+
+-- ---- one place after another
+
+pub placed_there : (places others : List PlacedField) (p : PlacedField) (front : List Bool)
+    → places ≡ p ∷ others → HoldPlaced places front
+    → (p.gap ≤ length front) × IsOk (raw_or_ends 1 1 (raw_at p.field.spec (drop p.gap front)))
+placed_there places others p front is holds =
+    let here = subst (λ ps. HoldPlaced ps front) is holds in
+    (here.0, subst IsOk (sym (ap (raw_or_ends 1 1) here.2)) refl)
+
+pub placed_handed : (places others : List PlacedField) (p : PlacedField) (front rest : List Bool)
+    (raw : Raw) → places ≡ p ∷ others → HoldPlaced places front
+    → raw_or_ends 1 1 (raw_at p.field.spec (drop p.gap front)) ≡ Ok (raw, rest)
+    → HoldPlaced others rest
+    × (fields_placed places front
+    ≡ record { fxy = p.field.fxy; spec = p.field.spec; raw = raw } ∷ fields_placed others rest)
+placed_handed places others p front rest raw is holds read =
+    let here = subst (λ ps. HoldPlaced ps front) is holds in
+    let found : raw_at p.field.spec (drop p.gap front) ≡ Some (raw, rest) = found_is 1 1 _ _ read in
+    let same : here.1 ≡ (raw, rest) = ok_is _ _ (sym (ap (raw_or_ends 1 1) here.2) ∙ read) in (
+      subst (HoldPlaced others) (ap (λ (x : Raw × List Bool). x.1) same) here.3,
+      ap (λ ps. fields_placed ps front) is
+          ∙ ap (placed_then p.field (fields_placed others)) found,
+    )
+
+pub none_placed : (places : List PlacedField) (front : List Bool) → length places ≡ 0
+    → fields_placed places front ≡ []
+none_placed [] front is = refl
+none_placed (p ∷ places) front is = absurd (omega (arith, is))
+
+-- ---- the places found
+
+-- the places of the fields so far, and those of the fields left
+abbrev pub PlacedSoFar : List ℕ → List LaidField → List PlacedField → ℕ → List LaidField → Type 0
+PlacedSoFar list all places gap left = placed_from list 0 all ≡ places ++ placed_from list gap left
+
+pub one_placed : (list : List ℕ) (all left others : List LaidField) (f : LaidField)
+    (places grown : List PlacedField) (gap : ℕ) → left ≡ f ∷ others → is_listed list f.fxy ≡ true
+    → grown ≡ places ++ record { gap = gap; field = f } ∷ []
+    → PlacedSoFar list all places gap left → PlacedSoFar list all grown 0 others
+one_placed list all left others f places grown gap is listed more so_far =
+    let place : PlacedField = record { gap = gap; field = f } in
+    let next : placed_from list gap (f ∷ others) ≡ place ∷ placed_from list 0 others =
+    ap (λ b. cond b (place ∷ placed_from list 0 others)
+    (placed_from list (gap + field_size f.spec) others)) listed in
+    so_far ∙ ap (λ fs. places ++ placed_from list gap fs) is ∙ ap (λ ps. places ++ ps) next
+    ∙ sym (append_assoc places (place ∷ []) (placed_from list 0 others))
+    ∙ ap (λ ps. ps ++ placed_from list 0 others) (sym more)
+
+pub none_more_placed : (list : List ℕ) (all left others : List LaidField) (f : LaidField)
+    (places : List PlacedField) (gap more : ℕ) → left ≡ f ∷ others
+    → is_listed list f.fxy ≡ false → more ≡ gap + field_size f.spec
+    → PlacedSoFar list all places gap left → PlacedSoFar list all places more others
+none_more_placed list all left others f places gap more is listed sum so_far =
+    let place : PlacedField = record { gap = gap; field = f } in
+    let next : placed_from list gap (f ∷ others) ≡ placed_from list (gap + field_size f.spec) others =
+    ap (λ b. cond b (place ∷ placed_from list 0 others)
+    (placed_from list (gap + field_size f.spec) others)) listed in
+    so_far ∙ ap (λ fs. places ++ placed_from list gap fs) is ∙ ap (λ ps. places ++ ps) next
+    ∙ ap (λ n. places ++ placed_from list n others) (sym sum)
+
+pub all_placed : (list : List ℕ) (all left : List LaidField) (places : List PlacedField) (gap : ℕ)
+    → length left ≡ 0 → PlacedSoFar list all places gap left → places ≡ placed_from list 0 all
+all_placed list all [] places gap is so_far = sym (so_far ∙ append-nil places)
+all_placed list all (f ∷ left) places gap is so_far = absurd (omega (arith, is))

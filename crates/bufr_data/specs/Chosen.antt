@@ -1,0 +1,69 @@
+-- Chosen fields: those of the descriptors in a list, which a reader of messages gets beforehand.
+use Rattle.std.specs.Prelude.{◌≡◌, ℕ, ◌+◌, ◌*◌, ◌/◌, ◌==◌, ◌≤◌, Bool, List, [], ◌∷◌, drop, length, cond}
+use Rattle.std.specs.Prelude.{Option, Some, None, nat_le, if◌then◌else◌}
+use Rattle.std.specs.List.{filter, list_any}
+use Rattle.bufr_tables.specs.declared.element.Kind.{Kind}
+use Rattle.bufr_tables.specs.declared.element.Kind.TheVariants as kinds
+use Rattle.bufr_expand.specs.declared.operators.Spec.{Spec}
+use Rattle.bufr_fields.specs.declared.field.Raw.{Raw}
+use Rattle.bufr_fields.specs.declared.field.Field.{Field}
+use Rattle.bufr_fields.specs.Limits.{most_raw_bits}
+use Rattle.bufr_data.specs.declared.compressed.index.ChosenPlaces.{ChosenPlaces}
+use Rattle.bufr_data.specs.declared.compressed.index.Place.{Place}
+use Rattle.bufr_data.specs.declared.plain.layout.LaidField.{LaidField}
+use Rattle.bufr_data.specs.declared.plain.places.PlacedField.{PlacedField}
+use Rattle.bufr_data.specs.Plain.{raw_at}
+
+-- the descriptor is in the list
+abbrev pub is_listed : List ℕ → ℕ → Bool
+is_listed list d = list_any (λ e. e == d) list
+
+-- the fields of the descriptors in the list, in order
+abbrev pub chosen : List ℕ → List Field → List Field
+chosen list fields = filter (λ f. is_listed list f.fxy) fields
+
+-- ---- plain fields at known places
+
+-- the bits of a field (FM 94 BUFR, regulation 94.1.3); a number of more than 64 bits is in no data
+abbrev pub field_size_by : Kind → ℕ → ℕ
+field_size_by kinds.Text width = 8 * (width / 8)
+field_size_by kind width = if nat_le width most_raw_bits then width else 0
+
+-- the bits of a field of this spec
+abbrev pub field_size : Spec → ℕ
+field_size spec = field_size_by spec.kind spec.width
+
+-- the chosen fields of a layout, each with the bits between it and the chosen field before it;
+-- `gap` bits come before the first field of the layout
+abbrev pub placed_from : List ℕ → ℕ → List LaidField → List PlacedField
+placed_from list gap [] = []
+placed_from list gap (f ∷ fields) = cond (is_listed list f.fxy)
+    (record { gap = gap; field = f } ∷ placed_from list 0 fields)
+    (placed_from list (gap + field_size f.spec) fields)
+
+-- a field with its value, and the fields in the bits after it
+abbrev pub placed_then : LaidField → (List Bool → List Field) → Option (Raw × List Bool) → List Field
+placed_then f after None = []
+placed_then f after (Some x) = record { fxy = f.fxy; spec = f.spec; raw = x.0 } ∷ after x.1
+
+-- the fields at their places in these bits
+abbrev pub fields_placed : List PlacedField → List Bool → List Field
+fields_placed [] front = []
+fields_placed (p ∷ places) front =
+    placed_then p.field (fields_placed places) (raw_at p.field.spec (drop p.gap front))
+
+-- these bits hold the fields at their places
+abbrev pub HoldPlaced : List PlacedField → List Bool → Type 0
+HoldPlaced [] front = Unit {0}
+HoldPlaced (p ∷ places) front = (p.gap ≤ length front) × (x : Raw × List Bool)
+    × (raw_at p.field.spec (drop p.gap front) ≡ Some x) × HoldPlaced places x.1
+
+-- ---- columns
+
+-- the places of the columns of the descriptors in the list
+abbrev pub chosen_places : List ℕ → List Place → List Place
+chosen_places list places = filter (λ p. is_listed list p.fxy) places
+
+-- the places kept are those of the descriptors asked for
+abbrev pub AreChosen : List Place → ChosenPlaces → Type 0
+AreChosen places kept = kept.places.items ≡ chosen_places kept.asked places

@@ -1,0 +1,73 @@
+//! Hands out the chosen fields of a subset: those of the descriptors in a list.
+
+ghost use Rattle.std.specs.Prelude.{◌≡◌, Some, IfOk, IfSome, IfNone, OnErr};
+ghost use Rattle.bufr_data.specs.Chosen as chosen;
+ghost use Rattle.bufr_data.specs.Handed.{HandsOut};
+ghost use Rattle.bufr_fields.specs.Values.{as_field};
+
+use crate::compressed::fields::ColumnFields;
+use crate::plain::placed_fields::PlacedFields;
+use bufr_base::OutOfMemory;
+use bufr_fields::{Field, NumberField};
+use bufr_tables::Fxy;
+use std::alloc::Global;
+use std::marker::Model;
+
+/// A source of chosen fields: plain at known places, or compressed.
+#[derive(Drop)]
+pub(crate) enum ChosenSource<'v> {
+    Placed(PlacedFields<'v>),
+    Compressed(ColumnFields<'v>),
+}
+
+/// A reader of the chosen fields left in a subset. It does not come to other fields. Contracts see
+/// the list of fields.
+#[derive(Drop)]
+pub struct ChosenFields<'v> {
+    pub(crate) source: ChosenSource<'v>,
+}
+
+impl<'v> Model for ChosenFields<'v> {
+    ghost use Rattle.std.specs.Prelude.{List};
+    ghost use Rattle.bufr_fields.specs.declared.field.Field.{Field};
+    ghost use Rattle.bufr_data.specs.LeftFields.{left_chosen};
+
+    ghost Value = { List Field };
+
+    ghost view = { λ f. left_chosen f.source };
+}
+
+impl<'v> ChosenFields<'v> {
+    /// Hands out the next field if it is a number. `None` at a text, for `next` to take, and at the
+    /// end.
+    #[inline(always)]
+    pub fn next_number(&mut self) -> Option<NumberField>
+        ensures found { IfSome result (λ number.
+            HandsOut self.old (Some (as_field number)) self.new) }
+        ensures others { IfNone result (self.new ≡ self.old) }
+    {
+        match &mut self.source {
+            ChosenSource::Placed(fields) => fields.next_number(),
+            ChosenSource::Compressed(fields) => fields.next_number(),
+        }
+    }
+
+    /// Hands out the next field, or `None` at the end. After `OutOfMemory` it is still left, so the
+    /// caller may ask again.
+    pub fn next(&mut self, alloc: Global) -> Result<Option<Field>, OutOfMemory>
+        ensures found { IfOk result (λ found. HandsOut self.old found self.new) }
+        ensures err { OnErr result (self.new ≡ self.old) }
+    {
+        match &mut self.source {
+            ChosenSource::Placed(fields) => fields.next(alloc),
+            ChosenSource::Compressed(fields) => fields.next(alloc),
+        }
+    }
+}
+
+/// Returns whether the 16 bits of a descriptor are in a list.
+pub(crate) fn is_listed(list: &[u16], fxy: Fxy) -> bool
+    ensures { result ≡ chosen.is_listed list.now fxy }
+{
+    list.contains(&fxy.bits())
+}

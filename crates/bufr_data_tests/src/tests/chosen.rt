@@ -1,0 +1,174 @@
+//! Tests of the fields of a list's descriptors: at their places in plain subsets, and in columns.
+
+use super::same;
+use super::samples::{
+    BETWEEN, BETWEEN_OCTETS, DELAYED, Descriptors, EIGHT_BLOCKS, MIXED, MIXED_COLUMNS, MIXED_PLAIN,
+    number_of, template, text_of,
+};
+use bufr_bits::BitReader;
+use bufr_data::{ChosenFields, DataTemplate, SubsetIndex};
+use std::alloc::Global;
+use std::process::Abort;
+
+/// Block numbers, 0 01 001.
+const BLOCKS: &[u16] = &[0x0101];
+
+/// Temperatures, 0 12 101.
+const TEMPERATURES: &[u16] = &[0x0C65];
+
+/// Station numbers, names and temperatures: 0 01 002, 0 01 011 and 0 12 101.
+const OTHERS: &[u16] = &[0x0C65, 0x010B, 0x0102];
+
+/// Indexes a message of a template, with the places of some descriptors.
+fn indexed<'a>(
+    rt: &impl Abort,
+    alloc: Global,
+    kept: &mut DataTemplate,
+    asked: &[u16],
+    compressed: bool,
+    octets: &'a [u8],
+    count: u16,
+) -> SubsetIndex<'a> {
+    let mut reader = BitReader::new(octets);
+    kept.index_for(alloc, asked, compressed, &mut reader, count)
+        .expect(rt, "an index")
+}
+
+/// Compares the numbers of the fields, by both ways to hand them out.
+fn are_numbers(
+    rt: &impl Abort,
+    alloc: Global,
+    mut fields: ChosenFields<'_>,
+    mut again: ChosenFields<'_>,
+    wanted: &[u64],
+) {
+    for number in wanted {
+        let found = fields.next_number().expect(rt, "a number");
+        same(rt, found.number, *number);
+        let field = again.next(alloc).expect(rt, "room").expect(rt, "a field");
+        same(rt, number_of(&field), Some(*number));
+        same(rt, field.fxy, found.fxy);
+    }
+    same(rt, fields.next_number(), None);
+    same(rt, again.next(alloc).expect(rt, "room"), None);
+}
+
+/// Compares the numbers of the chosen fields at an index; none are wanted if places are unknown.
+fn has_numbers(
+    rt: &impl Abort,
+    alloc: Global,
+    index: &SubsetIndex,
+    asked: &[u16],
+    at: usize,
+    wanted: Option<&[u64]>,
+) {
+    assert!(rt; at < index.count());
+    match (index.chosen(asked, at), index.chosen(asked, at), wanted) {
+        (Some(fields), Some(again), Some(wanted)) => {
+            are_numbers(rt, alloc, fields, again, wanted);
+        }
+        (None, None, None) => {}
+        _ => panic!(rt; "places are known or not"),
+    }
+}
+
+/// Places are known from a template's second message on, for one list of descriptors.
+#[test]
+fn blocks_at_their_places(rt: HostRuntime) {
+    let alloc = rt.alloc();
+    let mut kept = DataTemplate::new(template(&rt, alloc, BETWEEN));
+    let first = indexed(&rt, alloc, &mut kept, BLOCKS, false, BETWEEN_OCTETS, 1);
+    has_numbers(&rt, alloc, &first, BLOCKS, 0, None);
+    for _ in 0..2 {
+        let index = indexed(&rt, alloc, &mut kept, BLOCKS, false, BETWEEN_OCTETS, 1);
+        has_numbers(&rt, alloc, &index, BLOCKS, 0, Some(&[10, 11, 12, 127]));
+        has_numbers(&rt, alloc, &index, TEMPERATURES, 0, None);
+        has_numbers(&rt, alloc, &index, &[], 0, None);
+    }
+    let other = indexed(
+        &rt,
+        alloc,
+        &mut kept,
+        TEMPERATURES,
+        false,
+        BETWEEN_OCTETS,
+        1,
+    );
+    has_numbers(&rt, alloc, &other, TEMPERATURES, 0, None);
+    has_numbers(&rt, alloc, &other, BLOCKS, 0, Some(&[10, 11, 12, 127]));
+}
+
+/// A text is no number: it is left, and handed out as a field.
+#[test]
+fn texts_at_their_places(rt: HostRuntime) {
+    let alloc = rt.alloc();
+    let mut kept = DataTemplate::new(template(&rt, alloc, BETWEEN));
+    let _first = indexed(&rt, alloc, &mut kept, OTHERS, false, BETWEEN_OCTETS, 1);
+    let index = indexed(&rt, alloc, &mut kept, OTHERS, false, BETWEEN_OCTETS, 1);
+    assert!(&rt; 0 < index.count());
+    let mut fields = index.chosen(OTHERS, 0).expect(&rt, "places");
+    let wide = fields.next_number().expect(&rt, "a number");
+    same(&rt, wide.number, 0x7FFF_FFFF_FFFF_FFFE);
+    same(&rt, fields.next_number(), None);
+    let name = fields.next(alloc).expect(&rt, "room").expect(&rt, "a text");
+    same(&rt, text_of(&name), b"SHIP1   ");
+    for number in [384, 27315] {
+        let found = fields.next_number().expect(&rt, "a number");
+        same(&rt, found.number, number);
+    }
+    same(&rt, fields.next_number(), None);
+    same(&rt, fields.next(alloc).expect(&rt, "room"), None);
+}
+
+/// Each of eight subsets has its fields a width further on.
+#[test]
+fn each_subset_has_its_places(rt: HostRuntime) {
+    let alloc = rt.alloc();
+    let list: Descriptors = &[(0, 12, 101), (0, 1, 1)];
+    let mut kept = DataTemplate::new(template(&rt, alloc, list));
+    let index = indexed(&rt, alloc, &mut kept, BLOCKS, false, EIGHT_BLOCKS, 8);
+    for at in 0..8 {
+        let wanted = [10 * (at as u64 + 1)];
+        has_numbers(&rt, alloc, &index, BLOCKS, at, Some(&wanted));
+    }
+}
+
+/// Without a list no field is chosen, and after a count no place is known.
+#[test]
+fn no_places(rt: HostRuntime) {
+    let alloc = rt.alloc();
+    let mut kept = DataTemplate::new(template(&rt, alloc, DELAYED));
+    for _ in 0..3 {
+        // a count of one, and 27315
+        let octets = [1, 0x6A, 0xB3];
+        let index = indexed(&rt, alloc, &mut kept, TEMPERATURES, false, &octets, 1);
+        has_numbers(&rt, alloc, &index, TEMPERATURES, 0, None);
+    }
+    let mut kept = DataTemplate::new(template(&rt, alloc, BETWEEN));
+    let _first = indexed(&rt, alloc, &mut kept, &[], false, BETWEEN_OCTETS, 1);
+    let index = indexed(&rt, alloc, &mut kept, &[], false, BETWEEN_OCTETS, 1);
+    has_numbers(&rt, alloc, &index, &[], 0, Some(&[]));
+    has_numbers(&rt, alloc, &index, BLOCKS, 0, None);
+}
+
+#[test]
+fn columns_of_temperatures(rt: HostRuntime) {
+    let alloc = rt.alloc();
+    let mut kept = DataTemplate::new(template(&rt, alloc, MIXED));
+    let index = indexed(&rt, alloc, &mut kept, TEMPERATURES, true, MIXED_COLUMNS, 2);
+    has_numbers(&rt, alloc, &index, TEMPERATURES, 0, Some(&[27315, 5, 7]));
+    has_numbers(&rt, alloc, &index, TEMPERATURES, 1, Some(&[27316, 5, 9]));
+    has_numbers(&rt, alloc, &index, BLOCKS, 0, None);
+    let plain = indexed(&rt, alloc, &mut kept, TEMPERATURES, false, MIXED_PLAIN, 2);
+    has_numbers(&rt, alloc, &plain, TEMPERATURES, 0, None);
+    let plain = indexed(&rt, alloc, &mut kept, TEMPERATURES, false, MIXED_PLAIN, 2);
+    has_numbers(
+        &rt,
+        alloc,
+        &plain,
+        TEMPERATURES,
+        0,
+        Some(&[27315, 5, 65535]),
+    );
+    has_numbers(&rt, alloc, &plain, TEMPERATURES, 1, Some(&[1, 2, 0]));
+}
