@@ -16,3 +16,4 @@ pub mod LawFacts
 pub mod HandOnFacts
 pub mod WayFacts
 pub mod StackFacts
+mod FieldFacts

@@ -1,10 +1,8 @@
 -- The text of a frame is whole lines, and so is the part written before memory runs out: for
 -- `run_show` and `run_check`.
-use Rattle.std.proofs.Common.{◌≡◌, ℕ, false, inl, inr, List, [], ◌∷◌, ◌++◌, codes, decimal, length}
-use Rattle.std.proofs.Common.{Result, Ok, Err, refl, sym, ap, ◌∙◌, subst}
+use Rattle.std.proofs.Common.{◌≡◌, ℕ, false, inl, List, [], ◌∷◌, ◌++◌, codes, decimal, length}
+use Rattle.std.proofs.Common.{Result, Ok, Err, refl, ap, ◌∙◌}
 use Rattle.std.proofs.Common.{append_assoc}
-use Rattle.std.specs.List.{flat_map}
-use Rattle.std.proofs.lemmas.List.{append-nil}
 use Rattle.bufr_bits.specs.Devices.{Writing}
 use Rattle.bufr_tables.specs.Entries.{Entries}
 use Rattle.bufr_frame.specs.declared.frames.Found.{Found}

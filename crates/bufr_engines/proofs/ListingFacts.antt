@@ -1,6 +1,6 @@
 -- The listing of a message, subset by subset and field by field: for `print_fields` and
 -- `print_listing`, and so for `run_show`.
-use Rattle.std.proofs.Common.{◌≡◌, ℕ, ◌+◌, ◌-◌, ◌<◌, ◌≤◌, false, List, [], ◌∷◌, ◌++◌}
+use Rattle.std.proofs.Common.{◌≡◌, ℕ, ◌+◌, ◌<◌, ◌≤◌, false, List, [], ◌∷◌, ◌++◌}
 use Rattle.std.proofs.Common.{length, take, drop, Some, Result, Ok, Err, refl, sym, ap, ◌∙◌, subst}
 use Rattle.std.proofs.Common.{append_assoc, length-append, take-append-drop, arith, ◌^◌}
 use Rattle.std.specs.Prelude.{slice_get}
@@ -17,14 +17,13 @@ use Rattle.bufr_message.specs.declared.Field.{Field}
 use Rattle.bufr_message.specs.declared.Message.{Message}
 use Rattle.bufr_message.specs.declared.Subset.{Subset}
 use Rattle.bufr_io.specs.declared.fault.ToolFault.{ToolFault}
-use Rattle.bufr_io.specs.declared.fault.ToolFault.TheVariants as faults
 use Rattle.bufr_engines.specs.declared.printer.Printer.{Printer}
 use Rattle.bufr_io.specs.Lines.{AreWholeLines}
 use Rattle.bufr_engines.specs.Output.{fields_text}
 use Rattle.bufr_engines.specs.ShortListings.{HasShortListing}
 use Rattle.bufr_engines.specs.StreamEngines.{Adds, WritesAllBut}
 use Rattle.bufr_engines.proofs.LineFacts.{both_whole, fields_whole, joined_whole, line_whole}
-use Rattle.bufr_engines.proofs.PartFacts.{adds_halts, adds_longer, adds_then, but_all, counted_all}
+use Rattle.bufr_engines.proofs.PartFacts.{adds_longer, adds_then, but_all, counted_all}
 
 -- the lines before the first subset
 abbrev heading_text : Message → List ℕ
@@ -221,13 +220,6 @@ field_stopped all left left' field p q p' first mid last e is a added =
     (field_parted all left left' field a.text is a.parted)
     (adds_then a.text here p q p' first mid last (Err e) (line_whole (field_line field)) a.added
     added)
-
-pub field_halted : (all left : List Field) (p q : Printer) (first mid : Writing)
-    → AmidFields all left p q first mid
-    → Adds (fields_text all) p q first mid (Err faults.OutOfMemory)
-field_halted all left p q first mid a =
-    adds_halts (fields_text all) a.text (fields_text left) q.held.items p q first mid a.parted
-    a.added refl
 
 pub amid_few : (all left : List Field) (p q : Printer) (first mid : Writing)
     → AmidFields all left p q first mid

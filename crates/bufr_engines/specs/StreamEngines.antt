@@ -1,10 +1,12 @@
 -- What the engines over the frames of a stream return and write (this project's own).
 use Rattle.std.specs.Prelude.{◌≡◌, ℕ, ◌+◌, ◌*◌, ◌^◌, ◌≤◌, Bool, true, false, List, ◌++◌, length}
-use Rattle.std.specs.Prelude.{◌<◌, [], IfSome, Result, Ok, Err}
+use Rattle.std.specs.Prelude.{◌<◌, [], ◌∷◌, IfSome, Result, Ok, Err}
 use Rattle.bufr_bits.specs.Devices.{Reading, Writing}
 use Rattle.bufr_tables.specs.Entries.{Entries}
 use Rattle.bufr_frame.specs.declared.frames.Found.{Found}
 use Rattle.bufr_frame.specs.Streams.{cut, sure}
+use Rattle.bufr_listing.specs.Listings.{line, field_line}
+use Rattle.bufr_message.specs.declared.Field.{Field}
 use Rattle.bufr_engines.specs.declared.printer.Printer.{Printer}
 use Rattle.bufr_io.specs.declared.fault.Input.TheVariants.{Number}
 use Rattle.bufr_io.specs.declared.fault.Tally.{Tally}
@@ -53,6 +55,14 @@ Prints printing tables reads reader reader' writer writer' (Err faults.OutOfMemo
     (reader'.failed ≡ false) × (read : List ℕ) × HasGiven reader reader' read
     × WritesLines writer writer' (frames_text printing tables (frames_by reader'.met_end read))
 Prints printing tables reads reader reader' writer writer' (Err fault) = ⊥
+
+-- ---- field by field
+
+-- takes the first of the fields left and adds its line, or none is left
+abbrev pub HoldsField : Bool → List Field → List Field → List ℕ → List ℕ → Type 0
+HoldsField true old new text text' = (f : Field) × (old ≡ f ∷ new)
+    × (text' ≡ text ++ line (field_line f))
+HoldsField false old new text text' = (old ≡ []) × (new ≡ []) × (text' ≡ text)
 
 -- ---- text by text
 

@@ -17,14 +17,14 @@ ghost use Rattle.bufr_engines.specs.StreamEngines.{Adds, Fits, Keeps, PrintsFram
 ghost use Rattle.bufr_engines.specs.StreamEngines.{Stops, StopsWithin, WritesAllBut, WritesHeld};
 ghost use Rattle.bufr_engines.specs.StreamEngines.{WritesPart};
 
-use crate::printing::{Printing, hold_checked, hold_refused};
+use crate::printing::{Printing, hold_checked, hold_field, hold_refused};
 use bufr_base::{Failure, OutOfMemory};
 use bufr_bits::Sink;
 use bufr_io::{ToolFault, write_after};
 use bufr_listing::laws::{listings_are_joined_parts, subsets_are_joined_lines};
-use bufr_listing::{end_text, heading_text, push_field, push_subset_line};
+use bufr_listing::{end_text, push_heading, push_subset_line};
 use bufr_message::laws::subsets_are_small;
-use bufr_message::{Field, Fields, MessageReader, Refused, View};
+use bufr_message::{Fields, MessageReader, Refused, View};
 use bufr_tables::Tables;
 use std::alloc::Global;
 
@@ -48,6 +48,8 @@ pub(crate) struct Printer<'t> {
     pub(crate) written: u128,
     /// The lines that it did not write yet.
     pub(crate) held: Vec<u8>,
+    /// Room for the lines of a message before its first subset.
+    pub(crate) heading: Vec<u8>,
 }
 
 impl<'t> Printer<'t> {
@@ -68,6 +70,7 @@ impl<'t> Printer<'t> {
             octets: 0,
             written: 0,
             held: Vec::new(alloc),
+            heading: Vec::new(alloc),
         }
     }
 
@@ -124,17 +127,10 @@ impl<'t> Printer<'t> {
         ensures short { self.new.written < self.old.written
             + length self.old.held.items + length (fields_text fields.entry) + 2 ^ 64 }
     {
-        'fields: loop {
-            let next = fields.next(alloc);
-            match &next {
-                Ok(Some(field)) => {
-                    push_field(alloc, &mut self.held, field)?;
-                    self.write_long(writer)?;
-                }
-                Ok(None) => return Ok(()),
-                Err(_) => return Err(ToolFault::OutOfMemory),
-            }
+        'fields: while hold_field(alloc, &mut self.held, &mut fields)? {
+            self.write_long(writer)?;
         }
+        Ok(())
     }
 
     /// Prints the listing of a message. It builds one field at a time, and holds the lines before the
@@ -156,8 +152,9 @@ impl<'t> Printer<'t> {
     {
         listings_are_joined_parts();
         subsets_are_joined_lines();
-        let heading = heading_text(alloc, &found.sections())?;
-        self.held.extend_from_slice(&heading)?;
+        self.heading.clear();
+        push_heading(alloc, &mut self.heading, &found.sections())?;
+        self.held.extend_from_slice(&self.heading)?;
         self.write_long(writer)?;
         for index in 0..found.count() {
             let fields = found.fields(alloc, index)?;

@@ -4,3 +4,5 @@ pub mod ListingFacts
 pub mod FrontFacts
 pub mod RowFacts
 pub mod QuoteFacts
+pub mod TitleFacts
+pub mod DecimalFacts

@@ -2,3 +2,4 @@ pub mod Listings
 pub mod OctetLines
 pub mod Laws
 pub mod Reasons
+pub mod DecimalLaws

@@ -1,23 +1,21 @@
 //! Writes the lines of fields.
 
-ghost use Rattle.std.specs.Prelude.{◌≡◌, ◌≤◌, ◌∷◌, ◌++◌, [], length, take, pos, OnOk, OnErr};
+ghost use Rattle.std.specs.Prelude.{◌≡◌, ◌+◌, ◌≤◌, ◌∷◌, ◌++◌, [], length, take, drop, OnOk, OnErr, IfSome};
 ghost use Rattle.bufr_tables.specs.Descriptors.{six_digits};
-ghost use Rattle.bufr_fields.specs.Values.{digits_by, text_of};
+ghost use Rattle.bufr_fields.specs.Values.{as_field, text_of};
 ghost use Rattle.bufr_listing.specs.Listings as listings;
 ghost use Rattle.bufr_listing.specs.Listings.{line, joined, quoted_octet, quoted};
 ghost use Rattle.bufr_listing.specs.Listings.{value_word, field_line, subset_line, subset_lines};
 
+use crate::decimals::write_sum;
+use crate::titles::title;
 use bufr_base::OutOfMemory;
-use bufr_fields::{Decimal, Field, Raw, Subset};
-use bufr_tables::Fxy;
-use itoa::write_digits;
+use bufr_fields::{Decimal, Field, NumberField, Raw, Subset};
+use bufr_tables::{Fxy, Kind};
 use std::alloc::Global;
 
-/// The most digits after a point that `push_digits` writes.
-const MOST_PLACES: i32 = 20;
-
-/// The index of the line's end in a row of digits.
-const ROW_END: usize = 31;
+/// The index of the line's end in a row.
+const ROW_END: usize = 63;
 
 /// Adds the lines of a subset.
 pub fn push_subset(alloc: Global, text: &mut Vec<u8>, subset: &Subset) -> Result<(), OutOfMemory>
@@ -45,7 +43,102 @@ pub fn push_subset_line(text: &mut Vec<u8>) -> Result<(), OutOfMemory>
 }
 
 /// Adds the line of a field.
-pub fn push_field(_alloc: Global, text: &mut Vec<u8>, field: &Field) -> Result<(), OutOfMemory>
+pub fn push_field(alloc: Global, text: &mut Vec<u8>, field: &Field) -> Result<(), OutOfMemory>
+    ensures ok { OnOk result (text.new.items ≡ text.old.items ++ line (field_line field.now)) }
+    ensures err { OnErr result (text.new.items ≡ text.old.items) }
+{
+    match &field.raw {
+        Raw::Number(number) => {
+            let (fxy, spec, number) = (field.fxy, field.spec, *number);
+            push_number_field(alloc, text, NumberField { fxy, spec, number })
+        }
+        Raw::Text(_) => push_any_field(text, field),
+    }
+}
+
+/// Adds the line of a field with a number.
+// A call would move the number through memory.
+#[inline(always)]
+pub fn push_number_field(
+    _alloc: Global,
+    text: &mut Vec<u8>,
+    field: NumberField,
+) -> Result<(), OutOfMemory>
+    ensures ok { OnOk result (text.new.items
+        ≡ text.old.items ++ line (field_line (as_field field))) }
+    ensures err { OnErr result (text.new.items ≡ text.old.items) }
+{
+    let NumberField { fxy, spec, number } = field;
+    let mut row = [b'\n'; ROW_END + 1];
+    match write_line(&mut row, NumberField { fxy, spec, number }) {
+        Some(first) => text.extend_from_slice(&row[first..]),
+        None => push_any_number(text, NumberField { fxy, spec, number }),
+    }
+}
+
+/// Writes the line of a field with a number at the end of a row, unless it is large.
+#[inline(always)]
+fn write_line(row: &mut [u8], field: NumberField) -> Option<usize>
+    requires long { length row.old ≡ ROW_END + 1 }
+    requires end { drop ROW_END row.old ≡ 10 ∷ [] }
+    ensures written { IfSome result (λ first.
+        drop first row.new ≡ line (field_line (as_field field))) }
+    ensures within { IfSome result (λ first. first ≤ ROW_END) }
+    ensures same { length row.new ≡ ROW_END + 1 }
+{
+    let NumberField { fxy, spec, number } = field;
+    let end = write_value(row, NumberField { fxy, spec, number })?;
+    write_octets(row, end, &title(fxy))
+}
+
+/// Writes the word for the value of a field with a number before the line's end.
+#[inline(always)]
+fn write_value(row: &mut [u8], field: NumberField) -> Option<usize>
+    requires long { length row.old ≡ ROW_END + 1 }
+    ensures written { IfSome result (λ first.
+        drop first row.new ≡ value_word (as_field field) ++ drop ROW_END row.old) }
+    ensures within { IfSome result (λ first. first ≤ ROW_END) }
+    ensures same { length row.new ≡ ROW_END + 1 }
+{
+    let NumberField { fxy, spec, number } = field;
+    if field.is_missing() {
+        return write_octets(row, ROW_END, b"missing");
+    }
+    match spec.kind {
+        Kind::Text => None,
+        _ => write_sum(row, ROW_END, NumberField { fxy, spec, number }),
+    }
+}
+
+/// Writes octets before `end`. Returns where they begin, or `None` if the room is short.
+#[inline(always)]
+fn write_octets(row: &mut [u8], end: usize, octets: &[u8]) -> Option<usize>
+    requires { end ≤ length row.old }
+    ensures written { IfSome result (λ first. drop first row.new ≡ octets.now ++ drop end row.old) }
+    ensures within { IfSome result (λ first. first ≤ end) }
+{
+    if end < octets.len() {
+        return None;
+    }
+    let first = end - octets.len();
+    row[first..end].copy_from_slice(octets);
+    Some(first)
+}
+
+/// Adds the line of a field with a number by `push_any_field`.
+#[inline(never)]
+fn push_any_number(text: &mut Vec<u8>, field: NumberField) -> Result<(), OutOfMemory>
+    ensures ok { OnOk result (text.new.items
+        ≡ text.old.items ++ line (field_line (as_field field))) }
+    ensures err { OnErr result (text.new.items ≡ text.old.items) }
+{
+    let NumberField { fxy, spec, number } = field;
+    let raw = Raw::Number(number);
+    push_any_field(text, &Field { fxy, spec, raw })
+}
+
+/// Adds the line of a field, whatever its value.
+fn push_any_field(text: &mut Vec<u8>, field: &Field) -> Result<(), OutOfMemory>
     ensures ok { OnOk result (text.new.items ≡ text.old.items ++ line (field_line field.now)) }
     ensures err { OnErr result (text.new.items ≡ text.old.items) }
 {
@@ -56,16 +149,6 @@ pub fn push_field(_alloc: Global, text: &mut Vec<u8>, field: &Field) -> Result<(
         text.truncate(held);
     }
     added
-}
-
-/// Returns the six digits of a descriptor and a space.
-pub fn title(fxy: Fxy) -> [u8; 7]
-    ensures { result ≡ six_digits fxy ++ 32 ∷ [] }
-{
-    let digits = fxy.digits();
-    [
-        digits[0], digits[1], digits[2], digits[3], digits[4], digits[5], b' ',
-    ]
 }
 
 // If memory runs out, the functions below leave a part of what they add.
@@ -88,35 +171,8 @@ fn push_number(text: &mut Vec<u8>, number: Decimal) -> Result<(), OutOfMemory>
     ensures ok { OnOk result (text.new.items ≡ text.old.items ++ line (text_of number)) }
     ensures kept { OnErr result (take (length text.old.items) text.new.items ≡ text.old.items) }
 {
-    let size = number.units.unsigned_abs();
-    if size > u64::MAX as u128 || number.scale < 0 || number.scale > MOST_PLACES {
-        number.push_text(text)?;
-        return text.extend_from_slice(b"\n");
-    }
-    if number.units < 0 {
-        text.push(b'-')?;
-    }
-    push_digits(text, size as u64, number.scale as usize)
-}
-
-/// Adds the digits of `size`, `places` of them after a point, and the line's end.
-fn push_digits(text: &mut Vec<u8>, size: u64, places: usize) -> Result<(), OutOfMemory>
-    requires { places ≤ 20 }
-    ensures ok { OnOk result (text.new.items
-        ≡ text.old.items ++ line (digits_by (pos places) size)) }
-    ensures kept { OnErr result (take (length text.old.items) text.new.items ≡ text.old.items) }
-{
-    let mut row = [b'0'; ROW_END + 1];
-    row[ROW_END] = b'\n';
-    let first = write_digits(size, &mut row, ROW_END);
-    if places == 0 {
-        return text.extend_from_slice(&row[first..]);
-    }
-    let point = ROW_END - places;
-    let start = first.min(point - 1);
-    text.extend_from_slice(&row[start..point])?;
-    row[point - 1] = b'.';
-    text.extend_from_slice(&row[point - 1..])
+    number.push_text(text)?;
+    text.extend_from_slice(b"\n")
 }
 
 fn push_quoted(text: &mut Vec<u8>, octets: &[u8]) -> Result<(), OutOfMemory>

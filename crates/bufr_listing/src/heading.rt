@@ -1,6 +1,6 @@
 //! Writes the lines of a listing before its first subset.
 
-ghost use Rattle.std.specs.Prelude.{◌≡◌, ◌≤◌, ◌∷◌, [], ◌++◌, List, OnOk, IfOk, length, option_copied};
+ghost use Rattle.std.specs.Prelude.{◌≡◌, ◌≤◌, ◌∷◌, [], ◌++◌, List, OnOk, length, option_copied};
 ghost use Rattle.bufr_fields.specs.declared.field.Subset.{Subset};
 ghost use Rattle.bufr_sections.specs.SectionsRead.{message_lent};
 ghost use Rattle.bufr_listing.specs.OctetLines.{octets_text};
@@ -8,14 +8,12 @@ ghost use Rattle.bufr_listing.specs.Listings.{words, line, joined, numbers_line}
 ghost use Rattle.bufr_listing.specs.Listings.{section1_line, time_line, flags_line};
 ghost use Rattle.bufr_listing.specs.Listings.{descriptors_line, heading_lines};
 
+use crate::titles::six_digits;
 use bufr_base::{Items, OutOfMemory};
 use bufr_sections::{Head, LentSections};
 use bufr_tables::Fxy;
 use itoa::write_digits;
 use std::alloc::Global;
-
-/// The first capacity for these lines, in octets.
-const HEADING_ROOM: usize = 512;
 
 /// The most octets of a number of 16 bits with the space before it.
 const MOST_OCTETS: usize = 6;
@@ -23,17 +21,9 @@ const MOST_OCTETS: usize = 6;
 /// The index of the line's end in a row, after eight numbers.
 const ROW_END: usize = 8 * MOST_OCTETS;
 
-/// Returns the lines of a listing before its first subset, whatever the subsets.
-pub fn heading_text(alloc: Global, sections: &LentSections<'_>) -> Result<Vec<u8>, OutOfMemory>
-    ensures { (subsets : List Subset) → IfOk result (λ text.
-        text.items ≡ joined (heading_lines (message_lent sections.now subsets))) }
-{
-    let mut text = Vec::with_capacity(alloc, HEADING_ROOM)?;
-    push_heading(alloc, &mut text, sections)?;
-    Ok(text)
-}
-
-fn push_heading(
+/// Adds the lines of a listing before its first subset, whatever the subsets. If memory runs out,
+/// adds a part of them.
+pub fn push_heading(
     alloc: Global,
     text: &mut Vec<u8>,
     sections: &LentSections<'_>,
@@ -149,7 +139,7 @@ fn push_descriptors(text: &mut Vec<u8>, descriptors: &[Fxy]) -> Result<(), OutOf
 {
     text.extend_from_slice(b"descriptors")?;
     for fxy in descriptors {
-        let digits = fxy.digits();
+        let digits = six_digits(*fxy);
         text.extend_from_slice(&[
             b' ', digits[0], digits[1], digits[2], digits[3], digits[4], digits[5],
         ])?;

@@ -4,11 +4,14 @@ ghost use Rattle.std.specs.Prelude.{◌≡◌, IfOk};
 ghost use Rattle.bufr_listing.specs.Listings.{line, joined, subset_lines, end_line, listing};
 
 use crate::fields::push_subset;
-use crate::heading::heading_text;
+use crate::heading::push_heading;
 use bufr_base::OutOfMemory;
 use bufr_fields::Subset;
 use bufr_sections::{LentSections, Message};
 use std::alloc::Global;
+
+/// The first capacity of a listing, in octets.
+const HEADING_ROOM: usize = 512;
 
 /// The last line of a listing.
 const END_LINE: &str = "end\n";
@@ -18,7 +21,8 @@ const END_LINE: &str = "end\n";
 pub fn text_of(alloc: Global, message: &Message) -> Result<Vec<u8>, OutOfMemory>
     ensures { IfOk result (λ text. text.items ≡ listing message.now) }
 {
-    let mut text = heading_text(alloc, &LentSections::of_message(message))?;
+    let mut text = Vec::with_capacity(alloc, HEADING_ROOM)?;
+    push_heading(alloc, &mut text, &LentSections::of_message(message))?;
     for subset in message.subsets.as_slice() {
         push_subset(alloc, &mut text, subset)?;
     }

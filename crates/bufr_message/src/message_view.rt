@@ -123,6 +123,8 @@ impl<'a> View<'a> {
     }
 
     /// Returns the fields of the subset at an index, from 0, one at a time.
+    // A call would move the reader of fields through memory.
+    #[inline(always)]
     pub fn fields(&self, alloc: Global, index: usize) -> Result<Fields<'_>, OutOfMemory>
         requires { index < length self.now.message.subsets }
         ensures { IfOk result (λ fields.

@@ -14,3 +14,4 @@ mod PickedFacts
 mod PickFacts
 mod PairFacts
 mod SettledFacts
+mod ChosenFacts

@@ -10,7 +10,7 @@ use Rattle.std.proofs.Common.{length-append}
 use Rattle.std.proofs.lemmas.List.{append-nil, drop_all, take_all}
 use Rattle.csv.specs.Writing.{default_writer, field_text, fields_text, is_blank, needs_quotes}
 use Rattle.csv.specs.Writing.{quoted, row_text}
-use Rattle.bufr_select_rows.proofs.WrittenFacts.{octet_before}
+use Rattle.bufr_listing.specs.DecimalLaws.{octet_before}
 
 -- a record without a field
 pub row_none : (f : List ℕ → List ℕ) → row_text default_writer [] ≡ 34 ∷ 34 ∷ 10 ∷ []

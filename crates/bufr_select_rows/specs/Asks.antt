@@ -2,6 +2,7 @@
 use Rattle.std.specs.Prelude.{◌≡◌, ℕ, zero, suc, ◌+◌, ◌==◌, ◌&&◌, not, nat_lt, Bool, true, false}
 use Rattle.std.specs.Prelude.{List, [], ◌∷◌, Option, Some, None, get_or, if◌then◌else◌}
 use Rattle.std.specs.List.{AllByRecursion}
+use Rattle.bufr_data.specs.Chosen.{is_listed}
 use Rattle.bufr_select_rows.specs.Cells.{asks_for}
 use Rattle.bufr_select_rows.specs.declared.column.Column.{Column}
 use Rattle.bufr_select_rows.specs.declared.column.Column.TheVariants as columns
@@ -26,6 +27,10 @@ Covers asked each columns = AllByRecursion (CoversColumn asked) columns × Cover
 -- the set of descriptors with a mark
 abbrev pub flagged : List ℕ → ℕ → Bool
 flagged marks d = not (get_or marks d 0 == 0)
+
+-- each descriptor with a mark is in the list
+abbrev pub ListsAll : List ℕ → List ℕ → Type 0
+ListsAll marks list = (d : ℕ) → flagged marks d ≡ true → is_listed list d ≡ true
 
 -- the mark of a descriptor for which the cell at an index asks too: that of the index, or 1 if another
 -- cell asks for it

@@ -1,7 +1,7 @@
 //! The descriptors that a selection asks for.
 
-ghost use Rattle.std.specs.Prelude.{◌≡◌, ℕ, ◌+◌, get_or, true, length, IfOk, IfSome};
-ghost use Rattle.bufr_select_rows.specs.Asks.{CoversEach, IsSetOf, MarksColumn, MarksFor, flagged};
+ghost use Rattle.std.specs.Prelude.{◌≡◌, ℕ, ◌+◌, ◌≤◌, get_or, true, length, IfOk, IfSome};
+ghost use Rattle.bufr_select_rows.specs.Asks.{CoversEach, IsSetOf, ListsAll, MarksColumn, MarksFor, flagged};
 ghost use Rattle.bufr_select_rows.specs.Asks as asks;
 
 use crate::column::Column;
@@ -16,20 +16,24 @@ const DESCRIPTORS: usize = 65_536;
 /// The number of cells that a mark can name.
 const MOST_NAMED: usize = 65_534;
 
-/// A set of descriptors, which knows the cell of each. Contracts see its marks.
+/// A set of descriptors, which knows the cell of each, with a list of them. Contracts see its marks.
 #[derive(Drop)]
 pub struct Asked {
     /// The mark of each descriptor: 0 if it is not in the set, the index of its cell plus 2 if no other cell
     /// asks for it, else 1.
     marks: Vec<u16>,
+    listed: Vec<u16>,
 }
 
 impl Model for Asked {
     ghost use Rattle.std.specs.Prelude.{List, ℕ};
+    ghost use Rattle.bufr_select_rows.specs.Asks.{ListsAll};
 
     ghost Value = { List ℕ };
 
     ghost view = { λ a. a.marks.items };
+
+    ghost invariant = { λ a. ListsAll a.marks.items a.listed.items };
 }
 
 impl Asked {
@@ -45,7 +49,15 @@ impl Asked {
             index += 1;
         }
         mark_each(&mut marks, each);
-        Ok(Asked { marks })
+        let listed = listed_in(alloc, &marks)?;
+        Ok(Asked { marks, listed })
+    }
+
+    /// Returns the descriptors, as 16 bits, in rising order.
+    pub fn listed(&self) -> &[u16]
+        ensures { ListsAll self.now result.now }
+    {
+        &self.listed
     }
 
     /// Returns the index of the only cell for a descriptor. `None` if several cells may ask for it, or
@@ -71,6 +83,20 @@ impl Asks for Asked {
             None => false,
         }
     }
+}
+
+/// Lists the descriptors that have a mark.
+fn listed_in(alloc: Global, marks: &[u16]) -> Result<Vec<u16>, OutOfMemory>
+    requires { length marks.now ≤ 65536 }
+    ensures { IfOk result (λ listed. ListsAll marks.now listed.items) }
+{
+    let mut listed = Vec::new(alloc);
+    for index in 0..marks.len() {
+        if marks[index] != 0 {
+            listed.push(index as u16)?;
+        }
+    }
+    Ok(listed)
 }
 
 /// Marks the descriptor of the column at an index.
@@ -115,6 +141,7 @@ fn mark_each(marks: &mut Vec<u16>, each: Option<Fxy>)
     ensures kept { (d : ℕ) → flagged marks.old.items d ≡ true → flagged marks.new.items d ≡ true }
     ensures named { (d i : ℕ) → get_or marks.new.items d 0 ≡ i + 2
         → get_or marks.old.items d 0 ≡ i + 2 }
+    ensures long { length marks.new.items ≡ length marks.old.items }
 {
     let Some(fxy) = each else {
         return;

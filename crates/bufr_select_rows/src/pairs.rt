@@ -51,9 +51,22 @@ impl<'t> Pair<'t> {
         ensures greatest { result.greatest ≡ greatest }
         ensures tables { result.reader ≡ tables.now }
     {
+        Pair::for_elements(alloc, greatest, tables, &[])
+    }
+
+    /// Makes a pair that finds the places of the fields of some descriptors, given by their 16 bits.
+    pub fn for_elements(
+        alloc: Global,
+        greatest: Option<u8>,
+        tables: &'t Tables,
+        asked: &'t [u16],
+    ) -> Pair<'t>
+        ensures greatest { result.greatest ≡ greatest }
+        ensures tables { result.reader ≡ tables.now }
+    {
         Pair {
             greatest,
-            reader: MessageReader::new(alloc, tables),
+            reader: MessageReader::for_elements(alloc, tables, asked),
         }
     }
 

@@ -1,8 +1,10 @@
 //! The fields of subsets, picked for rows.
 
-ghost use Rattle.std.specs.Prelude.{◌≡◌, ◌||◌, false, map, IfOk, OnOk};
+ghost use Rattle.std.specs.Prelude.{◌≡◌, ◌||◌, ℕ, List, false, map, IfOk, OnOk};
 ghost use Rattle.bufr_fields.specs.Values.{as_field};
-ghost use Rattle.bufr_select_rows.specs.Asks.{Finds, IsSetOf};
+ghost use Rattle.bufr_fields.specs.declared.field.Field.{Field as AField};
+ghost use Rattle.bufr_data.specs.Chosen.{chosen};
+ghost use Rattle.bufr_select_rows.specs.Asks.{Finds, IsSetOf, ListsAll};
 ghost use Rattle.bufr_select_rows.specs.Cells.{after_field, due, ended, opens, opens_at_once};
 ghost use Rattle.bufr_select_rows.specs.Cells.{row_of, rows_left};
 ghost use Rattle.bufr_select_rows.specs.Rows.{origin};
@@ -20,7 +22,7 @@ use crate::picks::Picks;
 use crate::row_line::RowLine;
 use bufr_base::OutOfMemory;
 use bufr_bits::Sink;
-use bufr_data::NumberField;
+use bufr_data::{ChosenFields, NumberField};
 use bufr_io::{HeldRows, ToolFault};
 use bufr_message::{Field, Fields, View};
 use bufr_tables::Fxy;
@@ -298,6 +300,31 @@ fn put_subset<W: Sink>(
     }
 }
 
+/// Puts the rows of a subset by its chosen fields.
+fn put_chosen<W: Sink>(
+    alloc: Global,
+    each: Option<Fxy>,
+    asked: &Asked,
+    from: &Origin<'_>,
+    mut fields: ChosenFields<'_>,
+    line: &mut RowLine,
+    cells: &mut [Cell],
+    rows: &mut HeldRows,
+    writer: &mut W,
+) -> Result<(), ToolFault>
+    requires works { (W.writing writer.old).failed ≡ false }
+    requires covers { IsSetOf asked.now each (map (λ c. c.column) cells.old) }
+    ensures puts { (list : List ℕ) (all : List AField) → ListsAll asked.now list
+        → fields.entry ≡ chosen list all
+        → PutsOrStops (subset_rows (map (λ c. c.column) cells.old) each (origin from.now) all)
+        rows.old (W.writing writer.old) rows.new (W.writing writer.new) result }
+    ensures columns { OnOk result (map (λ c. c.column) cells.new ≡ map (λ c. c.column) cells.old) }
+    ensures works { OnOk result ((W.writing writer.new).failed ≡ false) }
+{
+    begin_cells(&mut *cells, from)?;
+    put_rows(alloc, each, asked, &mut fields, line, cells, rows, writer)
+}
+
 /// Puts the rows of a message.
 pub fn put_message<W: Sink>(
     alloc: Global,
@@ -321,9 +348,23 @@ pub fn put_message<W: Sink>(
     ensures works { OnOk result ((W.writing writer.new).failed ≡ false) }
 {
     for index in 0..found.count() {
-        let fields = found.fields(alloc, index)?;
         let mut here = *from;
         here.subset = index as u64 + 1;
+        if let Some(fields) = found.chosen(picker.asked.listed(), index) {
+            put_chosen(
+                alloc,
+                picker.each,
+                &picker.asked,
+                &here,
+                fields,
+                &mut picker.line,
+                &mut picker.cells,
+                rows,
+                writer,
+            )?;
+            continue;
+        }
+        let fields = found.fields(alloc, index)?;
         put_subset(
             alloc,
             picker.each,

@@ -8,7 +8,8 @@ ghost use Rattle.bufr_select_rows.specs.Asks.{flagged};
 
 use crate::asked::Asked;
 use bufr_base::OutOfMemory;
-use bufr_data::{LaidFields, NumberField};
+use bufr_data::{ChosenFields, LaidFields, NumberField};
+use bufr_expand::Asks;
 use bufr_message::{Field, Fields};
 use std::alloc::Global;
 
@@ -42,6 +43,29 @@ impl<'v> Picks for Fields<'v> {
     #[inline(always)]
     fn pick(&mut self, alloc: Global, asked: &Asked) -> Result<Option<Field>, OutOfMemory> {
         self.next_asked(alloc, asked)
+    }
+}
+
+impl<'v> Picks for ChosenFields<'v> {
+    ghost left = { λ f. f };
+
+    #[inline(always)]
+    fn pick_number(&mut self, asked: &Asked) -> Option<NumberField> {
+        loop {
+            let number = self.next_number()?;
+            if asked.asks(number.fxy) {
+                return Some(number);
+            }
+        }
+    }
+
+    fn pick(&mut self, alloc: Global, asked: &Asked) -> Result<Option<Field>, OutOfMemory> {
+        while let Some(field) = self.next(alloc)? {
+            if asked.asks(field.fxy) {
+                return Ok(Some(field));
+            }
+        }
+        Ok(None)
     }
 }
 

@@ -7,7 +7,7 @@ ghost use Rattle.bufr_select_rows.specs.Values.{shown_text, shown_value};
 ghost use Rattle.bufr_select_rows.specs.Values as values;
 
 use crate::quotes::push_field;
-use crate::written::{MOST_PLACES, write_count, write_number, write_octets};
+use crate::written::{write_count, write_number, write_octets};
 use bufr_base::OutOfMemory;
 use bufr_fields::{Decimal, Field, NumberField, Raw};
 use itoa::{Buffer, write_digits};
@@ -16,6 +16,9 @@ use std::marker::Model;
 
 /// The length of a row of digits.
 const ROW_END: usize = 31;
+
+/// The most digits after a point that `push_digits` writes.
+const MOST_PLACES: i32 = 20;
 
 /// What a text is.
 #[derive(Clone, Copy)]

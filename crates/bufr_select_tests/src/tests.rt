@@ -5,6 +5,7 @@ ghost use Rattle.bufr_io.specs.Limits.{most_reads};
 
 mod devices;
 mod growth;
+mod places;
 mod samples;
 
 use bufr_io::{Input, Tally, ToolFault, load_tables};

@@ -2,7 +2,7 @@
 
 use super::same;
 use super::samples::*;
-use bufr_listing::{end_text, heading_text, push_subset, subset_text};
+use bufr_listing::{end_text, push_heading, push_subset, subset_text};
 use bufr_message::{Report, View, canonical, canonical_of_read, decode, reports, view};
 use std::alloc::Global;
 use std::process::Abort;
@@ -181,7 +181,8 @@ fn add_subset(
 fn listed_part_by_part(rt: HostRuntime) {
     let all = octets(&rt, rt.alloc(), COMPRESSED_TEXTS);
     let found = viewed(&rt, rt.alloc(), all.as_slice());
-    let mut listing = heading_text(rt.alloc(), &found.sections()).expect(&rt, "room");
+    let mut listing = Vec::new(rt.alloc());
+    push_heading(rt.alloc(), &mut listing, &found.sections()).expect(&rt, "room");
     for index in 0..2 {
         add_subset(&rt, rt.alloc(), &found, index, &mut listing);
     }

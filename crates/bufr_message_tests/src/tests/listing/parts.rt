@@ -3,9 +3,10 @@
 use super::same;
 use super::samples::first_message;
 use super::writing::assert_taken;
-use bufr_fields::Subset;
+use bufr_fields::{NumberField, Subset};
 use bufr_listing::{
-    end_text, heading_text, push_field, push_subset, push_subset_line, subset_text, text_of,
+    end_text, push_field, push_heading, push_number_field, push_subset, push_subset_line,
+    subset_text, text_of,
 };
 use bufr_sections::{LentSections, Message};
 use std::alloc::Global;
@@ -40,7 +41,8 @@ fn thousand_subsets(rt: &impl Abort, alloc: Global) -> String {
 
 fn joined(rt: &impl Abort, alloc: Global, message: &Message) -> Vec<u8> {
     let sections = LentSections::of_message(message);
-    let mut text = heading_text(alloc, &sections).expect(rt, "an answer");
+    let mut text = Vec::new(alloc);
+    push_heading(alloc, &mut text, &sections).expect(rt, "an answer");
     for subset in message.subsets.as_slice() {
         push_subset(alloc, &mut text, subset).expect(rt, "an answer");
     }
@@ -48,16 +50,25 @@ fn joined(rt: &impl Abort, alloc: Global, message: &Message) -> Vec<u8> {
     text
 }
 
-/// The lines of this subset are `SUBSET`, at once and field by field.
+/// The lines of this subset are `SUBSET`, at once, field by field and number by number.
 fn assert_subset(rt: &impl Abort, alloc: Global, subset: &Subset) {
     let listed = subset_text(alloc, subset).expect(rt, "an answer");
     same(rt, listed.as_slice(), SUBSET.as_bytes());
     let mut lines = Vec::new(alloc);
     push_subset_line(&mut lines).expect(rt, "an answer");
+    let mut numbers = Vec::new(alloc);
+    push_subset_line(&mut numbers).expect(rt, "an answer");
     for field in subset.fields.as_slice() {
         push_field(alloc, &mut lines, field).expect(rt, "an answer");
+        let number = NumberField {
+            fxy: field.fxy,
+            spec: field.spec,
+            number: field.raw.number(),
+        };
+        push_number_field(alloc, &mut numbers, number).expect(rt, "an answer");
     }
     same(rt, lines.as_slice(), SUBSET.as_bytes());
+    same(rt, numbers.as_slice(), SUBSET.as_bytes());
 }
 
 /// The listing of a message is `wanted`: whole, in parts, and through a writer.

@@ -1,5 +1,5 @@
 -- The clauses of `write_number`: a number that is there is the raw number plus the reference value.
-use Rattle.std.proofs.Common.{◌≡◌, ◌∙◌, drop, sym}
+use Rattle.std.proofs.Common.{◌∙◌, drop, sym}
 use Rattle.std.specs.Prelude.{◌+ℤ◌, pos}
 use Rattle.bufr_fields.specs.Values.{as_field, decimal_within}
 use Rattle.bufr_listing.specs.Listings.{number_word}

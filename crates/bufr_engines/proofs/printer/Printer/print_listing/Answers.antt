@@ -1,7 +1,6 @@
 -- The heading, subset by subset, and the last line.
 use Rattle.std.proofs.Common.{◌≡◌, ℕ, List, [], ◌++◌, length, ◌∙◌, ap, sym, arith, Ok, Err}
 use Rattle.std.proofs.Common.{append_assoc, length-append, refl}
-use Rattle.bufr_message.specs.declared.Message.{Message}
 use Rattle.bufr_listing.specs.Listings.{line, joined, heading_lines, subset_line, end_line, listing}
 use Rattle.bufr_io.specs.declared.fault.ToolFault.TheVariants as faults
 use Rattle.bufr_engines.specs.declared.printer.Printer.{Printer}
@@ -20,8 +19,8 @@ write_long-requires-clause-lines g c =
     let p = c.args.self.now in
     let grown = c.in_ok-extend_from_slice.ensures.items
     ∙ ap (λ (t : List ℕ). p.held.items ++ t) (c.deref.ensures.value
-    ∙ c.in_ok-heading.ensures c.args.found.now.message.subsets
-    ∙ ap (λ (n : Message). joined (heading_lines n)) c.sections.ensures) in
+    ∙ c.in_ok-push_heading.ensures c.args.found.now.message.subsets
+    ∙ (λ i. c.clear.ensures.items i ++ joined (heading_lines (c.sections.ensures i)))) in
     (heading_added c.args.found.now.message p _ (g.W.Sink.writing c.args.writer.now) grown
     c.requires.lines c.requires.works).held_whole
 
@@ -35,8 +34,8 @@ returns-in_err-write_long-clause-prints g c =
     let e = c.in_err-write_long.field-0.0 in
     let grown = c.in_ok-extend_from_slice.ensures.items
     ∙ ap (λ (t : List ℕ). p.held.items ++ t) (c.deref.ensures.value
-    ∙ c.in_ok-heading.ensures c.args.found.now.message.subsets
-    ∙ ap (λ (n : Message). joined (heading_lines n)) c.sections.ensures) in
+    ∙ c.in_ok-push_heading.ensures c.args.found.now.message.subsets
+    ∙ (λ i. c.clear.ensures.items i ++ joined (heading_lines (c.sections.ensures i)))) in
     passed (Adds (listing m) p c.write_long.new.self first last)
     c.from_residual-in_err-write_long.result e c.from_residual-in_err-write_long.ensures.1
     (adds_longer (listed m 0) (unlisted m 0) (listing m) p c.write_long.new.self first last e
@@ -54,8 +53,8 @@ loop-index-init g c =
     let held = c.extend_from_slice.new.self.items in
     let grown = c.in_ok-extend_from_slice.ensures.items
     ∙ ap (λ (t : List ℕ). p.held.items ++ t) (c.deref.ensures.value
-    ∙ c.in_ok-heading.ensures c.args.found.now.message.subsets
-    ∙ ap (λ (n : Message). joined (heading_lines n)) c.sections.ensures) in
+    ∙ c.in_ok-push_heading.ensures c.args.found.now.message.subsets
+    ∙ (λ i. c.clear.ensures.items i ++ joined (heading_lines (c.sections.ensures i)))) in
     let e = c.in_ok-write_long.ensures in
     record {
       done = held_less held c.write_long.new.self.held.items (p.held.items ++ listed m 0)
@@ -129,8 +128,8 @@ print_fields-requires-clause-fits g c =
       length-append c.loop-index.self.held.items (line subset_line),
     )
 
-pub returns-in_err-heading-clause-prints : goal.returns-in_err-heading-clause-prints
-returns-in_err-heading-clause-prints g c =
+pub returns-in_err-push_heading-clause-prints : goal.returns-in_err-push_heading-clause-prints
+returns-in_err-push_heading-clause-prints g c =
     let text = listing c.args.found.now.message in
     let p = c.args.self.now in
     let writer = g.W.Sink.writing c.args.writer.now in

@@ -1,7 +1,7 @@
 -- The loop of `write_last`: the digits so far are written.
 use Rattle.std.proofs.Common.{◌≡◌, ◌-◌, ◌/◌, ◌^◌, ◌++◌, drop}
 use Rattle.bufr_fields.specs.Digits.{last_digits}
-use Rattle.bufr_select_rows.proofs.written.write_last.Given as goal
+use Rattle.bufr_listing.proofs.decimals.write_last.Given as goal
 
 -- the digits so far are written, and these are left
 abbrev pub invariant-loop-count : goal.invariant-loop-count

@@ -1,9 +1,9 @@
 -- The clauses of `write_tens`: a zero after the digits.
-use Rattle.std.proofs.Common.{◌≡◌, ◌≤◌, ◌-◌, ◌∙◌, arith, decimal, length}
+use Rattle.std.proofs.Common.{◌≤◌, ◌-◌, arith, decimal, length}
 use Rattle.std.proofs.lemmas.Fmt.{length-decimal-le}
 use Rattle.std.proofs.lemmas.List.{length-set}
-use Rattle.bufr_select_rows.proofs.WrittenFacts.{tens_written}
-use Rattle.bufr_select_rows.proofs.written.write_tens.Goals as goal
+use Rattle.bufr_listing.proofs.DecimalFacts.{tens_written}
+use Rattle.bufr_listing.proofs.decimals.write_tens.Goals as goal
 
 pub write_digits-requires : goal.write_digits-requires
 write_digits-requires c =

@@ -2,8 +2,8 @@
 use Rattle.std.proofs.Common.{◌≤◌, ◌-◌, arith, decimal, drop, length, refl}
 use Rattle.std.proofs.lemmas.Fmt.{length-decimal-le}
 use Rattle.std.proofs.lemmas.List.{length-set}
-use Rattle.bufr_select_rows.proofs.WrittenFacts.{point_written}
-use Rattle.bufr_select_rows.proofs.written.write_digits_by.Goals as goal
+use Rattle.bufr_listing.proofs.DecimalFacts.{point_written}
+use Rattle.bufr_listing.proofs.decimals.write_digits_by.Goals as goal
 
 pub write_digits-requires : goal.write_digits-requires
 write_digits-requires c =

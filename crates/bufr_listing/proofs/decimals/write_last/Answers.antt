@@ -1,7 +1,7 @@
 -- The clauses of `write_last`: one digit more.
 use Rattle.std.proofs.Common.{arith}
-use Rattle.bufr_select_rows.proofs.WrittenFacts.{digit_passed, digit_written}
-use Rattle.bufr_select_rows.proofs.written.write_last.Goals as goal
+use Rattle.bufr_listing.proofs.DecimalFacts.{digit_passed, digit_written}
+use Rattle.bufr_listing.proofs.decimals.write_last.Goals as goal
 
 pub loop-count-preserved : goal.loop-count-preserved
 loop-count-preserved c = record {

@@ -1,0 +1,155 @@
+//! Rows by the places of their fields, which a pair of tables finds for a list of descriptors.
+
+use super::samples::{
+    LEVELS, LEVELS_IN_COLUMNS, LEVELS_NEXT, LEVELS_OF_TWO, MISSING, NAMED, NAMED_IN_COLUMNS,
+    NAMED_OF_THREE, OF_46, SEQUENCES, SOUNDING, TABLE_B, TEXTS, UNEQUAL,
+};
+use super::{Run, assert_run, joined, tables_of};
+use bufr_select_engine::Pair;
+use bufr_tables::Tables;
+use std::alloc::Global;
+use std::process::Abort;
+
+/// Columns, the descriptor of `-e` if there is one, the 16 bits of all these descriptors in rising order,
+/// the messages of an input, and their rows.
+const ROWS: [(&str, &str, &[u16], &[&[u8]], &str); 11] = [
+    (
+        "message,subset,001001,012101#2,007004#3,011001",
+        "",
+        &[0x0101, 0x0704, 0x0B01, 0x0C65],
+        &[LEVELS, LEVELS_NEXT, LEVELS_OF_TWO, LEVELS],
+        "message,subset,001001,012101#2,007004#3,011001\n\
+        1,1,10,268.00,70000,180\n2,1,11,300.00,50000,\n3,1,,273.17,30,0\n\
+        3,2,12,655.34,60,270\n4,1,10,268.00,70000,180\n",
+    ),
+    (
+        "message,subset,001002,007004,012101",
+        "007004",
+        &[0x0102, 0x0704, 0x0C65],
+        &[LEVELS, LEVELS_NEXT, LEVELS_OF_TWO, LEVELS_IN_COLUMNS],
+        "message,subset,001002,007004,012101\n\
+        1,1,384,100000,273.15\n1,1,384,85000,268.00\n1,1,384,70000,\n\
+        2,1,1,99990,0.01\n2,1,1,,300.00\n2,1,1,50000,250.50\n\
+        3,1,1022,10,273.16\n3,1,1022,20,273.17\n3,1,1022,30,273.18\n\
+        3,2,2,40,0.00\n3,2,2,50,655.34\n3,2,2,60,270.00\n\
+        4,1,100,90020,280.01\n4,1,100,80000,\n4,1,100,,270.15\n\
+        4,2,105,90000,\n4,2,105,80000,\n4,2,105,,270.00\n",
+    ),
+    (
+        "message,012101,007004#1",
+        "011001",
+        &[0x0704, 0x0B01, 0x0C65],
+        &[LEVELS, LEVELS_NEXT, LEVELS_OF_TWO],
+        "message,012101,007004#1\n1,,\n2,250.50,\n3,273.18,\n3,270.00,\n",
+    ),
+    (
+        "011001,001002",
+        "",
+        &[0x0102, 0x0B01],
+        &[LEVELS_IN_COLUMNS, LEVELS_OF_TWO, LEVELS_IN_COLUMNS],
+        "011001,001002\n90,100\n180,105\n0,1022\n270,2\n90,100\n180,105\n",
+    ),
+    (
+        "subset,001011,012101",
+        "",
+        &[0x010B, 0x0C65],
+        &[NAMED, NAMED_OF_THREE, NAMED],
+        "subset,001011,012101\n1,A b,273.15\n1,\"c,\",268.15\n2,,\n\
+        3,\"\\00Z\"\"\",0.00\n1,A b,273.15\n",
+    ),
+    (
+        "compressed,subset,001001,001011",
+        "001011",
+        &[0x0101, 0x010B],
+        &[NAMED_IN_COLUMNS, NAMED, NAMED_OF_THREE, NAMED_IN_COLUMNS],
+        "compressed,subset,001001,001011\n1,1,10,abc\n1,2,11,xyz\n0,1,10,A b\n\
+        0,1,11,\"c,\"\n0,2,12,\n0,3,13,\"\\00Z\"\"\"\n1,1,10,abc\n1,2,11,xyz\n",
+    ),
+    (
+        "message,subset,001001,001011,011001",
+        "",
+        &[0x0101, 0x010B, 0x0B01],
+        &[LEVELS, NAMED, LEVELS_NEXT, NAMED_OF_THREE],
+        "message,subset,001001,001011,011001\n1,1,10,,180\n2,1,10,A b,\n3,1,11,,\n\
+        4,1,11,\"c,\",\n4,2,12,,\n4,3,13,\"\\00Z\"\"\",\n",
+    ),
+    (
+        "message,001001,012101",
+        "",
+        &[0x0101, 0x0C65],
+        &[
+            LEVELS,
+            NAMED,
+            TEXTS,
+            OF_46,
+            SEQUENCES,
+            LEVELS_NEXT,
+            NAMED_OF_THREE,
+            MISSING,
+        ],
+        "message,001001,012101\n1,10,273.15\n2,10,273.15\n3,,\n4,,273.15\n5,10,273.15\n\
+        6,11,0.01\n7,11,268.15\n7,12,\n7,13,0.00\n8,10,\n",
+    ),
+    (
+        "message,subset,012101",
+        "",
+        &[0x0C65],
+        &[SOUNDING, UNEQUAL, SOUNDING, UNEQUAL],
+        "message,subset,012101\n1,1,273.15\n2,1,\n2,2,273.15\n3,1,273.15\n4,1,\n4,2,273.15\n",
+    ),
+    (
+        "message,011002",
+        "",
+        &[0x0B02],
+        &[LEVELS, LEVELS_NEXT],
+        "message,011002\n1,\n2,\n",
+    ),
+    (
+        "message,subset",
+        "",
+        &[],
+        &[LEVELS_OF_TWO, LEVELS_OF_TWO],
+        "message,subset\n1,1\n1,2\n2,1\n2,2\n",
+    ),
+];
+
+/// Makes the pair of tables that reads all versions, and finds the places of these descriptors.
+fn pair_for<'t>(
+    rt: &impl Abort,
+    alloc: Global,
+    tables: &'t Tables,
+    list: &'t [u16],
+) -> Vec<Pair<'t>> {
+    let mut pairs = Vec::new(alloc);
+    pairs
+        .push(Pair::for_elements(alloc, None, tables, list))
+        .ok()
+        .expect(rt, "memory");
+    pairs
+}
+
+/// Messages with the same descriptors, with the places of their fields and without them. Places are known
+/// from a template's second plain message on, and in each compressed one.
+#[test]
+fn rows_by_places(rt: HostRuntime) {
+    let alloc = rt.alloc();
+    let tables = tables_of(&rt, alloc, TABLE_B);
+    for (place, (columns, each, list, messages, rows)) in ROWS.into_iter().enumerate() {
+        let stream = joined(&rt, alloc, messages);
+        let frames = messages.len() as u128;
+        for found in [list, &[]] {
+            let mut run = Run::new(columns, each, &stream, b"");
+            run.place = place;
+            let pairs = pair_for(&rt, alloc, &tables, found);
+            assert_run(
+                &rt,
+                alloc,
+                pairs,
+                run,
+                Ok((frames, 0)),
+                rows.as_bytes(),
+                b"",
+            );
+        }
+    }
+}
