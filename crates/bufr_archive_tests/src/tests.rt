@@ -335,14 +335,19 @@ fn at_once<S: Shelf>(rt: &impl Abort, alloc: Global, tables: &Tables, slots: usi
     }
 }
 
+/// Runs the steps of rows over both shelves, one by one and in one run.
+fn run_rows(rt: &impl Abort, alloc: Global, tables: &Tables, slots: usize, rows: &[Row]) {
+    one_by_one::<MapShelf>(rt, alloc, tables, slots, rows);
+    one_by_one::<SortedShelf>(rt, alloc, tables, slots, rows);
+    at_once::<MapShelf>(rt, alloc, tables, slots, rows);
+    at_once::<SortedShelf>(rt, alloc, tables, slots, rows);
+}
+
 /// The steps have these answers over both shelves, one by one and in one run.
 #[test]
 fn steps(rt: HostRuntime) {
     let tables = tables(&rt, rt.alloc());
     for (slots, rows) in DEPOTS {
-        one_by_one::<MapShelf>(&rt, rt.alloc(), &tables, *slots, *rows);
-        one_by_one::<SortedShelf>(&rt, rt.alloc(), &tables, *slots, *rows);
-        at_once::<MapShelf>(&rt, rt.alloc(), &tables, *slots, *rows);
-        at_once::<SortedShelf>(&rt, rt.alloc(), &tables, *slots, *rows);
+        run_rows(&rt, rt.alloc(), &tables, *slots, *rows);
     }
 }

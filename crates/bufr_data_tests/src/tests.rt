@@ -1,4 +1,5 @@
-//! Tests of subsets in bits and back.
+//! Tests of subsets in bits and back. Functions end with `drop` of an index, a template or fields: one
+//! that drops such a value itself has a longer proof.
 
 mod asked;
 mod chosen;

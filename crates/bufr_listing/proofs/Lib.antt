@@ -4,5 +4,4 @@ pub mod ListingFacts
 pub mod FrontFacts
 pub mod RowFacts
 pub mod QuoteFacts
-pub mod TitleFacts
 pub mod DecimalFacts

@@ -8,7 +8,6 @@ ghost use Rattle.bufr_listing.specs.Listings.{words, line, joined, numbers_line}
 ghost use Rattle.bufr_listing.specs.Listings.{section1_line, time_line, flags_line};
 ghost use Rattle.bufr_listing.specs.Listings.{descriptors_line, heading_lines};
 
-use crate::titles::six_digits;
 use bufr_base::{Items, OutOfMemory};
 use bufr_sections::{Head, LentSections};
 use bufr_tables::Fxy;
@@ -139,7 +138,7 @@ fn push_descriptors(text: &mut Vec<u8>, descriptors: &[Fxy]) -> Result<(), OutOf
 {
     text.extend_from_slice(b"descriptors")?;
     for fxy in descriptors {
-        let digits = six_digits(*fxy);
+        let digits = fxy.digits();
         text.extend_from_slice(&[
             b' ', digits[0], digits[1], digits[2], digits[3], digits[4], digits[5],
         ])?;

@@ -1,4 +1,5 @@
-//! Writes listings: messages as lines of words. A call that runs out of memory changes nothing.
+//! Writes listings: messages as lines of words. A call that runs out of memory changes nothing, but
+//! `push_heading` may leave a part.
 #![tactic(auto)]
 
 mod decimals;

@@ -1,4 +1,5 @@
-//! Reads, views and writes messages, their reports, sections and listings.
+//! Reads, views and writes messages, their reports, sections and listings. Functions end with `drop`
+//! of a view, a reader or a message: one that drops such a value itself has a longer proof.
 
 mod chosen;
 mod listed;

@@ -133,11 +133,6 @@ passed_more P all old new f so_far unasked is = (
   so_far.2 ∙ ap (λ fields. so_far.0 ++ fields) is ∙ sym (append_assoc so_far.0 (f ∷ []) new),
 )
 
-pub asked_next : (P : ℕ → Bool) (all old new : List Field) (f : Field) → PassesUnasked P all old
-    → P f.fxy ≡ true → old ≡ f ∷ new → HandsOutAsked P all (Some f) new
-asked_next P all old new f so_far asked is =
-    (so_far.0, so_far.1, asked, so_far.2 ∙ ap (λ fields. so_far.0 ++ fields) is)
-
 pub asked_none : (P : ℕ → Bool) (all old new : List Field) → PassesUnasked P all old → old ≡ []
     → new ≡ [] → HandsOutAsked P all None new
 asked_none P all old new so_far empty none =

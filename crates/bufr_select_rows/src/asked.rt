@@ -22,6 +22,7 @@ pub struct Asked {
     /// The mark of each descriptor: 0 if it is not in the set, the index of its cell plus 2 if no other cell
     /// asks for it, else 1.
     marks: Vec<u16>,
+    /// The descriptors with a mark, in rising order.
     listed: Vec<u16>,
 }
 

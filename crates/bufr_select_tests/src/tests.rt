@@ -138,7 +138,15 @@ fn joined(rt: &impl Abort, alloc: Global, texts: &[&[u8]]) -> Vec<u8> {
 }
 
 /// Columns, the descriptor of `-e` if there is one, two inputs, and their rows.
-const ROWS: [(&str, &str, &[u8], &[u8], &str); 11] = [
+type Row = (
+    &'static str,
+    &'static str,
+    &'static [u8],
+    &'static [u8],
+    &'static str,
+);
+
+const ROWS: &[Row] = &[
     (
         "input,message,place,subset,001001,001002,004001,012101",
         "",
@@ -209,29 +217,52 @@ const ROWS: [(&str, &str, &[u8], &[u8], &str); 11] = [
     ),
 ];
 
+/// Stops the test unless a run, whose reads give at most this many octets, has this row's rows.
+fn assert_row(rt: &impl Abort, alloc: Global, tables: &Tables, most: usize, row: &Row) {
+    let (columns, each, first, second, rows) = row;
+    let mut run = Run::new(*columns, *each, *first, *second);
+    run.most = most;
+    run.place = most;
+    let frames = if second.is_empty() { 1 } else { 2 };
+    let pairs = one_pair(rt, alloc, tables);
+    assert_run(rt, alloc, pairs, run, Ok((frames, 0)), rows.as_bytes(), b"");
+}
+
 /// Messages of all kinds, whatever pieces the streams come in.
 #[test]
 fn rows_in_any_pieces(rt: HostRuntime) {
     let alloc = rt.alloc();
     let tables = tables_of(&rt, alloc, TABLE_B);
     for most in [1, 61, 65_536] {
-        for (columns, each, first, second, rows) in ROWS {
-            let mut run = Run::new(columns, each, first, second);
-            run.most = most;
-            run.place = most;
-            let frames = if second.is_empty() { 1 } else { 2 };
-            let pairs = one_pair(&rt, alloc, &tables);
-            assert_run(
-                &rt,
-                alloc,
-                pairs,
-                run,
-                Ok((frames, 0)),
-                rows.as_bytes(),
-                b"",
-            );
+        for row in ROWS {
+            assert_row(&rt, alloc, &tables, most, row);
         }
     }
+}
+
+/// The rows and the refusals of the frames that count.
+const HEARD_ROWS: &[u8] = b"message,012101\n2,273.15\n4,\n2,273.15\n";
+
+const HEARD_LINES: &[u8] = b"bufr-select: input 1 at 0: M2 Edition 5\n\
+bufr-select: input 1 at 129: M2 Edition 5\nbufr-select: input 2 at 0: M2 Edition 5\n";
+
+/// Stops the test unless the writer of refusals takes this many octets, and the rest goes on.
+fn assert_heard(
+    rt: &impl Abort,
+    alloc: Global,
+    tables: &Tables,
+    first: &[u8],
+    second: &[u8],
+    heard: usize,
+) {
+    let mut run = Run::new("message,012101", "", first, second);
+    run.place = heard;
+    run.heard = heard;
+    let lines = HEARD_LINES;
+    let told = heard.min(lines.len());
+    let pairs = one_pair(rt, alloc, tables);
+    let wanted = Ok((6, 3));
+    assert_run(rt, alloc, pairs, run, wanted, HEARD_ROWS, &lines[..told]);
 }
 
 /// Refused frames among others: they count, their lines go to the other writer, and the rest goes on,
@@ -245,18 +276,45 @@ fn refusals_to_the_other_writer(rt: HostRuntime) {
         alloc,
         &[EDITION_5, SEQUENCES, b"stray", EDITION_5, MISSING],
     );
-    let rows = b"message,012101\n2,273.15\n4,\n2,273.15\n";
-    let lines = b"bufr-select: input 1 at 0: M2 Edition 5\n\
-bufr-select: input 1 at 129: M2 Edition 5\nbufr-select: input 2 at 0: M2 Edition 5\n";
     let second = joined(&rt, alloc, &[EDITION_5, SEQUENCES]);
-    for heard in 0..=lines.len() + 1 {
-        let mut run = Run::new("message,012101", "", &first, &second);
-        run.place = heard;
-        run.heard = heard;
-        let told = heard.min(lines.len());
-        let pairs = one_pair(&rt, alloc, &tables);
-        assert_run(&rt, alloc, pairs, run, Ok((6, 3)), rows, &lines[..told]);
+    for heard in 0..=HEARD_LINES.len() + 1 {
+        assert_heard(&rt, alloc, &tables, &first, &second, heard);
     }
+}
+
+/// Adds the pair of tables that reads the versions up to this one.
+fn add_pair<'t>(
+    rt: &impl Abort,
+    alloc: Global,
+    pairs: &mut Vec<Pair<'t>>,
+    version: u8,
+    tables: &'t Tables,
+) {
+    pairs
+        .push(Pair::new(alloc, Some(version), tables))
+        .ok()
+        .expect(rt, "memory");
+}
+
+fn assert_two_pairs(rt: &impl Abort, alloc: Global, old: &Tables, new: &Tables) {
+    let mut pairs = Vec::new(alloc);
+    add_pair(rt, alloc, &mut pairs, 13, old);
+    add_pair(rt, alloc, &mut pairs, 46, new);
+    let first = joined(rt, alloc, &[OF_13, OF_46, OF_47, OF_13]);
+    let run = Run::new("place,master_version,012101", "", &first, OF_46);
+    let text =
+        b"place,master_version,012101\n0,13,2731.5\n49,46,273.15\n147,13,2731.5\n0,46,273.15\n";
+    let line = b"bufr-select: input 1 at 98: no tables of version 47\n";
+    assert_run(rt, alloc, pairs, run, Ok((5, 1)), text, line);
+}
+
+fn assert_old_pair(rt: &impl Abort, alloc: Global, old: &Tables) {
+    let mut pairs = Vec::new(alloc);
+    add_pair(rt, alloc, &mut pairs, 45, old);
+    let run = Run::new("place", "", EDITION_5, OF_46);
+    let lines = b"bufr-select: input 1 at 0: M2 Edition 5\n\
+bufr-select: input 2 at 0: no tables of version 46\n";
+    assert_run(rt, alloc, pairs, run, Ok((2, 2)), b"place\n", lines);
 }
 
 /// Each frame is read under the first pair whose version is not below its own.
@@ -265,32 +323,62 @@ fn pairs_of_versions(rt: HostRuntime) {
     let alloc = rt.alloc();
     let old = tables_of(&rt, alloc, OTHER_B);
     let new = tables_of(&rt, alloc, TABLE_B);
-    let first = joined(&rt, alloc, &[OF_13, OF_46, OF_47, OF_13]);
-    let text =
-        b"place,master_version,012101\n0,13,2731.5\n49,46,273.15\n147,13,2731.5\n0,46,273.15\n";
-    let mut pairs = one_pair(&rt, alloc, &old);
-    pairs.clear();
-    pairs
-        .push(Pair::new(alloc, Some(13), &old))
-        .ok()
-        .expect(&rt, "memory");
-    pairs
-        .push(Pair::new(alloc, Some(46), &new))
-        .ok()
-        .expect(&rt, "memory");
-    let run = Run::new("place,master_version,012101", "", &first, OF_46);
-    let line = b"bufr-select: input 1 at 98: no tables of version 47\n";
-    assert_run(&rt, alloc, pairs, run, Ok((5, 1)), text, line);
-    let mut pairs = one_pair(&rt, alloc, &old);
-    pairs.clear();
-    pairs
-        .push(Pair::new(alloc, Some(45), &old))
-        .ok()
-        .expect(&rt, "memory");
-    let run = Run::new("place", "", EDITION_5, OF_46);
-    let lines = b"bufr-select: input 1 at 0: M2 Edition 5\n\
-bufr-select: input 2 at 0: no tables of version 46\n";
-    assert_run(&rt, alloc, pairs, run, Ok((2, 2)), b"place\n", lines);
+    assert_two_pairs(&rt, alloc, &old, &new);
+    assert_old_pair(&rt, alloc, &old);
+}
+
+/// The rows and the refusal of the frames up to the end of both inputs.
+const READ_ROWS: &[u8] = b"input,012101\n1,273.15\n2,273.15\n";
+
+const READ_LINE: &[u8] = b"bufr-select: input 2 at 0: M2 Edition 5\n";
+
+/// Stops the test unless a run fails to read past these octets of the second input.
+fn assert_broken(rt: &impl Abort, alloc: Global, tables: &Tables, second: &[u8]) {
+    let (text, line) = (READ_ROWS, READ_LINE);
+    let given = second.len();
+    let written = if given < 124 { 22 } else { 31 };
+    let told = if given < 62 { 0 } else { line.len() };
+    let mut run = Run::new("input,012101", "", OF_46, second);
+    run.place = given;
+    run.breaks = true;
+    let fault = Err(ToolFault::ReadFailed(Input::Number(2)));
+    let pairs = one_pair(rt, alloc, tables);
+    assert_run(
+        rt,
+        alloc,
+        pairs,
+        run,
+        fault,
+        &text[..written],
+        &line[..told],
+    );
+}
+
+/// Stops the test unless an input needs more reads than these, which bring the first rows.
+fn assert_endless(
+    rt: &impl Abort,
+    alloc: Global,
+    tables: &Tables,
+    second: &[u8],
+    reads: u32,
+    input: Input,
+    rows: &[u8],
+    refusals: &[u8],
+) {
+    let mut run = Run::new("input,012101", "", OF_46, second);
+    run.reads = reads;
+    run.most = 10;
+    let fault = Err(ToolFault::EndlessInput(input));
+    let pairs = one_pair(rt, alloc, tables);
+    assert_run(rt, alloc, pairs, run, fault, rows, refusals);
+}
+
+fn assert_each_endless(rt: &impl Abort, alloc: Global, tables: &Tables, second: &[u8]) {
+    let (front, header) = (&READ_ROWS[..22], &READ_ROWS[..13]);
+    let (one, two) = (Input::Number(1), Input::Number(2));
+    assert_endless(rt, alloc, tables, second, 5, one, front, b"");
+    assert_endless(rt, alloc, tables, second, 0, one, header, b"");
+    assert_endless(rt, alloc, tables, second, 7, two, front, READ_LINE);
 }
 
 /// A read that fails after each octet, or is not allowed: the header line, and the rows and refusals of
@@ -300,40 +388,31 @@ fn reads_that_fail(rt: HostRuntime) {
     let alloc = rt.alloc();
     let tables = tables_of(&rt, alloc, TABLE_B);
     let second = joined(&rt, alloc, &[EDITION_5, SEQUENCES]);
-    let text = b"input,012101\n1,273.15\n2,273.15\n";
-    let line = b"bufr-select: input 2 at 0: M2 Edition 5\n";
     for given in 0..=second.len() {
-        let written = if given < 124 { 22 } else { 31 };
-        let told = if given < 62 { 0 } else { line.len() };
-        let mut run = Run::new("input,012101", "", OF_46, &second[..given]);
-        run.place = given;
-        run.breaks = true;
-        let fault = ToolFault::ReadFailed(Input::Number(2));
-        let pairs = one_pair(&rt, alloc, &tables);
-        assert_run(
-            &rt,
-            alloc,
-            pairs,
-            run,
-            Err(fault),
-            &text[..written],
-            &line[..told],
-        );
+        assert_broken(&rt, alloc, &tables, &second[..given]);
     }
-    let mut run = Run::new("input,012101", "", OF_46, &second);
-    run.reads = 5;
-    run.most = 10;
-    let fault = ToolFault::EndlessInput(Input::Number(1));
-    let pairs = one_pair(&rt, alloc, &tables);
-    assert_run(&rt, alloc, pairs, run, Err(fault), &text[..22], b"");
-    run.reads = 0;
-    let fault = ToolFault::EndlessInput(Input::Number(1));
-    let pairs = one_pair(&rt, alloc, &tables);
-    assert_run(&rt, alloc, pairs, run, Err(fault), &text[..13], b"");
-    run.reads = 7;
-    let fault = ToolFault::EndlessInput(Input::Number(2));
-    let pairs = one_pair(&rt, alloc, &tables);
-    assert_run(&rt, alloc, pairs, run, Err(fault), &text[..22], line);
+    assert_each_endless(&rt, alloc, &tables, &second);
+}
+
+/// The rows and the refusal of both inputs.
+const WRITTEN_ROWS: &[u8] = b"place,012101\n0,\n0,273.15\n";
+
+const WRITTEN_LINE: &[u8] = b"bufr-select: input 1 at 62: M2 Edition 5\n";
+
+/// Stops the test unless the writer of rows fails after these octets.
+fn assert_written(rt: &impl Abort, alloc: Global, tables: &Tables, first: &[u8], rows: &[u8]) {
+    let room = rows.len();
+    let line = WRITTEN_LINE;
+    let told = if room < 16 { 0 } else { line.len() };
+    let mut run = Run::new("place,012101", "", first, SEQUENCES);
+    run.place = room;
+    run.most = 62;
+    run.room = room;
+    let fault = Err(ToolFault::WriteFailed {
+        written: room as u128,
+    });
+    let pairs = one_pair(rt, alloc, tables);
+    assert_run(rt, alloc, pairs, run, fault, rows, &line[..told]);
 }
 
 /// A writer of rows that fails after each octet, at the flush too.
@@ -342,28 +421,49 @@ fn writes_that_fail(rt: HostRuntime) {
     let alloc = rt.alloc();
     let tables = tables_of(&rt, alloc, TABLE_B);
     let first = joined(&rt, alloc, &[MISSING, EDITION_5]);
-    let text = b"place,012101\n0,\n0,273.15\n";
-    let line = b"bufr-select: input 1 at 62: M2 Edition 5\n";
-    for room in 0..=text.len() {
-        let told = if room < 16 { 0 } else { line.len() };
-        let mut run = Run::new("place,012101", "", &first, SEQUENCES);
-        run.place = room;
-        run.most = 62;
-        run.room = room;
-        let fault = ToolFault::WriteFailed {
-            written: room as u128,
-        };
-        let pairs = one_pair(&rt, alloc, &tables);
-        assert_run(
-            &rt,
-            alloc,
-            pairs,
-            run,
-            Err(fault),
-            &text[..room],
-            &line[..told],
-        );
+    for room in 0..=WRITTEN_ROWS.len() {
+        assert_written(&rt, alloc, &tables, &first, &WRITTEN_ROWS[..room]);
     }
+}
+
+/// The columns of the rows of two thousand messages.
+const COLUMNS: &str = "input,message,place,subset,centre,sub_centre,update,category,international,\
+local_category,master_version,local_version,year,month,day,hour,minute,second,observed,012101";
+
+fn rows_of_thousands(rt: &impl Abort, alloc: Global) -> Vec<u8> {
+    let mut text = joined(rt, alloc, &[COLUMNS.as_bytes(), b"\n"]);
+    for turn in 0..2000u32 {
+        let (number, place) = (turn + 1, 49 * turn);
+        let row = format!(in alloc;
+            "1,{number},{place},1,98,0,0,0,2,0,46,0,2024,1,15,12,0,0,1,273.15\n"
+        ).expect(rt, "memory");
+        text.extend_from_slice(row.as_bytes()).expect(rt, "memory");
+    }
+    text
+}
+
+fn stream_of_thousands(rt: &impl Abort, alloc: Global) -> Vec<u8> {
+    let mut stream = Vec::new(alloc);
+    for _ in 0..2000u32 {
+        stream.extend_from_slice(OF_46).expect(rt, "memory");
+    }
+    stream
+}
+
+/// Stops the test unless a run, whose reads give at most this many octets, has these rows.
+fn assert_thousands(
+    rt: &impl Abort,
+    alloc: Global,
+    tables: &Tables,
+    stream: &[u8],
+    most: usize,
+    rows: &[u8],
+) {
+    let mut run = Run::new(COLUMNS, "", stream, b"");
+    run.place = most;
+    run.most = most;
+    let pairs = one_pair(rt, alloc, tables);
+    assert_run(rt, alloc, pairs, run, Ok((2000, 0)), rows, b"");
 }
 
 /// Two thousand messages, whose rows are longer than what is written at once: 98,000 octets in two reads
@@ -372,23 +472,9 @@ fn writes_that_fail(rt: HostRuntime) {
 fn thousands_of_messages(rt: HostRuntime) {
     let alloc = rt.alloc();
     let tables = tables_of(&rt, alloc, TABLE_B);
-    let columns = "input,message,place,subset,centre,sub_centre,update,category,international,\
-local_category,master_version,local_version,year,month,day,hour,minute,second,observed,012101";
-    let mut stream = Vec::new(alloc);
-    let mut text = joined(&rt, alloc, &[columns.as_bytes(), b"\n"]);
-    for turn in 0..2000u32 {
-        let (number, place) = (turn + 1, 49 * turn);
-        let row = format!(in alloc;
-            "1,{number},{place},1,98,0,0,0,2,0,46,0,2024,1,15,12,0,0,1,273.15\n"
-        ).expect(&rt, "memory");
-        text.extend_from_slice(row.as_bytes()).expect(&rt, "memory");
-        stream.extend_from_slice(OF_46).expect(&rt, "memory");
-    }
+    let stream = stream_of_thousands(&rt, alloc);
+    let rows = rows_of_thousands(&rt, alloc);
     for most in [1000, 65_536] {
-        let mut run = Run::new(columns, "", &stream, b"");
-        run.place = most;
-        run.most = most;
-        let pairs = one_pair(&rt, alloc, &tables);
-        assert_run(&rt, alloc, pairs, run, Ok((2000, 0)), &text, b"");
+        assert_thousands(&rt, alloc, &tables, &stream, most, &rows);
     }
 }

@@ -10,3 +10,4 @@ pub mod SheetFacts
 pub mod ElementFacts
 pub mod GroupFacts
 pub mod SequenceFacts
+pub mod DigitFacts

@@ -15,6 +15,7 @@ mod table_b;
 mod table_d;
 mod table_faults;
 mod tables;
+mod three_digits;
 mod worked_values;
 
 pub use bufr_base::{Failure, OutOfMemory};

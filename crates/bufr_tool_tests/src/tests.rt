@@ -103,6 +103,7 @@ fn assert_run(rt: &impl Abort, alloc: Global, run: Run<'_>, wanted: Counted, tex
             run_encode(alloc, reads, &tables, compressed, &mut reader, &mut writer)
         }
     };
+    drop(tables);
     let wanted = match wanted {
         Ok((frames, refused, skipped)) => Ok(Tally {
             frames,

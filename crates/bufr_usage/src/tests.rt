@@ -143,10 +143,11 @@ const COUNTED: [(&[u8], usize); 4] = [(EMPTY, 0), (BARE, 1), (EDITION_3, 1), (BO
 #[test]
 fn reports_are_counted(rt: HostRuntime) {
     let tables = tables(&rt, rt.alloc());
-    for (octets, reports) in COUNTED {
+    for &(octets, reports) in &COUNTED {
         assert!(rt; count(rt.alloc(), &tables, octets) == Ok(reports));
     }
     let refused = count(rt.alloc(), &tables, &BARE[..40]);
+    drop(tables);
     assert!(rt; refused == Err(Failure::Fault(Refused::TotalLength)));
 }
 
@@ -166,10 +167,11 @@ fn is_cut(answer: Result<Vec<u8>, RewriteFault>) -> bool {
 #[test]
 fn slack_is_not_rewritten(rt: HostRuntime) {
     let tables = tables(&rt, rt.alloc());
-    for (octets, wanted) in REWRITTEN {
+    for &(octets, wanted) in &REWRITTEN {
         assert!(rt; gives(rewritten(rt.alloc(), &tables, octets), wanted));
     }
     assert!(rt; is_cut(rewritten(rt.alloc(), &tables, &SLACK[..40])));
+    drop(tables);
 }
 
 fn is_frame(found: &[Found], place: u64, octets: &[u8]) -> bool {
@@ -184,6 +186,7 @@ fn frames_before_and_at_the_end(rt: HostRuntime) {
     let frames = frames_of(rt.alloc(), STREAM).expect(&rt, "room");
     assert!(rt; is_frame(&frames.sure, 0, SLACK));
     assert!(rt; is_frame(&frames.last, 54, BARE));
+    drop(frames);
 }
 
 /// An archive's file, a message, and the file with the message: in place of, after or before
@@ -209,7 +212,7 @@ fn breaks(answer: Result<Vec<u8>, KeepFault>, at: u64) -> bool {
 #[test]
 fn messages_taken_in(rt: HostRuntime) {
     let tables = tables(&rt, rt.alloc());
-    for (file, message, text) in TAKEN_IN {
+    for &(file, message, text) in &TAKEN_IN {
         assert!(rt; gives(with_message(rt.alloc(), &tables, file, message), text));
     }
     assert!(rt; breaks(with_message(rt.alloc(), &tables, SLACK, BARE), 0));
@@ -219,4 +222,5 @@ fn messages_taken_in(rt: HostRuntime) {
             98
         )
     );
+    drop(tables);
 }

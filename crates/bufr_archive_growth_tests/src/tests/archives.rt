@@ -65,8 +65,8 @@ fn archive_of<'t, S: Shelf>(
     repeated!(rt, Archive::read(alloc, tables, &text))
 }
 
-/// Merges two archives and copies the merged one. After a refusal all hold what they held.
-fn merges<S: Shelf>(rt: &impl Abort, alloc: Global, tables: &Tables) {
+/// Merges two archives. After a refusal both hold what they held.
+fn merged<'t, S: Shelf>(rt: &impl Abort, alloc: Global, tables: &'t Tables) -> Archive<'t, S> {
     let mut archive: Archive<S> = archive_of(rt, alloc, tables, OWN);
     let other: Archive<S> = archive_of(rt, alloc, tables, OTHERS);
     repeated!(
@@ -75,6 +75,12 @@ fn merges<S: Shelf>(rt: &impl Abort, alloc: Global, tables: &Tables) {
         assert_holds(rt, alloc, &archive, OWN)
     );
     assert_holds(rt, alloc, &other, OTHERS);
+    archive
+}
+
+/// Merges two archives and copies the merged one, which stays.
+fn merges<S: Shelf>(rt: &impl Abort, alloc: Global, tables: &Tables) {
+    let archive: Archive<S> = merged(rt, alloc, tables);
     let copied = repeated!(rt, archive.copy());
     assert_holds(rt, alloc, &copied, ALL);
     assert_holds(rt, alloc, &archive, ALL);

@@ -242,20 +242,21 @@ fn run_plans(rt: &impl Abort, alloc: Global, plan: &Plan<'_, '_>, other: &Plan<'
     first && second
 }
 
+fn plans_run(rt: &impl Abort, alloc: Global, tables: &Tables, steps: &[Step]) {
+    let plan = Plan {
+        tables,
+        slots: 2,
+        steps,
+    };
+    let other = Plan { steps, ..plan };
+    if !run_plans(rt, alloc, &plan, &other) {
+        assert!(rt; run_plans(rt, alloc, &plan, &other));
+    }
+}
+
 #[test]
 fn both_plans_run(rt: HostRuntime) {
     let tables = tables(&rt, rt.alloc());
     let steps = steps_of(&rt, rt.alloc());
-    let plan = Plan {
-        tables: &tables,
-        slots: 2,
-        steps: &steps,
-    };
-    let other = Plan {
-        steps: &steps,
-        ..plan
-    };
-    if !run_plans(&rt, rt.alloc(), &plan, &other) {
-        assert!(rt; run_plans(&rt, rt.alloc(), &plan, &other));
-    }
+    plans_run(&rt, rt.alloc(), &tables, &steps);
 }

@@ -49,18 +49,27 @@ fn hands_out<'t>(rt: &impl Abort, alloc: Global, own: &ArchiveText<'t>, other: &
     assert_end(rt, &mut left);
 }
 
+fn hands_out_both(rt: &impl Abort, alloc: Global, tables: &Tables) {
+    let own = text_of(rt, alloc, tables, OWN);
+    let other = text_of(rt, alloc, tables, OTHERS);
+    hands_out(rt, alloc, &own, &other);
+}
+
 /// Merges a text into another, which stays after a refusal; the text that it takes in is gone.
-fn merges(rt: &impl Abort, alloc: Global, tables: &Tables) {
+fn merged<'t>(rt: &impl Abort, alloc: Global, tables: &'t Tables) -> ArchiveText<'t> {
     let mut own = text_of(rt, alloc, tables, OWN);
-    if own
-        .merge(alloc, text_of(rt, alloc, tables, OTHERS))
-        .is_err()
-    {
+    let other = text_of(rt, alloc, tables, OTHERS);
+    if own.merge(alloc, other).is_err() {
         same(rt, own.len(), OWN.len());
         let other = text_of(rt, alloc, tables, OTHERS);
         own.merge(alloc, other)
             .expect(rt, "what no longer is refused");
     }
+    own
+}
+
+fn merges(rt: &impl Abort, alloc: Global, tables: &Tables) {
+    let own = merged(rt, alloc, tables);
     let text = joined(rt, alloc, ALL);
     same(rt, own.into_octets().as_slice(), text.as_slice());
 }
@@ -68,9 +77,7 @@ fn merges(rt: &impl Abort, alloc: Global, tables: &Tables) {
 #[test]
 fn texts_merged(rt: HostRuntime) {
     let tables = tables(&rt, rt.alloc());
-    let own = text_of(&rt, rt.alloc(), &tables, OWN);
-    let other = text_of(&rt, rt.alloc(), &tables, OTHERS);
-    hands_out(&rt, rt.alloc(), &own, &other);
+    hands_out_both(&rt, rt.alloc(), &tables);
     merges(&rt, rt.alloc(), &tables);
 }
 

@@ -8,7 +8,7 @@ use super::samples::{
     number_of, template, text_of,
 };
 use bufr_bits::BitReader;
-use bufr_data::{Asks, DataTemplate, Fields, LaidFields, SubsetIndex};
+use bufr_data::{Asks, DataTemplate, Field, Fields, LaidFields, SubsetIndex};
 use bufr_tables::Fxy;
 use std::alloc::Global;
 use std::process::Abort;
@@ -33,6 +33,12 @@ const TEMPERATURES: Alone = Alone(0x0C65);
 /// Names of stations, 0 01 011.
 const NAMES: Alone = Alone(0x010B);
 
+fn has_number(rt: &impl Abort, found: Option<Field>, number: u64) {
+    let field = found.expect(rt, "a field");
+    same(rt, number_of(&field), Some(number));
+    drop(field);
+}
+
 /// Compares the numbers of the chosen fields, which are all that is left.
 fn hands_out<A: Asks>(
     rt: &impl Abort,
@@ -43,10 +49,11 @@ fn hands_out<A: Asks>(
 ) {
     for number in wanted {
         let found = fields.next_asked(alloc, asked).expect(rt, "room");
-        same(rt, number_of(&found.expect(rt, "a field")), Some(*number));
+        has_number(rt, found, *number);
     }
     same(rt, fields.next_asked(alloc, asked).expect(rt, "room"), None);
     same(rt, fields.next(alloc).expect(rt, "room"), None);
+    drop(fields);
 }
 
 fn hands_out_laid<A: Asks>(
@@ -58,9 +65,10 @@ fn hands_out_laid<A: Asks>(
 ) {
     for number in wanted {
         let found = fields.next_asked(alloc, asked).expect(rt, "room");
-        same(rt, number_of(&found.expect(rt, "a field")), Some(*number));
+        has_number(rt, found, *number);
     }
     same(rt, fields.next_asked(alloc, asked).expect(rt, "room"), None);
+    drop(fields);
 }
 
 /// Compares the chosen fields of a layout, handed out as numbers; only 127 is missing.
@@ -76,6 +84,7 @@ fn hands_out_numbers<A: Asks>(
         same(rt, found.is_missing(), *number == 127);
     }
     same(rt, fields.next_asked_number(asked), None);
+    drop(fields);
 }
 
 /// Compares the numbers of the last subset of an index, with a layout or without.
@@ -106,8 +115,9 @@ fn has_asked<A: Asks>(
             hands_out(rt, alloc, asked, fields, wanted);
         }
     }
-    if let Ok(fields) = index.fields(alloc, last).expect(rt, "room").laid() {
-        hands_out_numbers(rt, asked, fields, wanted);
+    match index.fields(alloc, last).expect(rt, "room").laid() {
+        Ok(fields) => hands_out_numbers(rt, asked, fields, wanted),
+        Err(fields) => drop(fields),
     }
 }
 
@@ -130,7 +140,9 @@ fn serves<A: Asks>(
             .index(alloc, compressed, &mut reader, count)
             .expect(rt, "an index");
         has_asked(rt, alloc, asked, &index, !compressed && message > 0, wanted);
+        drop(index);
     }
+    drop(template);
 }
 
 #[test]
@@ -180,6 +192,25 @@ fn temperatures_alone_are_asked_for(rt: HostRuntime) {
     );
 }
 
+/// Compares the next temperature, and whether it comes as a number.
+fn hands_out_next(
+    rt: &impl Abort,
+    alloc: Global,
+    fields: &mut Fields<'_>,
+    number: u64,
+    alone: bool,
+) {
+    let found = fields.next_asked_number(&TEMPERATURES);
+    same(rt, found.is_some(), alone);
+    match found {
+        Some(found) => same(rt, found.number, number),
+        None => {
+            let field = fields.next_asked(alloc, &TEMPERATURES).expect(rt, "room");
+            has_number(rt, field, number);
+        }
+    }
+}
+
 /// Compares the chosen fields, and whether each comes as a number.
 fn hands_out_both(
     rt: &impl Abort,
@@ -188,15 +219,7 @@ fn hands_out_both(
     wanted: [(u64, bool); 3],
 ) {
     for (number, alone) in wanted {
-        let found = fields.next_asked_number(&TEMPERATURES);
-        same(rt, found.is_some(), alone);
-        match found {
-            Some(found) => same(rt, found.number, number),
-            None => {
-                let field = fields.next_asked(alloc, &TEMPERATURES).expect(rt, "room");
-                same(rt, number_of(&field.expect(rt, "a field")), Some(number));
-            }
-        }
+        hands_out_next(rt, alloc, &mut fields, number, alone);
     }
     same(rt, fields.next_asked_number(&TEMPERATURES), None);
     same(
@@ -204,6 +227,26 @@ fn hands_out_both(
         fields.next_asked(alloc, &TEMPERATURES).expect(rt, "room"),
         None,
     );
+    drop(fields);
+}
+
+/// Compares the second subset of the next message of a template.
+fn serves_both(
+    rt: &impl Abort,
+    alloc: Global,
+    template: &mut DataTemplate,
+    compressed: bool,
+    octets: &[u8],
+    wanted: [(u64, bool); 3],
+) {
+    let mut reader = BitReader::new(octets);
+    let index = template
+        .index(alloc, compressed, &mut reader, 2)
+        .expect(rt, "an index");
+    assert!(rt; 1 < index.count());
+    let fields = index.fields(alloc, 1).expect(rt, "room");
+    hands_out_both(rt, alloc, fields, wanted);
+    drop(index);
 }
 
 /// A walk stops at each text, columns and a layout only at those that are chosen.
@@ -212,22 +255,14 @@ fn numbers_alone(rt: HostRuntime) {
     let alloc = rt.alloc();
     let mut of_plain = DataTemplate::new(template(&rt, alloc, MIXED));
     for message in 0..2 {
-        let mut reader = BitReader::new(MIXED_PLAIN);
-        let index = of_plain
-            .index(alloc, false, &mut reader, 2)
-            .expect(&rt, "an index");
-        assert!(&rt; 1 < index.count());
-        let fields = index.fields(alloc, 1).expect(&rt, "room");
-        hands_out_both(&rt, alloc, fields, [(1, true), (2, message > 0), (0, true)]);
+        let wanted = [(1, true), (2, message > 0), (0, true)];
+        serves_both(&rt, alloc, &mut of_plain, false, MIXED_PLAIN, wanted);
     }
+    drop(of_plain);
     let mut of_columns = DataTemplate::new(template(&rt, alloc, MIXED));
-    let mut reader = BitReader::new(MIXED_COLUMNS);
-    let index = of_columns
-        .index(alloc, true, &mut reader, 2)
-        .expect(&rt, "an index");
-    assert!(&rt; 1 < index.count());
-    let fields = index.fields(alloc, 1).expect(&rt, "room");
-    hands_out_both(&rt, alloc, fields, [(27316, true), (5, true), (9, true)]);
+    let wanted = [(27316, true), (5, true), (9, true)];
+    serves_both(&rt, alloc, &mut of_columns, true, MIXED_COLUMNS, wanted);
+    drop(of_columns);
 }
 
 /// A text is no number: it is left, and handed out as a field.
@@ -241,13 +276,26 @@ fn texts_are_no_numbers(rt: HostRuntime) {
             .index(alloc, false, &mut reader, 1)
             .expect(&rt, "an index");
         assert!(&rt; 0 < index.count());
-        if let Ok(mut fields) = index.fields(alloc, 0).expect(&rt, "room").laid() {
-            same(&rt, message, 1);
-            same(&rt, fields.next_asked_number(&NAMES), None);
-            let found = fields.next_asked(alloc, &NAMES).expect(&rt, "room");
-            same(&rt, text_of(&found.expect(&rt, "a field")), b"SHIP1   ");
+        match index.fields(alloc, 0).expect(&rt, "room").laid() {
+            Ok(fields) => {
+                same(&rt, message, 1);
+                hands_out_name(&rt, alloc, fields);
+            }
+            Err(fields) => drop(fields),
         }
+        drop(index);
     }
+    drop(template);
+}
+
+/// Compares the name, which does not come as a number.
+fn hands_out_name(rt: &impl Abort, alloc: Global, mut fields: LaidFields<'_>) {
+    same(rt, fields.next_asked_number(&NAMES), None);
+    let found = fields.next_asked(alloc, &NAMES).expect(rt, "room");
+    let name = found.expect(rt, "a field");
+    same(rt, text_of(&name), b"SHIP1   ");
+    drop(name);
+    drop(fields);
 }
 
 /// Compares the last of `count` such subsets in a template's first message.
@@ -260,11 +308,23 @@ fn serves_first(rt: &impl Abort, alloc: Global, count: u16, laid: bool, wanted: 
     has_asked(rt, alloc, &BLOCKS, &index, laid, &wanted[1..]);
     assert!(rt; 0 < index.count());
     let last = index.count() - 1;
-    let mut fields = index.fields(alloc, last).expect(rt, "room");
+    hands_out_first(
+        rt,
+        alloc,
+        index.fields(alloc, last).expect(rt, "room"),
+        wanted,
+    );
+    drop(index);
+    drop(template);
+}
+
+/// Compares the numbers of the first fields.
+fn hands_out_first(rt: &impl Abort, alloc: Global, mut fields: Fields<'_>, wanted: [u64; 2]) {
     for number in wanted {
         let found = fields.next(alloc).expect(rt, "room");
-        same(rt, number_of(&found.expect(rt, "a field")), Some(number));
+        has_number(rt, found, number);
     }
+    drop(fields);
 }
 
 /// A first message of seven subsets is walked; one of eight has a layout.

@@ -6,7 +6,7 @@ use super::samples::{
     number_of, template, text_of,
 };
 use bufr_bits::BitReader;
-use bufr_data::{ChosenFields, DataTemplate, SubsetIndex};
+use bufr_data::{ChosenFields, DataTemplate, Field, SubsetIndex};
 use std::alloc::Global;
 use std::process::Abort;
 
@@ -48,9 +48,12 @@ fn are_numbers(
         let field = again.next(alloc).expect(rt, "room").expect(rt, "a field");
         same(rt, number_of(&field), Some(*number));
         same(rt, field.fxy, found.fxy);
+        drop(field);
     }
     same(rt, fields.next_number(), None);
     same(rt, again.next(alloc).expect(rt, "room"), None);
+    drop(again);
+    drop(fields);
 }
 
 /// Compares the numbers of the chosen fields at an index; none are wanted if places are unknown.
@@ -84,18 +87,19 @@ fn blocks_at_their_places(rt: HostRuntime) {
         has_numbers(&rt, alloc, &index, BLOCKS, 0, Some(&[10, 11, 12, 127]));
         has_numbers(&rt, alloc, &index, TEMPERATURES, 0, None);
         has_numbers(&rt, alloc, &index, &[], 0, None);
+        drop(index);
     }
-    let other = indexed(
-        &rt,
-        alloc,
-        &mut kept,
-        TEMPERATURES,
-        false,
-        BETWEEN_OCTETS,
-        1,
-    );
-    has_numbers(&rt, alloc, &other, TEMPERATURES, 0, None);
-    has_numbers(&rt, alloc, &other, BLOCKS, 0, Some(&[10, 11, 12, 127]));
+    places_of_blocks_stay(&rt, alloc, &mut kept);
+    drop(first);
+    drop(kept);
+}
+
+/// Compares the blocks of a message of a template, indexed for temperatures after them.
+fn places_of_blocks_stay(rt: &impl Abort, alloc: Global, kept: &mut DataTemplate) {
+    let other = indexed(rt, alloc, kept, TEMPERATURES, false, BETWEEN_OCTETS, 1);
+    has_numbers(rt, alloc, &other, TEMPERATURES, 0, None);
+    has_numbers(rt, alloc, &other, BLOCKS, 0, Some(&[10, 11, 12, 127]));
+    drop(other);
 }
 
 /// A text is no number: it is left, and handed out as a field.
@@ -103,21 +107,38 @@ fn blocks_at_their_places(rt: HostRuntime) {
 fn texts_at_their_places(rt: HostRuntime) {
     let alloc = rt.alloc();
     let mut kept = DataTemplate::new(template(&rt, alloc, BETWEEN));
-    let _first = indexed(&rt, alloc, &mut kept, OTHERS, false, BETWEEN_OCTETS, 1);
+    let first = indexed(&rt, alloc, &mut kept, OTHERS, false, BETWEEN_OCTETS, 1);
     let index = indexed(&rt, alloc, &mut kept, OTHERS, false, BETWEEN_OCTETS, 1);
     assert!(&rt; 0 < index.count());
-    let mut fields = index.chosen(OTHERS, 0).expect(&rt, "places");
-    let wide = fields.next_number().expect(&rt, "a number");
-    same(&rt, wide.number, 0x7FFF_FFFF_FFFF_FFFE);
-    same(&rt, fields.next_number(), None);
-    let name = fields.next(alloc).expect(&rt, "room").expect(&rt, "a text");
-    same(&rt, text_of(&name), b"SHIP1   ");
+    let fields = index.chosen(OTHERS, 0).expect(&rt, "places");
+    hands_out_others(&rt, alloc, fields);
+    drop(index);
+    drop(first);
+    drop(kept);
+}
+
+fn has_number(rt: &impl Abort, fields: &mut ChosenFields<'_>, wanted: u64) {
+    let found = fields.next_number().expect(rt, "a number");
+    same(rt, found.number, wanted);
+}
+
+fn has_name(rt: &impl Abort, found: Option<Field>) {
+    let name = found.expect(rt, "a text");
+    same(rt, text_of(&name), b"SHIP1   ");
+    drop(name);
+}
+
+/// Compares a wide number, a name and two numbers, which are all that is left.
+fn hands_out_others(rt: &impl Abort, alloc: Global, mut fields: ChosenFields<'_>) {
+    has_number(rt, &mut fields, 0x7FFF_FFFF_FFFF_FFFE);
+    same(rt, fields.next_number(), None);
+    has_name(rt, fields.next(alloc).expect(rt, "room"));
     for number in [384, 27315] {
-        let found = fields.next_number().expect(&rt, "a number");
-        same(&rt, found.number, number);
+        has_number(rt, &mut fields, number);
     }
-    same(&rt, fields.next_number(), None);
-    same(&rt, fields.next(alloc).expect(&rt, "room"), None);
+    same(rt, fields.next_number(), None);
+    same(rt, fields.next(alloc).expect(rt, "room"), None);
+    drop(fields);
 }
 
 /// Each of eight subsets has its fields a width further on.
@@ -131,6 +152,8 @@ fn each_subset_has_its_places(rt: HostRuntime) {
         let wanted = [10 * (at as u64 + 1)];
         has_numbers(&rt, alloc, &index, BLOCKS, at, Some(&wanted));
     }
+    drop(index);
+    drop(kept);
 }
 
 /// Without a list no field is chosen, and after a count no place is known.
@@ -143,12 +166,21 @@ fn no_places(rt: HostRuntime) {
         let octets = [1, 0x6A, 0xB3];
         let index = indexed(&rt, alloc, &mut kept, TEMPERATURES, false, &octets, 1);
         has_numbers(&rt, alloc, &index, TEMPERATURES, 0, None);
+        drop(index);
     }
-    let mut kept = DataTemplate::new(template(&rt, alloc, BETWEEN));
-    let _first = indexed(&rt, alloc, &mut kept, &[], false, BETWEEN_OCTETS, 1);
-    let index = indexed(&rt, alloc, &mut kept, &[], false, BETWEEN_OCTETS, 1);
-    has_numbers(&rt, alloc, &index, &[], 0, Some(&[]));
-    has_numbers(&rt, alloc, &index, BLOCKS, 0, None);
+    drop(kept);
+    places_of_no_list(&rt, alloc);
+}
+
+fn places_of_no_list(rt: &impl Abort, alloc: Global) {
+    let mut kept = DataTemplate::new(template(rt, alloc, BETWEEN));
+    let first = indexed(rt, alloc, &mut kept, &[], false, BETWEEN_OCTETS, 1);
+    let index = indexed(rt, alloc, &mut kept, &[], false, BETWEEN_OCTETS, 1);
+    has_numbers(rt, alloc, &index, &[], 0, Some(&[]));
+    has_numbers(rt, alloc, &index, BLOCKS, 0, None);
+    drop(index);
+    drop(first);
+    drop(kept);
 }
 
 #[test]
@@ -159,16 +191,19 @@ fn columns_of_temperatures(rt: HostRuntime) {
     has_numbers(&rt, alloc, &index, TEMPERATURES, 0, Some(&[27315, 5, 7]));
     has_numbers(&rt, alloc, &index, TEMPERATURES, 1, Some(&[27316, 5, 9]));
     has_numbers(&rt, alloc, &index, BLOCKS, 0, None);
-    let plain = indexed(&rt, alloc, &mut kept, TEMPERATURES, false, MIXED_PLAIN, 2);
-    has_numbers(&rt, alloc, &plain, TEMPERATURES, 0, None);
-    let plain = indexed(&rt, alloc, &mut kept, TEMPERATURES, false, MIXED_PLAIN, 2);
-    has_numbers(
-        &rt,
-        alloc,
-        &plain,
-        TEMPERATURES,
-        0,
-        Some(&[27315, 5, 65535]),
-    );
-    has_numbers(&rt, alloc, &plain, TEMPERATURES, 1, Some(&[1, 2, 0]));
+    plain_after_columns(&rt, alloc, &mut kept);
+    drop(index);
+    drop(kept);
+}
+
+/// Compares the numbers of the first plain message of a template, and of its second.
+fn plain_after_columns(rt: &impl Abort, alloc: Global, kept: &mut DataTemplate) {
+    let first = indexed(rt, alloc, kept, TEMPERATURES, false, MIXED_PLAIN, 2);
+    has_numbers(rt, alloc, &first, TEMPERATURES, 0, None);
+    let plain = indexed(rt, alloc, kept, TEMPERATURES, false, MIXED_PLAIN, 2);
+    let numbers = [27315, 5, 65535];
+    has_numbers(rt, alloc, &plain, TEMPERATURES, 0, Some(&numbers));
+    has_numbers(rt, alloc, &plain, TEMPERATURES, 1, Some(&[1, 2, 0]));
+    drop(plain);
+    drop(first);
 }

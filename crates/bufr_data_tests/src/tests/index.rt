@@ -43,6 +43,7 @@ fn has(rt: &impl Abort, alloc: Global, index: &SubsetIndex, at: usize, wanted: W
     assert!(rt; at < index.count());
     let subset = index.subset(alloc, at).expect(rt, "room");
     same_subset(rt, &subset, wanted.0, wanted.1);
+    drop(subset);
 }
 
 /// Descriptors, whether compressed, the number of subsets, their octets, the place after them, and
@@ -62,6 +63,7 @@ fn answers(rt: &impl Abort, alloc: Global, row: &Row) {
     for (at, wanted) in subsets {
         has(rt, alloc, &index, *at, *wanted);
     }
+    drop(index);
 }
 
 const ROWS: &[Row] = &[
@@ -188,6 +190,7 @@ fn lends(rt: &impl Abort, alloc: Global, row: &Lent) {
         assert!(rt; at < index.count());
         same(rt, index.lent(at), *wanted);
     }
+    drop(index);
 }
 
 #[test]
@@ -233,19 +236,21 @@ const PUT: &[(Descriptors, &[u8])] = &[
     ),
 ];
 
+fn puts(rt: &impl Abort, alloc: Global, list: Descriptors, wanted: &[u8]) {
+    let mut reader = BitReader::new(OFF_AN_EDGE);
+    same(rt, reader.pass(3), true);
+    let template = template(rt, alloc, list);
+    let index = SubsetIndex::index(alloc, template, false, &mut reader, 1).expect(rt, "an index");
+    assert!(rt; 0 < index.count());
+    let mut sink = BitSink::new(alloc);
+    index.put(alloc, 0, &mut sink).expect(rt, "room");
+    drop(index);
+    same(rt, octets_of(sink).as_slice(), wanted);
+}
+
 #[test]
 fn bits_that_are_put(rt: HostRuntime) {
-    let alloc = rt.alloc();
     for (list, wanted) in PUT {
-        let mut reader = BitReader::new(OFF_AN_EDGE);
-        same(&rt, reader.pass(3), true);
-        let template = template(&rt, alloc, list);
-        let index = SubsetIndex::index(alloc, template, false, &mut reader, 1).expect(
-            &rt, "an index",
-        );
-        assert!(&rt; 0 < index.count());
-        let mut sink = BitSink::new(alloc);
-        index.put(alloc, 0, &mut sink).expect(&rt, "room");
-        same(&rt, octets_of(sink).as_slice(), *wanted);
+        puts(&rt, rt.alloc(), list, *wanted);
     }
 }

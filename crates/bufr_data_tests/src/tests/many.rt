@@ -4,6 +4,7 @@
 use super::index::indexed;
 use super::same;
 use super::samples::{Descriptors, octets_of, read, template};
+use bufr_base::Items;
 use bufr_bits::BitSink;
 use bufr_data::{Subset, write_subsets};
 use std::alloc::Global;
@@ -43,7 +44,9 @@ fn assert_each(
         assert!(rt; at < index.count());
         let found = index.subset(alloc, at).expect(rt, "room");
         same(rt, &found, wanted);
+        drop(found);
     }
+    drop(index);
 }
 
 #[test]
@@ -54,10 +57,17 @@ fn thousand_subsets_of_thirty_fields(rt: HostRuntime) {
     let again = written(&rt, alloc, false, subsets.as_slice());
     same(&rt, again.as_slice(), plain.as_slice());
     assert_each(&rt, alloc, false, &plain, 480_000, subsets.as_slice());
+    assert_columns(&rt, alloc, &subsets);
+    drop(subsets);
+}
+
+/// Writes the subsets in columns, reads them again and compares each.
+fn assert_columns(rt: &impl Abort, alloc: Global, subsets: &Items<Subset>) {
     // for each field 16 bits, 6 bits, and 10 bits for each subset, up to 999 above the least
-    let columns = written(&rt, alloc, true, subsets.as_slice());
-    same(&rt, columns.len(), (30 * (16 + 6 + 10 * 1000) + 7) / 8);
-    let again = read(&rt, alloc, THIRTY, true, 1000, &columns);
-    same(&rt, &again, &subsets);
-    assert_each(&rt, alloc, true, &columns, 300_660, subsets.as_slice());
+    let columns = written(rt, alloc, true, subsets.as_slice());
+    same(rt, columns.len(), (30 * (16 + 6 + 10 * 1000) + 7) / 8);
+    let again = read(rt, alloc, THIRTY, true, 1000, &columns);
+    same(rt, &again, subsets);
+    assert_each(rt, alloc, true, &columns, 300_660, subsets.as_slice());
+    drop(again);
 }

@@ -60,6 +60,7 @@ fn all_come(rt: &impl Abort, alloc: Global, mut fields: Fields<'_>) {
     has_number(rt, repeated!(rt, fields.next(alloc)), 27315);
     has_text(rt, repeated!(rt, fields.next(alloc)), b"CDE");
     same(rt, repeated!(rt, fields.next(alloc)), None);
+    drop(fields);
 }
 
 /// The last text comes, and no other field.
@@ -70,6 +71,7 @@ fn last_comes(rt: &impl Abort, alloc: Global, mut fields: Fields<'_>) {
         b"CDE",
     );
     same(rt, repeated!(rt, fields.next_asked(alloc, &LastText)), None);
+    drop(fields);
 }
 
 fn last_comes_laid(rt: &impl Abort, alloc: Global, mut fields: LaidFields<'_>) {
@@ -79,14 +81,18 @@ fn last_comes_laid(rt: &impl Abort, alloc: Global, mut fields: LaidFields<'_>) {
         b"CDE",
     );
     same(rt, repeated!(rt, fields.next_asked(alloc, &LastText)), None);
+    drop(fields);
+}
+
+fn first_fields<'a>(rt: &impl Abort, alloc: Global, index: &'a SubsetIndex<'_>) -> Fields<'a> {
+    assert!(rt; 0 < index.count());
+    repeated!(rt, index.fields(alloc, 0))
 }
 
 /// The first subset of an index hands out its fields, by a layout or not.
 fn hands_out(rt: &impl Abort, alloc: Global, index: &SubsetIndex, laid: bool) {
-    assert!(rt; 0 < index.count());
-    let fields = repeated!(rt, index.fields(alloc, 0));
-    all_come(rt, alloc, fields);
-    match repeated!(rt, index.fields(alloc, 0)).laid() {
+    all_come(rt, alloc, first_fields(rt, alloc, index));
+    match first_fields(rt, alloc, index).laid() {
         Ok(fields) => {
             same(rt, laid, true);
             last_comes_laid(rt, alloc, fields);
@@ -105,6 +111,7 @@ fn last_comes_chosen(rt: &impl Abort, alloc: Global, index: &SubsetIndex) {
     same(rt, fields.next_number(), None);
     has_text(rt, repeated!(rt, fields.next(alloc)), b"CDE");
     same(rt, repeated!(rt, fields.next(alloc)), None);
+    drop(fields);
 }
 
 fn template(rt: &impl Abort, alloc: Global) -> Template {
@@ -122,35 +129,47 @@ fn come_unlaid(rt: &impl Abort, alloc: Global, compressed: bool, octets: &[u8], 
         same(rt, reader.place(), 0)
     );
     hands_out(rt, alloc, &index, false);
+    drop(index);
+}
+
+/// Indexes a message of a template, with the places of the last text.
+fn indexed<'a>(
+    rt: &impl Abort,
+    alloc: Global,
+    kept: &mut DataTemplate,
+    compressed: bool,
+    octets: &'a [u8],
+    count: u16,
+) -> SubsetIndex<'a> {
+    let mut reader = BitReader::new(octets);
+    repeated!(
+        rt,
+        kept.index_for(alloc, &[LAST], compressed, &mut reader, count),
+        same(rt, reader.place(), 0)
+    )
 }
 
 /// Reads the second message of a template, which has a layout.
 fn come_laid(rt: &impl Abort, alloc: Global) {
     let mut kept = DataTemplate::new(template(rt, alloc));
     for message in 0..2 {
-        let mut reader = BitReader::new(PLAIN);
-        let index = repeated!(
-            rt,
-            kept.index_for(alloc, &[LAST], false, &mut reader, 1),
-            same(rt, reader.place(), 0)
-        );
+        let index = indexed(rt, alloc, &mut kept, false, PLAIN, 1);
         if message == 1 {
             hands_out(rt, alloc, &index, true);
             last_comes_chosen(rt, alloc, &index);
         }
+        drop(index);
     }
+    drop(kept);
 }
 
 /// Reads columns, of which the places of the last are asked for.
 fn come_chosen(rt: &impl Abort, alloc: Global) {
     let mut kept = DataTemplate::new(template(rt, alloc));
-    let mut reader = BitReader::new(PACKED);
-    let index = repeated!(
-        rt,
-        kept.index_for(alloc, &[LAST], true, &mut reader, 2),
-        same(rt, reader.place(), 0)
-    );
+    let index = indexed(rt, alloc, &mut kept, true, PACKED, 2);
     last_comes_chosen(rt, alloc, &index);
+    drop(index);
+    drop(kept);
 }
 
 #[test]

@@ -33,6 +33,7 @@ fn comes_back(rt: &impl Abort, alloc: Global, tables: &Tables, octets: &[u8]) {
     let found = decoded(rt, alloc, tables, octets);
     same(rt, found.slack_octets, 0);
     assert_written(rt, alloc, tables, &found.message, octets);
+    drop(found);
 }
 
 fn all_read(rt: &impl Abort, alloc: Global) {
@@ -99,6 +100,7 @@ fn assert_taken_out(
     let report = repeated!(rt, found.report(alloc, number));
     assert_canonical(rt, alloc, tables, &report, own);
     let read = repeated!(rt, canonical_of_read(alloc, &report));
+    drop(report);
     same(rt, read.expect(rt, "octets").as_slice(), own);
 }
 
@@ -111,6 +113,7 @@ fn view_of(rt: &impl Abort, alloc: Global, tables: &Tables, octets: &[u8], wante
         let own = wanted.get(number - 1).expect(rt, "a message");
         assert_taken_out(rt, alloc, tables, &found, number, own);
     }
+    drop(found);
 }
 
 fn all_viewed(rt: &impl Abort, alloc: Global) {
@@ -125,18 +128,24 @@ fn messages_viewed(rt: HostRuntime) {
     all_viewed(&rt, rt.alloc());
 }
 
-/// A listing of two messages is read, and each encodes to its octets.
-fn read_both(rt: &impl Abort, alloc: Global) {
-    let tables = tables(rt, alloc);
+fn listing_of_two(rt: &impl Abort, alloc: Global) -> Vec<u8> {
     let mut listing = room(rt, alloc, 1000);
     for _ in 0..2 {
         listing.extend_from_slice(TEXTS_LISTED).expect(rt, "room");
     }
+    listing
+}
+
+/// A listing of two messages is read, and each encodes to its octets.
+fn read_both(rt: &impl Abort, alloc: Global) {
+    let tables = tables(rt, alloc);
+    let listing = listing_of_two(rt, alloc);
     let found = repeated!(rt, read(alloc, &tables, &listing));
     same(rt, found.len(), 2);
     for message in found.iter() {
         assert_written(rt, alloc, &tables, message, COMPRESSED_TEXTS);
     }
+    drop(found);
 }
 
 #[test]
@@ -176,6 +185,7 @@ fn list_one(rt: &impl Abort, alloc: Global) {
     let listing = repeated!(rt, text_of(alloc, &found.message));
     same(rt, listing.as_slice(), TEXTS_LISTED);
     assert_listed(rt, alloc, &found.message, TEXTS_LISTED);
+    drop(found);
 }
 
 #[test]

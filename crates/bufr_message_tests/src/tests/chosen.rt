@@ -76,11 +76,31 @@ fn reads(
     row: &Row<'_>,
     wanted: Option<u64>,
 ) {
-    let (text, name, _) = *row;
-    let all = octets(rt, alloc, text);
+    let all = octets(rt, alloc, row.0);
     let view = reader.read(alloc, &all).expect(rt, "a message");
-    has_block(rt, name, &view, wanted);
+    has_block(rt, row.1, &view, wanted);
+    drop(view);
 }
+
+/// Messages by their place in `ROWS`, and whether the place of the block number is known by then.
+const TURNS: &[(usize, bool)] = &[
+    (0, false),
+    (1, false),
+    (2, false),
+    (3, false),
+    (0, true),
+    (1, true),
+    (2, true),
+    (3, true),
+    (0, true),
+    (1, true),
+    (2, true),
+    (3, true),
+    (4, false),
+    (0, false),
+    (4, true),
+    (3, true),
+];
 
 /// The places of four lists in turn are kept; a fifth takes the place of the oldest.
 #[test]
@@ -88,18 +108,33 @@ fn places_of_four_lists_in_turn(rt: HostRuntime) {
     let alloc = rt.alloc();
     let tables = tables(&rt, alloc);
     let mut reader = MessageReader::for_elements(alloc, &tables, BLOCKS);
-    for row in &ROWS[..4] {
-        reads(&rt, alloc, &mut reader, row, None);
+    for (index, known) in TURNS {
+        let row = ROWS.get(*index).expect(&rt, "a message");
+        let wanted = if *known { Some(row.2) } else { None };
+        reads(&rt, alloc, &mut reader, row, wanted);
     }
+    drop(reader);
+}
+
+fn wider_tables(rt: &impl Abort, alloc: Global) -> Tables {
+    let elements = TableB::parse(alloc, WIDER.as_bytes()).expect(rt, "a table");
+    let sequences = TableD::parse(alloc, "FXY1,FXY2\n".as_bytes()).expect(rt, "a table");
+    Tables::new(elements, sequences)
+}
+
+/// Reads the station and block by two readers in turn, under these tables.
+fn read_in_turn(rt: &impl Abort, alloc: Global, usual: &Tables, wider: &Tables) {
+    let mut narrow_reader = MessageReader::for_elements(alloc, usual, BLOCKS);
+    let mut wide_reader = MessageReader::for_elements(alloc, wider, BLOCKS);
+    let row = &ROWS[2];
+    reads(rt, alloc, &mut narrow_reader, row, None);
+    reads(rt, alloc, &mut wide_reader, row, None);
     for _ in 0..2 {
-        for row in &ROWS[..4] {
-            reads(&rt, alloc, &mut reader, row, Some(row.2));
-        }
+        reads(rt, alloc, &mut narrow_reader, row, Some(12));
+        reads(rt, alloc, &mut wide_reader, row, Some(48));
     }
-    reads(&rt, alloc, &mut reader, &ROWS[4], None);
-    reads(&rt, alloc, &mut reader, &ROWS[0], None);
-    reads(&rt, alloc, &mut reader, &ROWS[4], Some(14));
-    reads(&rt, alloc, &mut reader, &ROWS[3], Some(13));
+    drop(wide_reader);
+    drop(narrow_reader);
 }
 
 /// Under other tables the same octets have their block number two bits further on: 1536 in 12 bits,
@@ -108,17 +143,8 @@ fn places_of_four_lists_in_turn(rt: HostRuntime) {
 fn places_under_other_tables(rt: HostRuntime) {
     let alloc = rt.alloc();
     let usual = tables(&rt, alloc);
-    let elements = TableB::parse(alloc, WIDER.as_bytes()).expect(&rt, "a table");
-    let sequences = TableD::parse(alloc, "FXY1,FXY2\n".as_bytes()).expect(&rt, "a table");
-    let wider = Tables::new(elements, sequences);
-    let mut narrow_reader = MessageReader::for_elements(alloc, &usual, BLOCKS);
-    let mut wide_reader = MessageReader::for_elements(alloc, &wider, BLOCKS);
-    reads(&rt, alloc, &mut narrow_reader, &ROWS[2], None);
-    reads(&rt, alloc, &mut wide_reader, &ROWS[2], None);
-    for _ in 0..2 {
-        reads(&rt, alloc, &mut narrow_reader, &ROWS[2], Some(12));
-        reads(&rt, alloc, &mut wide_reader, &ROWS[2], Some(48));
-    }
+    let wider = wider_tables(&rt, alloc);
+    read_in_turn(&rt, alloc, &usual, &wider);
 }
 
 /// A reader without a list knows no place.
@@ -130,4 +156,5 @@ fn no_list_no_places(rt: HostRuntime) {
     for _ in 0..3 {
         reads(&rt, alloc, &mut reader, &ROWS[0], None);
     }
+    drop(reader);
 }

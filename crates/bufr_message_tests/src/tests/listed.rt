@@ -118,14 +118,20 @@ fn assert_read_back(rt: &impl Abort, alloc: Global, tables: &Tables, listing: &s
     }
 }
 
+/// Returns the listing with these lines after those of section 1.
+fn listing_of(rt: &impl Abort, alloc: Global, lines: &str) -> String {
+    let front = "message\nsection1 98 0 0 0 2 0 37 0\ntime 2024 1 15 12 0 0\n";
+    format!(in alloc; "{front}{lines}end\n").expect(rt, "room")
+}
+
 fn assert_row(rt: &impl Abort, alloc: Global, tables: &Tables, row: &Row<'_>) {
     let all = octets(rt, alloc, row.0);
     let found = decode(alloc, tables, all.as_slice()).expect(rt, row.0);
-    let front = "message\nsection1 98 0 0 0 2 0 37 0\ntime 2024 1 15 12 0 0\n";
-    let wanted = format!(in alloc; "{front}{}end\n", row.1).expect(rt, "room");
+    let wanted = listing_of(rt, alloc, row.1);
     let listing = text_of(alloc, &found.message).expect(rt, "room");
     same(rt, row.0, listing.as_slice(), wanted.as_bytes());
     assert_written(rt, alloc, tables, &found.message, row.2);
+    drop(found);
     assert_read_back(rt, alloc, tables, wanted.as_str(), row.2);
 }
 

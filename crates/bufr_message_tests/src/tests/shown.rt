@@ -33,8 +33,8 @@ const EDITION_3_CANONICAL: &str = "\
 /// Octets, their slack, and the canonical messages of their reports.
 type Row<'a> = (&'a str, u64, &'a [&'a str]);
 
-/// Plain messages, with other heads, operators, characters and edition 3; compressed ones.
-const ROWS: &[Row<'static>] = &[
+/// Plain messages with other heads and counts.
+const HEADS: &[Row<'static>] = &[
     (ELEMENTS_ONLY, 0, &[ELEMENTS_ONLY]),
     (IGNORED_ONES, 0, &[ELEMENTS_ONLY]),
     (LOCAL_OCTETS_AND_SLACK, 2, &[ELEMENTS_ONLY]),
@@ -48,6 +48,10 @@ const ROWS: &[Row<'static>] = &[
     // a bit before or after a subset differs from its own
     (THREE_BITS, 0, &[BIT_0, BIT_1, BIT_0]),
     (DISTINCT_HEAD, 0, &[DISTINCT_HEAD_ALONE]),
+];
+
+/// Messages with operators, characters and edition 3; compressed ones.
+const CONTENTS: &[Row<'static>] = &[
     (OPERATORS, 0, &[OPERATORS]),
     (TEXT_WIDTH_AND_ESCAPES, 0, &[TEXT_WIDTH_AND_ESCAPES]),
     (CHARACTERS, 0, &[CHARACTERS]),
@@ -94,6 +98,7 @@ fn assert_own(rt: &impl Abort, alloc: Global, found: &View<'_>, index: usize, wa
     assert!(rt; index < found.count());
     let report = found.report(alloc, index + 1).expect(rt, "room");
     let own = canonical_of_read(alloc, &report).expect(rt, "room");
+    drop(report);
     let own = own.expect(rt, "octets");
     assert_octets(rt, alloc, own.as_slice(), wanted);
     let copied = found.canonical(alloc, index).expect(rt, "room");
@@ -139,13 +144,19 @@ fn assert_row(rt: &impl Abort, alloc: Global, row: &Row<'_>) {
     let found = viewed(rt, alloc, all.as_slice());
     same(rt, row.0, found.slack(), row.1);
     assert_owns(rt, alloc, &found, row.2);
+    drop(found);
+}
+
+fn assert_rows(rt: &impl Abort, alloc: Global, rows: &[Row<'_>]) {
+    for row in rows {
+        assert_row(rt, alloc, row);
+    }
 }
 
 #[test]
 fn read_and_viewed(rt: HostRuntime) {
-    for row in ROWS {
-        assert_row(&rt, rt.alloc(), row);
-    }
+    assert_rows(&rt, rt.alloc(), HEADS);
+    assert_rows(&rt, rt.alloc(), CONTENTS);
 }
 
 /// The listing of `COMPRESSED_TEXTS`.
@@ -175,18 +186,25 @@ fn add_subset(
     push_subset(alloc, listing, &subset).expect(rt, "room");
     let alone = subset_text(alloc, &subset).expect(rt, "room");
     same(rt, "a subset", listing.ends_with(alone.as_slice()), true);
+    drop(subset);
+}
+
+fn listed_in_parts(rt: &impl Abort, alloc: Global, found: &View<'_>) -> Vec<u8> {
+    let mut listing = Vec::new(alloc);
+    push_heading(alloc, &mut listing, &found.sections()).expect(rt, "room");
+    for index in 0..2 {
+        add_subset(rt, alloc, found, index, &mut listing);
+    }
+    listing.extend_from_slice(end_text()).expect(rt, "room");
+    listing
 }
 
 #[test]
 fn listed_part_by_part(rt: HostRuntime) {
     let all = octets(&rt, rt.alloc(), COMPRESSED_TEXTS);
     let found = viewed(&rt, rt.alloc(), all.as_slice());
-    let mut listing = Vec::new(rt.alloc());
-    push_heading(rt.alloc(), &mut listing, &found.sections()).expect(&rt, "room");
-    for index in 0..2 {
-        add_subset(&rt, rt.alloc(), &found, index, &mut listing);
-    }
-    listing.extend_from_slice(end_text()).expect(&rt, "room");
+    let listing = listed_in_parts(&rt, rt.alloc(), &found);
+    drop(found);
     same(
         &rt,
         TEXTS_LISTED,
@@ -244,8 +262,14 @@ fn assert_alone(rt: &impl Abort, alloc: Global, text: &str, wanted: &str) {
     let found = viewed(rt, alloc, all.as_slice());
     assert_own(rt, alloc, &found, 0, wanted);
     let own = octets(rt, alloc, wanted);
-    let lent = found.own().is_some_and(|lent| lent == own.as_slice());
-    same(rt, text, lent, all.as_slice() == own.as_slice());
+    assert_lent(rt, text, &found, all.as_slice(), own.as_slice());
+    drop(found);
+}
+
+/// Compares whether a view lends `own`: it does exactly if the octets are their canonical message.
+fn assert_lent(rt: &impl Abort, text: &str, found: &View<'_>, all: &[u8], own: &[u8]) {
+    let lent = found.own().is_some_and(|lent| lent == own);
+    same(rt, text, lent, all == own);
 }
 
 #[test]

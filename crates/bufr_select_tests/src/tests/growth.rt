@@ -64,25 +64,16 @@ fn pairs<'t>(rt: &impl Abort, alloc: Global, tables: &'t Tables) -> Vec<Pair<'t>
     pairs
 }
 
-/// Selects from two inputs, which are read in pieces of 20 octets, and returns the rows, the refusals,
-/// and whether that is all; it stops the test at another answer than the tally or want of memory.
-fn select(rt: &impl Abort, alloc: Global) -> (Vec<u8>, Vec<u8>, bool) {
-    let tables = tables(rt, alloc);
-    let columns = columns(rt, alloc);
-    let pairs = pairs(rt, alloc, &tables);
-    let mut first = list_with_room(rt, alloc);
-    first.extend_from_slice(EDITION_5).expect(rt, "room");
-    first.extend_from_slice(SOUNDING).expect(rt, "room");
-    let mut inputs = [
-        Reader::new(&first, 20, false),
-        Reader::new(SOUNDING, 20, false),
-    ];
-    let mut out = Outputs {
-        rows: Writer::over(list_with_room(rt, alloc), ROOM),
-        refusals: Writer::over(list_with_room(rt, alloc), ROOM),
-    };
-    let each = Fxy::from_text(b"007004");
-    let answer = run_select(alloc, 1000, pairs, &columns, each, &mut inputs, &mut out);
+/// Makes the first input: a frame of an edition that is not read, and a sounding.
+fn refused_and_sounding(rt: &impl Abort, alloc: Global) -> Vec<u8> {
+    let mut octets = list_with_room(rt, alloc);
+    octets.extend_from_slice(EDITION_5).expect(rt, "room");
+    octets.extend_from_slice(SOUNDING).expect(rt, "room");
+    octets
+}
+
+/// Returns whether an answer is the tally; it stops the test at another answer than want of memory.
+fn is_tally(rt: &impl Abort, answer: Result<Tally, ToolFault>) -> bool {
     let tally = Tally {
         frames: 3,
         refused: 1,
@@ -96,6 +87,27 @@ fn select(rt: &impl Abort, alloc: Global) -> (Vec<u8>, Vec<u8>, bool) {
         Err(ToolFault::OutOfMemory)
     };
     same(rt, answer, wanted, 0);
+    is_all
+}
+
+/// Selects from two inputs, which are read in pieces of 20 octets, and returns the rows, the refusals,
+/// and whether that is all; it stops the test at another answer than the tally or want of memory.
+fn select(rt: &impl Abort, alloc: Global) -> (Vec<u8>, Vec<u8>, bool) {
+    let tables = tables(rt, alloc);
+    let columns = columns(rt, alloc);
+    let pairs = pairs(rt, alloc, &tables);
+    let first = refused_and_sounding(rt, alloc);
+    let mut inputs = [
+        Reader::new(&first, 20, false),
+        Reader::new(SOUNDING, 20, false),
+    ];
+    let mut out = Outputs {
+        rows: Writer::over(list_with_room(rt, alloc), ROOM),
+        refusals: Writer::over(list_with_room(rt, alloc), ROOM),
+    };
+    let each = Fxy::from_text(b"007004");
+    let answer = run_select(alloc, 1000, pairs, &columns, each, &mut inputs, &mut out);
+    let is_all = is_tally(rt, answer);
     (out.rows.taken, out.refusals.taken, is_all)
 }
 

@@ -69,6 +69,7 @@ fn failing_writers_of_archives(rt: HostRuntime) {
             assert_written(&rt, rt.alloc(), &tables, merging, room);
         }
     }
+    drop(tables);
 }
 
 /// So many octets of the message of 62.
@@ -118,6 +119,7 @@ fn failing_inputs(rt: HostRuntime) {
             }
         }
     }
+    drop(tables);
 }
 
 /// How many reads are allowed, how many octets a read gives, how many of the three inputs are empty,
@@ -189,4 +191,5 @@ fn endless_inputs(rt: HostRuntime) {
             assert_endless(&rt, rt.alloc(), &tables, merging, row);
         }
     }
+    drop(tables);
 }

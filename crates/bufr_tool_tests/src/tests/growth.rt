@@ -122,6 +122,7 @@ fn frames_with_each_growth_refused(rt: HostRuntime) {
     let lines = b"0 62 ok 1 0\n62 68 ok 2 0\nframes 2 refused 0 skipped 0\n";
     assert_printed(&rt, alloc, &tables, Engine::Check, &stream, 2, lines);
     assert_printed(&rt, alloc, &tables, Engine::Show, TEXT, 1, TEXT_LISTING);
+    drop(tables);
 }
 
 /// Two listings encoded, and one compressed.
@@ -143,6 +144,7 @@ fn listings_with_each_growth_refused(rt: HostRuntime) {
         1,
         PAIR_COMPRESSED,
     );
+    drop(tables);
 }
 
 /// Adds or merges a report and an archive of two, of which one takes its place.
@@ -188,6 +190,7 @@ fn archives_with_each_growth_refused(rt: HostRuntime) {
     let tables = tables(&rt, rt.alloc());
     assert_collected(&rt, rt.alloc(), &tables, false, 3);
     assert_collected(&rt, rt.alloc(), &tables, true, 2);
+    drop(tables);
 }
 
 fn loaded(alloc: Global) -> Result<Tables, ToolFault> {
@@ -196,16 +199,22 @@ fn loaded(alloc: Global) -> Result<Tables, ToolFault> {
     load_tables(alloc, 1000, &mut b, &mut d)
 }
 
+fn assert_same_tables(rt: &impl Abort, found: Tables, wanted: &Tables) {
+    same(rt, found.same(wanted), true);
+    drop(found);
+}
+
 /// The tables of two files; if memory runs out, they are loaded again.
 #[test]
 fn tables_with_each_growth_refused(rt: HostRuntime) {
     let wanted = tables(&rt, rt.alloc());
     match loaded(rt.alloc()) {
-        Ok(found) => same(&rt, found.same(&wanted), true),
+        Ok(found) => assert_same_tables(&rt, found, &wanted),
         Err(fault) => {
             same(&rt, fault, ToolFault::OutOfMemory);
             let found = loaded(rt.alloc()).expect(&rt, "tables");
-            same(&rt, found.same(&wanted), true);
+            assert_same_tables(&rt, found, &wanted);
         }
     }
+    drop(wanted);
 }

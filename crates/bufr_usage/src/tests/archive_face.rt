@@ -1,6 +1,7 @@
 //! The public calls of bufr_archive, each by its path and with its parameters.
 ghost use Rattle.std.specs.Prelude.{◌≡◌};
 
+use super::faces::report_of;
 use super::{ARCHIVE, BARE, STATION, tables};
 use bufr_archive::{Items, MapShelf, Shelf, SortedShelf};
 use bufr_message::Refused;
@@ -79,16 +80,23 @@ fn shelf<S: Shelf>(rt: &impl Abort, alloc: Global) -> S {
     shelf
 }
 
-fn assert_shelf<S: Shelf>(rt: &impl Abort, alloc: Global) {
+/// Joins a shelf to a copy of itself, which stays as it is.
+fn joined<S: Shelf>(rt: &impl Abort, alloc: Global) -> S {
     let shelf: S = shelf(rt, alloc);
     let mut both = shelf.copy().expect(rt, "room");
     let joined: Result<(), bufr_archive::JoinFault> = both.join(&shelf);
     assert!(rt; joined.is_ok() && both.len() == 2);
+    both
+}
+
+fn assert_shelf<S: Shelf>(rt: &impl Abort, alloc: Global) {
+    let both: S = joined(rt, alloc);
     let key = wmo_key();
     assert!(rt; is_held(both.get(&key), Some(&key), b"A"));
     let first = both.first();
     assert!(rt; is_held(first, Some(&key), b"A"));
     assert!(rt; is_held(both.after(first.expect(rt, "an entry")), None, b"B"));
+    drop(key);
 }
 
 #[test]
@@ -134,7 +142,9 @@ fn assert_taken_in<'t, S: Shelf>(
 }
 
 fn assert_bare<S: Shelf>(rt: &impl Abort, alloc: Global, archive: &bufr_archive::Archive<'_, S>) {
-    assert!(rt; archive.get(&wmo_key()).is_none());
+    let key = wmo_key();
+    assert!(rt; archive.get(&key).is_none());
+    drop(key);
     assert!(rt; text(rt, alloc, archive).as_slice() == BARE);
 }
 
@@ -144,7 +154,10 @@ fn assert_archive<S: Shelf>(rt: &impl Abort, alloc: Global) {
     let archive: bufr_archive::Archive<'_, S> = archive(rt, alloc, &tables, BARE);
     let mut copied = archive.copy().expect(rt, "room");
     assert_taken_in(rt, &mut copied, &archive);
+    drop(archive);
     assert_bare(rt, alloc, &copied);
+    drop(copied);
+    drop(tables);
 }
 
 #[test]
@@ -162,6 +175,8 @@ fn archives_read(rt: HostRuntime) {
         ARCHIVE,
     ).expect(&rt, "an archive");
     assert!(rt; archive.len() == 2);
+    drop(archive);
+    drop(tables);
 }
 
 #[test]
@@ -178,20 +193,11 @@ fn refused_messages(rt: HostRuntime) {
             Err(bufr_archive::AddFault::Refused(Refused::NotBufr))
         )
     );
+    drop(archive);
+    drop(tables);
 }
 
 /// Returns the key of the only report of a message.
-fn report_of(
-    rt: &impl Abort,
-    alloc: Global,
-    tables: &Tables,
-    message: &[u8],
-) -> bufr_message::Report {
-    let view = bufr_message::view(alloc, tables, message).expect(rt, "a view");
-    assert!(rt; view.count() == 1);
-    view.report(alloc, 1).expect(rt, "room")
-}
-
 fn key_of(
     rt: &impl Abort,
     alloc: Global,
@@ -199,15 +205,24 @@ fn key_of(
     message: &[u8],
 ) -> Option<bufr_archive::Key> {
     let report = report_of(rt, alloc, tables, message);
-    bufr_archive::key_of(alloc, &report).expect(rt, "room")
+    let key = bufr_archive::key_of(alloc, &report);
+    drop(report);
+    key.expect(rt, "room")
 }
 
 #[test]
 fn keys(rt: HostRuntime) {
     let alloc = rt.alloc();
     let tables = tables(&rt, alloc);
-    assert!(rt; key_of(&rt, alloc, &tables, BARE).is_none());
-    assert!(rt; key_of(&rt, alloc, &tables, STATION) == Some(wmo_key()));
+    let keyless = key_of(&rt, alloc, &tables, BARE);
+    assert!(rt; keyless.is_none());
+    drop(keyless);
+    let key = key_of(&rt, alloc, &tables, STATION);
+    drop(tables);
+    let wanted = Some(wmo_key());
+    assert!(rt; key == wanted);
+    drop(key);
+    drop(wanted);
 }
 
 #[test]
@@ -215,7 +230,11 @@ fn reports_of_a_key(rt: HostRuntime) {
     let alloc = rt.alloc();
     let tables = tables(&rt, alloc);
     let archive: bufr_archive::Archive<'_, MapShelf> = archive(&rt, alloc, &tables, STATION);
-    assert!(rt; archive.get(&wmo_key()) == Some(STATION));
+    let key = wmo_key();
+    assert!(rt; archive.get(&key) == Some(STATION));
+    drop(key);
+    drop(archive);
+    drop(tables);
 }
 
 /// Whether a step is refused for want of a slot, from 0.
@@ -242,10 +261,12 @@ fn depot<'t>(
     let mut depot: bufr_archive::Depot<'t, SortedShelf> = bufr_archive::Depot::new(
         alloc, tables, 2,
     ).expect(rt, "room");
-    let fed = depot.step(&bufr_archive::Step::Feed {
+    let feed = bufr_archive::Step::Feed {
         slot: 0,
         piece: items(rt, alloc, BARE),
-    });
+    };
+    let fed = depot.step(&feed);
+    drop(feed);
     let wanted = bufr_archive::Answer::Fed {
         messages: 1,
         refused: 0,
@@ -255,19 +276,35 @@ fn depot<'t>(
     depot
 }
 
+/// Ends the first slot's stream, and takes its archive into the second's and back.
+fn run_steps(
+    rt: &impl Abort,
+    depot: &mut bufr_archive::Depot<'_, SortedShelf>,
+) -> Vec<Result<bufr_archive::Answer, bufr_archive::StepFault>> {
+    let steps = [
+        bufr_archive::Step::End { slot: 0 },
+        bufr_archive::Step::Merge { from: 0, into: 1 },
+        bufr_archive::Step::Transfer { from: 1, into: 0 },
+        bufr_archive::Step::Copy { from: 1, into: 0 },
+    ];
+    let answers = depot.run(&steps);
+    drop(steps);
+    answers.expect(rt, "room")
+}
+
 #[test]
 fn steps(rt: HostRuntime) {
     let tables = tables(&rt, rt.alloc());
     let mut depot = depot(&rt, rt.alloc(), &tables);
-    let answers: Vec<Result<bufr_archive::Answer, bufr_archive::StepFault>> = depot
-        .run(&[
-            bufr_archive::Step::End { slot: 0 },
-            bufr_archive::Step::Merge { from: 0, into: 1 },
-            bufr_archive::Step::Transfer { from: 1, into: 0 },
-            bufr_archive::Step::Copy { from: 1, into: 0 },
-        ])
-        .expect(&rt, "room");
+    let answers: Vec<Result<bufr_archive::Answer, bufr_archive::StepFault>> = run_steps(
+        &rt, &mut depot,
+    );
     assert!(rt; answers.last() == Some(&Ok(bufr_archive::Answer::Joined)));
+    drop(answers);
     assert!(rt; depot.archive(1).expect(&rt, "a slot").len() == 1);
-    assert!(rt; lacks_slot(depot.step(&bufr_archive::Step::End { slot: 9 }), 9));
+    let end = bufr_archive::Step::End { slot: 9 };
+    assert!(rt; lacks_slot(depot.step(&end), 9));
+    drop(end);
+    drop(depot);
+    drop(tables);
 }

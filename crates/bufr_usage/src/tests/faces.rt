@@ -31,43 +31,68 @@ fn descriptors(rt: HostRuntime) {
 
 const TABLE_D: &[u8] = b"FXY1,FXY2\n301250,012101\n";
 
-#[test]
-fn tables_looked_up(rt: HostRuntime) {
-    let alloc = rt.alloc();
+fn parsed_tables(rt: &impl Abort, alloc: Global) -> Tables {
     let b: Result<bufr_tables::TableB, bufr_tables::Failure<bufr_tables::TableFault>> =
         bufr_tables::TableB::parse(alloc, TABLE_B);
     let d: Result<bufr_tables::TableD, bufr_tables::Failure<bufr_tables::TableFault>> =
         bufr_tables::TableD::parse(alloc, TABLE_D);
-    let wanted: Tables = Tables::new(b.expect(&rt, "a table"), d.expect(&rt, "a table"));
-    let element: &Element = wanted.element(temperature(&rt)).expect(&rt, "an element");
-    assert!(rt; element.kind == Kind::Quantity);
-    let sequence = Fxy::from_text(b"301250").expect(&rt, "a descriptor");
-    assert!(rt; wanted.sequence(sequence) == Some(&[temperature(&rt)]));
-    assert!(rt; wanted.same(&wanted) && !wanted.same(&tables(&rt, alloc)));
+    Tables::new(b.expect(rt, "a table"), d.expect(rt, "a table"))
 }
 
-fn template(rt: &impl Abort, alloc: Global, tables: &Tables) -> bufr_expand::Template {
-    bufr_expand::Template::build(alloc, tables, &[temperature(rt)]).expect(rt, "a template")
+fn assert_looks_up(rt: &impl Abort, tables: &Tables) {
+    let element: &Element = tables.element(temperature(rt)).expect(rt, "an element");
+    assert!(rt; element.kind == Kind::Quantity);
+    let sequence = Fxy::from_text(b"301250").expect(rt, "a descriptor");
+    assert!(rt; tables.sequence(sequence) == Some(&[temperature(rt)]));
+}
+
+#[test]
+fn tables_looked_up(rt: HostRuntime) {
+    let wanted: Tables = parsed_tables(&rt, rt.alloc());
+    assert_looks_up(&rt, &wanted);
+    let others = tables(&rt, rt.alloc());
+    assert!(rt; wanted.same(&wanted) && !wanted.same(&others));
+    drop(others);
+    drop(wanted);
+}
+
+fn template(rt: &impl Abort, alloc: Global) -> bufr_expand::Template {
+    let tables = tables(rt, alloc);
+    let built = bufr_expand::Template::build(alloc, &tables, &[temperature(rt)]);
+    drop(tables);
+    built.expect(rt, "a template")
+}
+
+/// Writes 0101, 01000001 and 01000010, cuts them to twelve bits and fills the last octet.
+fn octets_of_bits(rt: &impl Abort, alloc: Global) -> Vec<u8> {
+    let mut sink: bufr_bits::BitSink = bufr_bits::BitSink::new(alloc);
+    sink.put(4, 5).expect(rt, "room");
+    sink.put_bytes(b"AB").expect(rt, "room");
+    assert!(rt; sink.len_bits() == 20);
+    sink.cut(12);
+    sink.fill_octet();
+    sink.into_bytes()
+}
+
+fn assert_reads_bits(rt: &impl Abort, octets: &[u8]) {
+    let mut reader: bufr_bits::BitReader = bufr_bits::BitReader::new(octets);
+    assert!(rt; reader.take(4) == Some(5));
+    assert!(rt; reader.place() == 4 && reader.left() == 12);
+}
+
+fn assert_reads_octets(rt: &impl Abort, alloc: Global, octets: &[u8]) {
+    assert!(rt; octets.len() == 2);
+    let mut reader = bufr_bits::BitReader::at(octets, 4);
+    let taken = reader.take_bytes(alloc, 1).expect(rt, "room");
+    assert!(rt; taken.expect(rt, "an octet").as_slice() == b"A".as_slice());
 }
 
 #[test]
 fn bits(rt: HostRuntime) {
-    let alloc = rt.alloc();
-    let mut sink: bufr_bits::BitSink = bufr_bits::BitSink::new(alloc);
-    sink.put(4, 5).expect(&rt, "room");
-    sink.put_bytes(b"AB").expect(&rt, "room");
-    assert!(rt; sink.len_bits() == 20);
-    sink.cut(12);
-    sink.fill_octet();
-    let octets = sink.into_bytes();
+    let octets = octets_of_bits(&rt, rt.alloc());
     assert!(rt; octets.as_slice() == [0x54, 0x10].as_slice());
-    let mut reader: bufr_bits::BitReader = bufr_bits::BitReader::new(octets.as_slice());
-    assert!(rt; reader.take(4) == Some(5));
-    assert!(rt; reader.place() == 4 && reader.left() == 12);
-    assert!(rt; octets.len() == 2);
-    let mut reader = bufr_bits::BitReader::at(octets.as_slice(), 4);
-    let taken = reader.take_bytes(alloc, 1).expect(&rt, "room");
-    assert!(rt; taken.expect(&rt, "an octet").as_slice() == b"A".as_slice());
+    assert_reads_bits(&rt, octets.as_slice());
+    assert_reads_octets(&rt, rt.alloc(), octets.as_slice());
 }
 
 #[test]
@@ -96,14 +121,15 @@ fn is_field(step: Result<bufr_expand::Step, bufr_expand::WalkFault>) -> bool {
 
 #[test]
 fn walks(rt: HostRuntime) {
-    let tables = tables(&rt, rt.alloc());
-    let template = template(&rt, rt.alloc(), &tables);
+    let template = template(&rt, rt.alloc());
     assert!(rt; template.nodes() == 1);
     let mut walk: bufr_expand::Walk<'_> = bufr_expand::Walk::start(rt.alloc(), &template, 0).expect(
         &rt, "room",
     );
     assert!(rt; is_field(walk.next()));
     assert!(rt; walk.items() == 1);
+    drop(walk);
+    drop(template);
 }
 
 /// Gives a walk the number of its count; bufr_expand_tests takes the steps before and after it.
@@ -165,52 +191,104 @@ fn plain_subset(
 #[test]
 fn plain_data(rt: HostRuntime) {
     let alloc = rt.alloc();
-    let tables = tables(&rt, alloc);
-    let template = template(&rt, alloc, &tables);
+    let template = template(&rt, alloc);
     let subset = plain_subset(&rt, alloc, &template, b"\x6A\xB3");
     let mut sink = bufr_bits::BitSink::new(alloc);
     bufr_data::write_plain(alloc, &template, &[subset], &mut sink).expect(&rt, "room");
     assert!(rt; sink.len_bits() == 16);
+    drop(sink);
+    drop(template);
+}
+
+fn assert_field(rt: &impl Abort, field: &bufr_data::Field) {
+    assert!(rt; !field.is_missing());
+    assert!(rt; field.value() == bufr_data::Decimal::new(27315, 2));
+    assert!(rt; field.fxy == temperature(rt) && field.spec.width == 16);
+    assert!(rt; matches!(&field.raw, bufr_data::Raw::Number(27315)));
 }
 
 #[test]
 fn fields(rt: HostRuntime) {
-    let alloc = rt.alloc();
-    let tables = tables(&rt, alloc);
-    let template = template(&rt, alloc, &tables);
-    let bufr_data::Subset { fields } = plain_subset(&rt, alloc, &template, b"\x6A\xB3");
+    let template = template(&rt, rt.alloc());
+    let bufr_data::Subset { fields } = plain_subset(&rt, rt.alloc(), &template, b"\x6A\xB3");
+    drop(template);
     let field: &bufr_data::Field = fields.get(0).expect(&rt, "a field");
-    assert!(rt; !field.is_missing());
-    assert!(rt; field.value() == bufr_data::Decimal::new(27315, 2));
-    assert!(rt; field.fxy == temperature(&rt) && field.spec.width == 16);
-    assert!(rt; matches!(&field.raw, bufr_data::Raw::Number(27315)));
+    assert_field(&rt, field);
+}
+
+/// One compressed subset: 273.15 K, with no increments.
+const COMPRESSED: &[u8] = b"\x6A\xB3\x00";
+
+/// Returns the subsets of `COMPRESSED`.
+fn compressed_subsets(
+    rt: &impl Abort,
+    alloc: Global,
+    template: &bufr_expand::Template,
+) -> bufr_data::Items<bufr_data::Subset> {
+    let mut reader = bufr_bits::BitReader::new(COMPRESSED);
+    bufr_data::read_compressed(alloc, template, &mut reader, 1).expect(rt, "subsets")
+}
+
+/// Builds the subset of `COMPRESSED` from its columns.
+fn subset_of_columns(
+    rt: &impl Abort,
+    alloc: Global,
+    template: &bufr_expand::Template,
+) -> bufr_data::Subset {
+    let mut reader = bufr_bits::BitReader::new(COMPRESSED);
+    let columns: bufr_data::Columns<'_> = bufr_data::Columns::index(
+        alloc,
+        template,
+        &mut reader,
+        1,
+    ).expect(rt, "columns");
+    assert!(rt; columns.count() == 1);
+    let subset = columns.subset(alloc, 1);
+    drop(columns);
+    subset.expect(rt, "room")
+}
+
+/// Returns the number of bits of subsets, compressed.
+fn compressed_bits(
+    rt: &impl Abort,
+    alloc: Global,
+    template: &bufr_expand::Template,
+    subsets: &[bufr_data::Subset],
+) -> u128 {
+    let mut sink = bufr_bits::BitSink::new(alloc);
+    bufr_data::write_compressed(alloc, template, subsets, &mut sink).expect(rt, "room");
+    sink.len_bits()
 }
 
 #[test]
 fn compressed_data(rt: HostRuntime) {
     let alloc = rt.alloc();
-    let tables = tables(&rt, alloc);
-    let template = template(&rt, alloc, &tables);
-    let octets = b"\x6A\xB3\x00";
-    let mut reader = bufr_bits::BitReader::new(octets);
-    let subsets = bufr_data::read_compressed(alloc, &template, &mut reader, 1).expect(
-        &rt, "subsets",
-    );
-    let mut sink = bufr_bits::BitSink::new(alloc);
-    bufr_data::write_compressed(alloc, &template, subsets.as_slice(), &mut sink).expect(
-        &rt, "room",
-    );
-    assert!(rt; sink.len_bits() == 22);
-    let mut reader = bufr_bits::BitReader::new(octets);
-    let columns: bufr_data::Columns<'_> = bufr_data::Columns::index(
-        alloc,
-        &template,
-        &mut reader,
-        1,
-    ).expect(&rt, "columns");
-    assert!(rt; columns.count() == 1);
-    let subset = columns.subset(alloc, 1).expect(&rt, "room");
+    let template = template(&rt, alloc);
+    let subsets = compressed_subsets(&rt, alloc, &template);
+    assert!(rt; compressed_bits(&rt, alloc, &template, subsets.as_slice()) == 22);
+    let subset = subset_of_columns(&rt, alloc, &template);
+    drop(template);
     assert!(rt; Some(&subset) == subsets.get(0));
+    drop(subset);
+}
+
+fn assert_encodes(
+    rt: &impl Abort,
+    alloc: Global,
+    tables: &Tables,
+    message: &bufr_message::Message,
+) {
+    let octets = bufr_message::encode(alloc, tables, message).expect(rt, "octets");
+    assert!(rt; octets.as_slice() == BARE);
+}
+
+fn assert_reports(rt: &impl Abort, alloc: Global, tables: &Tables, message: bufr_message::Message) {
+    let reports: Vec<bufr_message::Report> = bufr_message::reports(alloc, message).expect(
+        rt, "room",
+    );
+    let report = reports.first().expect(rt, "a report");
+    let octets = bufr_message::canonical(alloc, tables, report).expect(rt, "octets");
+    assert!(rt; octets.as_slice() == BARE);
 }
 
 #[test]
@@ -222,30 +300,39 @@ fn messages(rt: HostRuntime) {
         slack_octets,
     } = bufr_message::decode(alloc, &tables, BARE).expect(&rt, "a message");
     assert!(rt; slack_octets == 0);
-    let octets = bufr_message::encode(alloc, &tables, &message).expect(&rt, "octets");
-    assert!(rt; octets.as_slice() == BARE);
-    let reports: Vec<bufr_message::Report> = bufr_message::reports(alloc, message).expect(
-        &rt, "room",
+    assert_encodes(&rt, alloc, &tables, &message);
+    assert_reports(&rt, alloc, &tables, message);
+    drop(tables);
+}
+
+/// Returns the only report of a message.
+pub(super) fn report_of(
+    rt: &impl Abort,
+    alloc: Global,
+    tables: &Tables,
+    message: &[u8],
+) -> bufr_message::Report {
+    let view: bufr_message::View<'_> = bufr_message::view(alloc, tables, message).expect(
+        rt, "a view",
     );
-    let report = reports.first().expect(&rt, "a report");
-    let octets = bufr_message::canonical(alloc, &tables, report).expect(&rt, "octets");
-    assert!(rt; octets.as_slice() == BARE);
+    assert!(rt; view.count() == 1);
+    let report = view.report(alloc, 1);
+    drop(view);
+    report.expect(rt, "room")
 }
 
 #[test]
 fn views(rt: HostRuntime) {
     let alloc = rt.alloc();
     let tables = tables(&rt, alloc);
-    let view: bufr_message::View<'_> = bufr_message::view(alloc, &tables, BARE).expect(
-        &rt, "a view",
-    );
-    assert!(rt; view.count() == 1);
+    let report = report_of(&rt, alloc, &tables, BARE);
+    drop(tables);
     let bufr_message::Report {
         head,
         observed,
         descriptors,
         subset,
-    } = view.report(alloc, 1).expect(&rt, "room");
+    } = report;
     let head: bufr_message::ReportHead = head;
     assert!(rt; observed && head.centre == 98 && head.update == 0);
     assert!(rt; descriptors.len() == 1 && subset.fields.len() == 1);
@@ -259,29 +346,42 @@ fn listed(rt: &impl Abort, alloc: Global, message: &bufr_message::Message) -> Ve
     sink.into_inner()
 }
 
+fn assert_listed(rt: &impl Abort, alloc: Global, tables: &Tables) {
+    let messages = bufr_message::listing::read(alloc, tables, BARE_LISTED).expect(rt, "messages");
+    let message = messages.first().expect(rt, "a message");
+    assert!(rt; listed(rt, alloc, message).as_slice() == BARE_LISTED);
+}
+
 #[test]
 fn listings(rt: HostRuntime) {
-    let alloc = rt.alloc();
-    let tables = tables(&rt, alloc);
-    let messages = bufr_message::listing::read(alloc, &tables, BARE_LISTED).expect(&rt, "messages");
-    let message = messages.first().expect(&rt, "a message");
-    assert!(rt; listed(&rt, alloc, message).as_slice() == BARE_LISTED);
-    let refused = bufr_message::listing::read(alloc, &tables, b"end\n");
+    let tables = tables(&rt, rt.alloc());
+    assert_listed(&rt, rt.alloc(), &tables);
+    let refused = bufr_message::listing::read(rt.alloc(), &tables, b"end\n");
+    drop(tables);
     let wanted = bufr_message::listing::ListingFault::BadLine(1);
     assert!(rt; refused == Err(bufr_message::Failure::Fault(wanted)));
+    drop(refused);
+}
+
+/// Feeds a new framer `BARE`, and settles what it found.
+fn settled(rt: &impl Abort, framer: &mut bufr_frame::Framer) -> Vec<bufr_frame::Found> {
+    assert!(rt; framer.fed() == 0 && framer.pending() == 0);
+    let look: bufr_frame::Look = framer.look(BARE).expect(rt, "room");
+    assert!(rt; look.found().len() == 1);
+    framer.settle(look)
 }
 
 #[test]
 fn frames(rt: HostRuntime) {
     let mut framer: bufr_frame::Framer = bufr_frame::Framer::new(rt.alloc());
-    assert!(rt; framer.fed() == 0 && framer.pending() == 0);
-    let look: bufr_frame::Look = framer.look(BARE).expect(&rt, "room");
-    assert!(rt; look.found().len() == 1);
-    let found: Vec<bufr_frame::Found> = framer.settle(look);
+    let found: Vec<bufr_frame::Found> = settled(&rt, &mut framer);
     let frame = found.first().expect(&rt, "a frame");
     assert!(rt; frame.place == 0 && frame.bytes.as_slice() == BARE);
+    drop(found);
     let end = framer.look_end().expect(&rt, "room");
     assert!(rt; end.found().is_empty());
+    drop(end);
+    drop(framer);
 }
 
 #[test]
@@ -290,7 +390,9 @@ fn frames_in_turn(rt: HostRuntime) {
     assert!(rt; framer.fed() == 0);
     let bufr_frame::Taken { found, rest } = framer.take_next(BARE).expect(&rt, "room");
     assert!(rt; found.is_some() && rest.is_empty());
+    drop(found);
     assert!(rt; framer.finish().expect(&rt, "room").is_empty());
     assert!(rt; framer.fed() == 0);
     assert!(rt; framer.feed(BARE).expect(&rt, "room").len() == 1);
+    drop(framer);
 }

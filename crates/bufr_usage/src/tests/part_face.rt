@@ -27,10 +27,16 @@ fn station_head(alloc: Global) -> bufr_message::Head {
     }
 }
 
+/// Reads `STATION`.
+fn station_message(rt: &impl Abort, alloc: Global) -> bufr_message::Message {
+    let tables = tables(rt, alloc);
+    let decoded = bufr_message::decode(alloc, &tables, STATION);
+    drop(tables);
+    decoded.expect(rt, "a message").message
+}
+
 #[test]
 fn messages(rt: HostRuntime) {
-    let tables = tables(&rt, rt.alloc());
-    let decoded = bufr_message::decode(rt.alloc(), &tables, STATION).expect(&rt, "a message");
     let bufr_message::Message {
         head,
         section2,
@@ -38,8 +44,9 @@ fn messages(rt: HostRuntime) {
         compressed,
         descriptors,
         subsets,
-    } = decoded.message;
+    } = station_message(&rt, rt.alloc());
     assert!(rt; head == station_head(rt.alloc()) && section2.is_none());
+    drop(section2);
     assert!(rt; observed && !compressed);
     assert!(rt; descriptors.len() == 8 && subsets.len() == 1);
 }

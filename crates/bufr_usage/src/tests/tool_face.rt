@@ -17,7 +17,11 @@ fn tables_loaded(rt: HostRuntime) {
         &mut b,
         &mut d,
     );
-    assert!(rt; loaded.expect(&rt, "tables").same(&tables(&rt, rt.alloc())));
+    let loaded = loaded.expect(&rt, "tables");
+    let wanted = tables(&rt, rt.alloc());
+    assert!(rt; loaded.same(&wanted));
+    drop(wanted);
+    drop(loaded);
 }
 
 /// Whether an engine counts these frames, octets outside frames and reports, none refused, and
@@ -50,6 +54,7 @@ fn shown(rt: HostRuntime) {
         &mut reader,
         &mut writer,
     );
+    drop(tables);
     assert!(rt; is_told(tally, writer, 1, 0, BARE_LISTED));
 }
 
@@ -65,6 +70,7 @@ fn checked(rt: HostRuntime) {
         &mut reader,
         &mut writer,
     );
+    drop(tables);
     let text = b"0 49 ok 1 0\nframes 1 refused 0 skipped 0\n";
     assert!(rt; is_told(tally, writer, 1, 0, text));
 }
@@ -82,6 +88,7 @@ fn encoded(rt: HostRuntime) {
         &mut reader,
         &mut writer,
     );
+    drop(tables);
     assert!(rt; is_told(tally, writer, 1, 0, BARE));
 }
 
@@ -97,6 +104,7 @@ fn added(rt: HostRuntime) {
         &mut readers,
         &mut writer,
     );
+    drop(tables);
     assert!(rt; is_told(tally, writer, 1, 1, BARE));
 }
 
@@ -112,6 +120,7 @@ fn merged(rt: HostRuntime) {
         &mut readers,
         &mut writer,
     );
+    drop(tables);
     assert!(rt; is_told(tally, writer, 2, 1, BARE));
 }
 
@@ -160,4 +169,6 @@ fn lines(rt: HostRuntime) {
     assert!(rt; command == bufr_tool::Command::Add && !compressed);
     assert!(rt; b == "B" && d == "D" && out == "OUT");
     assert!(rt; inputs.len() == 1);
+    drop(inputs);
+    drop(words);
 }

@@ -56,11 +56,16 @@ fn mark_of(rt: &impl Abort, alloc: Global, row: &Row) -> PackedSlot {
     mark
 }
 
+fn row_at(rt: &impl Abort, place: usize) -> &'static Row<'static> {
+    IN_ORDER.get(place).expect(rt, "a row")
+}
+
 /// The slots of two marks have the order of their rows.
 fn assert_order(rt: &impl Abort, alloc: Global, place: usize, other_place: usize) {
-    let row = IN_ORDER.get(place).expect(rt, "a row");
-    let other = IN_ORDER.get(other_place).expect(rt, "a row");
-    let (mark, other_mark) = (mark_of(rt, alloc, row), mark_of(rt, alloc, other));
+    let row = row_at(rt, place);
+    let other = row_at(rt, other_place);
+    let mark = mark_of(rt, alloc, row);
+    let other_mark = mark_of(rt, alloc, other);
     assert!(rt;
         mark.slot_order(row.2, &other_mark, other.2) == place.cmp(&other_place),
         "{place}, {other_place}"

@@ -1,9 +1,9 @@
--- The table of three digits has the digits of each number below 256: for `six_digits`.
+-- The table of three digits has the digits of each number below 256: for `Fxy::digits`.
 use Rattle.std.proofs.Common.{◌≡◌, ℕ, zero, suc, ◌+◌, ◌-◌, ◌*◌, ◌/◌, ◌<◌, Bool, true, ◌&&◌, T, eqb}
 use Rattle.std.proofs.Common.{get_or, eqb→eq, eq-zero-or-pos, inl, inr, arith}
 use lib.Ieee.Fits.{and_l, and_r}
 use Rattle.bufr_tables.specs.Descriptors.{digit}
-use Rattle.bufr_listing.specs.declared.titles.TheConstants.{THREE_DIGITS}
+use Rattle.bufr_tables.specs.declared.three_digits.TheConstants.{THREE_DIGITS}
 
 abbrev pub HasDigits : ℕ → Type 0
 HasDigits n = (get_or THREE_DIGITS (3 * n) 0 ≡ digit (n / 100))
