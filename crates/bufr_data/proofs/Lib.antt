@@ -10,3 +10,4 @@ pub mod ListFacts
 pub mod OnLiterals
 pub mod PlainFacts
 pub mod RefusalFacts
+pub mod ShortFacts

@@ -13,6 +13,7 @@ use Rattle.bufr_data.specs.declared.compressed.index.Place.{Place}
 use Rattle.bufr_data.specs.declared.plain.layout.LaidField.{LaidField}
 use Rattle.bufr_data.specs.declared.plain.places.PlacedField.{PlacedField}
 use Rattle.bufr_data.specs.Plain.{raw_at}
+use Rattle.bufr_data.specs.Short.{greatest_short}
 
 -- the descriptor is in the list
 abbrev pub is_listed : List ℕ → ℕ → Bool
@@ -33,12 +34,16 @@ field_size_by kind width = if nat_le width most_raw_bits then width else 0
 abbrev pub field_size : Spec → ℕ
 field_size spec = field_size_by spec.kind spec.width
 
+-- a field after `gap` bits, with its greatest number if its numbers are short
+abbrev pub placed : ℕ → LaidField → PlacedField
+placed gap f = record { gap = gap; field = f; greatest = greatest_short f.spec }
+
 -- the chosen fields of a layout, each with the bits between it and the chosen field before it;
 -- `gap` bits come before the first field of the layout
 abbrev pub placed_from : List ℕ → ℕ → List LaidField → List PlacedField
 placed_from list gap [] = []
 placed_from list gap (f ∷ fields) = cond (is_listed list f.fxy)
-    (record { gap = gap; field = f } ∷ placed_from list 0 fields)
+    (placed gap f ∷ placed_from list 0 fields)
     (placed_from list (gap + field_size f.spec) fields)
 
 -- a field with its value, and the fields in the bits after it
@@ -52,11 +57,12 @@ fields_placed [] front = []
 fields_placed (p ∷ places) front =
     placed_then p.field (fields_placed places) (raw_at p.field.spec (drop p.gap front))
 
--- these bits hold the fields at their places
+-- these bits hold the fields at their places, which say the greatest of short numbers
 abbrev pub HoldPlaced : List PlacedField → List Bool → Type 0
 HoldPlaced [] front = Unit {0}
 HoldPlaced (p ∷ places) front = (p.gap ≤ length front) × (x : Raw × List Bool)
     × (raw_at p.field.spec (drop p.gap front) ≡ Some x) × HoldPlaced places x.1
+    × (p.greatest ≡ greatest_short p.field.spec)
 
 -- ---- columns
 

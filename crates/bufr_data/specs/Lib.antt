@@ -10,6 +10,7 @@ pub mod Data
 pub mod Shown
 pub mod Handed
 pub mod Chosen
+pub mod Short
 pub mod LeftFields
 pub mod Kept
 pub use Rattle.bufr_base.specs.Answers

@@ -3,10 +3,12 @@
 ghost use Rattle.std.specs.Prelude.{◌≡◌, Some, IfOk, IfSome, IfNone, OnErr};
 ghost use Rattle.bufr_data.specs.Chosen as chosen;
 ghost use Rattle.bufr_data.specs.Handed.{HandsOut};
+ghost use Rattle.bufr_data.specs.Short.{HandsOutShort};
 ghost use Rattle.bufr_fields.specs.Values.{as_field};
 
 use crate::compressed::fields::ColumnFields;
 use crate::plain::placed_fields::PlacedFields;
+use crate::short::ShortNumber;
 use bufr_base::OutOfMemory;
 use bufr_fields::{Field, NumberField};
 use bufr_tables::Fxy;
@@ -38,6 +40,19 @@ impl<'v> Model for ChosenFields<'v> {
 }
 
 impl<'v> ChosenFields<'v> {
+    /// Hands out the next field if it has a short number. It may return `None` at any other field,
+    /// for `next_number` or `next` to take.
+    #[inline(always)]
+    pub fn next_short(&mut self) -> Option<ShortNumber>
+        ensures found { IfSome result (λ short. HandsOutShort self.old short self.new) }
+        ensures others { IfNone result (self.new ≡ self.old) }
+    {
+        match &mut self.source {
+            ChosenSource::Placed(fields) => fields.next_short(),
+            ChosenSource::Compressed(fields) => fields.next_short(),
+        }
+    }
+
     /// Hands out the next field if it is a number. `None` at a text, for `next` to take, and at the
     /// end.
     #[inline(always)]

@@ -19,6 +19,7 @@ mod packed_key;
 mod page;
 mod pages_left;
 mod settling;
+mod tickets;
 mod waiting;
 mod worked_values;
 

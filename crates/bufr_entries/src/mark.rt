@@ -158,6 +158,15 @@ impl PackedSlot {
         }
     }
 
+    /// Returns the packed key of a WMO station, without its sub-centre.
+    #[inline(always)]
+    pub(crate) fn words(&self) -> Option<WmoWords> {
+        match &self.form {
+            PackedForm::Wmo { words, .. } => Some(*words),
+            _ => None,
+        }
+    }
+
     fn front(&self) -> Option<Front>
         ensures { IfSome result (λ front. option_map front_of_key self.now.key ≡ Some front) }
     {

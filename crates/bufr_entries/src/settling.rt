@@ -32,7 +32,7 @@ pub(crate) fn settle(
     ensures done { OnOk result ((left.new ≡ []) × (waiting.new ≡ [])) }
 {
     left.take_back(settled)?;
-    waiting.sort();
+    waiting.sort(alloc);
     while order_of_heads(left, waiting).is_some() {
         settle_page(alloc, settled, left, waiting)?;
     }

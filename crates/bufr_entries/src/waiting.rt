@@ -11,6 +11,7 @@ use crate::entry_octets::EntryOctets;
 use crate::giving_back::take_last;
 use crate::look::Look;
 use crate::mark::PackedSlot;
+use crate::tickets::follow_tickets;
 use bufr_base::OutOfMemory;
 use std::alloc::Global;
 use std::cmp::Ordering;
@@ -261,7 +262,7 @@ impl Waiting {
         drop_other(&mut self.entries);
     }
 
-    pub(crate) fn sort(&mut self)
+    pub(crate) fn sort(&mut self, alloc: Global)
         ensures permutation { IsPermutation self.old self.new }
         ensures rising { AreRising (reverse self.new) }
         ensures len { length self.new ≡ length self.old }
@@ -270,6 +271,7 @@ impl Waiting {
         if merge_runs(&mut self.entries, &self.octets) {
             return;
         }
+        follow_tickets(alloc, &mut self.entries);
         let octets = self.octets.as_slice();
         self.entries
             .sort_unstable_by(|waits, other| other.slot_cmp(waits, octets));

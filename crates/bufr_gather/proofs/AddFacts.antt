@@ -1,15 +1,15 @@
 -- Reports gathered one after the other: for `ArchiveBuilder::add_message` and what it calls.
 use Rattle.std.proofs.Common.{◌≡◌, ℕ, Option, None, Some, List, Result, Ok, Err, [], ◌∷◌, ◌++◌, refl}
-use Rattle.std.proofs.Common.{ap, subst, ◌∙◌}
+use Rattle.std.proofs.Common.{ap, subst, sym, ◌∙◌, ◌≤◌, length, take}
 use Rattle.std.specs.Prelude.{option_to_list, OnOk}
 use Rattle.bufr_tables.specs.Entries.{Entries}
 use Rattle.bufr_sections.specs.declared.message.Decoded.{Decoded}
 use Rattle.bufr_message.specs.Messages.{message_of}
-use Rattle.bufr_message.specs.Reports.{reports_of}
+use Rattle.bufr_message.specs.Reports.{reports_of, reports_read}
 use Rattle.bufr_entries.specs.declared.entry.Entry.{Entry}
 use Rattle.bufr_entries.specs.Entries.{kept}
-use Rattle.bufr_gather.specs.Archives.{ArchiveView, taken_in, entries_of}
-use Rattle.bufr_gather.specs.ReportEntries.{report_entries, spelt_entries}
+use Rattle.bufr_gather.specs.Archives.{ArchiveView, AddsFirst, taken_in, entries_of}
+use Rattle.bufr_gather.specs.ReportEntries.{report_entries, spelt_entries, entries_told}
 
 -- ---- one report: for `ArchiveBuilder::add_one`
 
@@ -56,3 +56,26 @@ builder_adds templates after entries old new octets d seen same is own added = (
       ∙ ap (taken_in (record { tables = templates; entries = entries })) own
       ∙ ap (λ (a : ArchiveView). taken_in a (report_entries a.tables (reports_of d.message))) seen,
 )
+
+-- memory runs out after some reports
+pub adds_first : (templates after : Entries) (entries : List Entry) (old new : ArchiveView)
+    (octets : List ℕ) (d : Decoded) (done : ℕ)
+    → record { tables = templates; entries = entries } ≡ old
+    → after ≡ templates → message_of templates octets ≡ Ok d
+    → spelt_entries (reports_of d.message) ≡ report_entries templates (reports_of d.message)
+    → done ≤ length (spelt_entries (reports_of d.message))
+    → new ≡ taken_in (record { tables = after; entries = entries })
+    (take done (spelt_entries (reports_of d.message)))
+    → AddsFirst old new (entries_told old.tables octets) done
+adds_first templates after entries old new octets d done seen same is own few added =
+    let told : entries_told templates octets ≡ spelt_entries (reports_of d.message) =
+    ap (λ r. report_entries templates (reports_read r)) is ∙ sym own in
+    let first : AddsFirst (record { tables = templates; entries = entries }) new
+    (spelt_entries (reports_of d.message)) done = record {
+      few = few;
+      archive = added ∙ ap (λ (t : Entries). taken_in (record { tables = t; entries = entries })
+          (take done (spelt_entries (reports_of d.message)))) same;
+    } in
+    subst (λ (a : ArchiveView). AddsFirst a new (entries_told a.tables octets) done) seen
+    (subst (λ rs. AddsFirst (record { tables = templates; entries = entries }) new rs done)
+    (sym told) first)

@@ -8,10 +8,13 @@ ghost use Rattle.bufr_message.specs.Reports.{reports_of};
 ghost use Rattle.bufr_gather.specs.ReportEntries.{report_entries, spelt_entries};
 
 use crate::add_fault::AddFault;
-use crate::report_entry::{MessageReports, ReportOctets};
+use crate::report_entry::ReportOctets;
 use bufr_base::{Failure, OutOfMemory};
 use bufr_entries::{KeptOctets, ShelfBuilder};
-use bufr_message::{MessageReader, Refused, ReportHead};
+use bufr_message::laws::{
+    canonical_messages_are_own, reports_have_canonical_messages, written_messages_are_spelt,
+};
+use bufr_message::{MessageReader, Refused, ReportHead, View};
 use bufr_report_keys::{key_elements, slot_in};
 use bufr_tables::Tables;
 use std::alloc::Global;
@@ -51,13 +54,18 @@ impl<'t> ArchiveBuilder<'t> {
     pub fn add_message(&mut self, octets: &[u8]) -> Result<(), AddFault>
         ensures { AddsToBuilder self.old self.new octets.now result }
     {
-        let reports = match MessageReports::of_octets(self.alloc, &mut self.templates, octets) {
-            Ok(reports) => reports,
-            Err(Failure::Fault(why)) => return Err(AddFault::Refused(why)),
+        reports_have_canonical_messages();
+        canonical_messages_are_own();
+        written_messages_are_spelt();
+        // The view is lent from the result, since a view out of it would be a copy.
+        let read = self.templates.read(self.alloc, octets);
+        let view = match &read {
+            Ok(view) => view,
+            Err(Failure::Fault(why)) => return Err(AddFault::Refused(*why)),
             Err(Failure::OutOfMemory) => return Err(AddFault::OutOfMemory { done: 0 }),
         };
-        for index in 0..reports.view.count() {
-            let Ok(()) = self.add_one(&reports, index) else {
+        for index in 0..view.count() {
+            let Ok(()) = self.add_one(view, index) else {
                 let done = index as u128;
                 return Err(AddFault::OutOfMemory { done });
             };
@@ -66,13 +74,12 @@ impl<'t> ArchiveBuilder<'t> {
     }
 
     /// Adds one report, and writes its octets in place.
-    fn add_one(&mut self, reports: &MessageReports<'_>, index: usize) -> Result<(), OutOfMemory>
-        requires { index < length reports.now.view.message.subsets }
+    fn add_one(&mut self, view: &View<'_>, index: usize) -> Result<(), OutOfMemory>
+        requires { index < length view.now.message.subsets }
         ensures ok { OnOk result (self.new ≡ taken_in self.old
-            (get_or (spelt_entries (reports_of reports.now.view.message)) index None ∷ [])) }
+            (get_or (spelt_entries (reports_of view.now.message)) index None ∷ [])) }
         ensures err { OnErr result (self.new ≡ self.old) }
     {
-        let view = &reports.view;
         let head = ReportHead::of_head(view.head());
         let slot = slot_in(self.alloc, &head, view, index)?;
         self.entries.put_marked(slot, &ReportOctets { view, index })

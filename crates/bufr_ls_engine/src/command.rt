@@ -89,5 +89,7 @@ fn list_files<R: Files, O: Write + Drop, E: Write + Drop>(
     };
     let mut writer = IntoWrite::new(&mut *out);
     let ended = run_ls(alloc, MOST_READS, columns, &mut inputs, &mut writer);
-    status_of(alloc, NAME, &ended, &inputs, err)
+    let status = status_of(alloc, NAME, &ended, &inputs, err);
+    drop(inputs);
+    status
 }

@@ -44,8 +44,12 @@ pub fn line<'a, S: AsStr>(alloc: Global, words: &'a [S]) -> Result<CommandLine<'
 {
     let matches = program(alloc)?.try_get_matches_from(words)?;
     let columns = matches.get_str("columns");
-    let files = values(alloc, &matches, "file")?;
-    Ok(CommandLine { columns, files })
+    let files = values(alloc, &matches, "file");
+    drop(matches);
+    Ok(CommandLine {
+        columns,
+        files: files?,
+    })
 }
 
 fn program<'a>(alloc: Global) -> Result<Command<'a>, OutOfMemory>

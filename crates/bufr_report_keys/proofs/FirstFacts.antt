@@ -2,12 +2,19 @@
 -- `key_in` and `key_of_fields`.
 use Rattle.std.proofs.Common.{◌≡◌, ℕ, ◌==◌, Bool, true, false, List, [], ◌∷◌, ◌++◌, Option, Some}
 use Rattle.std.proofs.Common.{None, refl, sym, ap, subst, ◌∙◌, append_assoc, cond, length, drop}
-use Rattle.std.proofs.Common.{slice_index_or, ◌+◌, ◌<◌, ◌≤◌}
+use Rattle.std.proofs.Common.{slice_index_or, ◌+◌, ◌<◌, ◌≤◌, ℤ, pos}
 use Rattle.std.specs.Option.{option_map, option_or, option_flatten}
 use Rattle.std.proofs.lemmas.Bool.{eqb-false, eqb-true, or_parts}
 use Rattle.std.proofs.lemmas.List.{append-nil, drop_all, drop_more}
 use Rattle.std.proofs.lemmas.List.Folds.{find-append}
+use Rattle.bufr_tables.specs.declared.element.Kind.{Kind}
+use Rattle.bufr_tables.specs.declared.element.Kind.TheVariants as kinds
 use Rattle.bufr_fields.specs.declared.field.Field.{Field}
+use Rattle.bufr_fields.specs.declared.field.NumberField.{NumberField}
+use Rattle.bufr_fields.specs.declared.field.Raw.TheVariants.{Number}
+use Rattle.bufr_fields.specs.Values.{as_field, is_missing}
+use Rattle.bufr_data.specs.declared.short.ShortNumber.{ShortNumber}
+use Rattle.bufr_data.specs.Short.{HandsOutShort, HasShort}
 use Rattle.bufr_data.specs.Chosen.{chosen, is_listed}
 use Rattle.bufr_data.specs.Handed.{HandsOut, HandsOutAsked, NoneAsked, PassesUnasked}
 use Rattle.bufr_message.specs.declared.report.ReportHead.{ReportHead}
@@ -18,11 +25,12 @@ use Rattle.bufr_report_keys.specs.declared.elements.TheConstants.{WIGOS_ISSUER, 
 use Rattle.bufr_report_keys.specs.declared.elements.TheConstants.{WIGOS_LOCAL_IDENTIFIER, YEAR}
 use Rattle.bufr_report_keys.specs.declared.elements.TheConstants.{MONTH, DAY, HOUR, MINUTE, SECOND}
 use Rattle.bufr_report_keys.specs.Usable.{◌>>=◌, first_field, element_number, element_text}
-use Rattle.bufr_report_keys.specs.Usable.{usable_number, usable_text}
+use Rattle.bufr_report_keys.specs.Usable.{usable_number, usable_text, whole, text_by}
 use Rattle.bufr_report_keys.specs.Keys.{station, moment, key}
 use Rattle.bufr_report_keys.specs.Asked.{elements, is_asked}
 use Rattle.bufr_report_keys.specs.FirstValues.{first_number, first_text, first_values, known, noted}
 use Rattle.bufr_report_keys.specs.FirstValues.{all_noted, station_of, moment_of, key_of}
+use Rattle.bufr_report_keys.specs.FirstValues.{numbered, short_noted}
 
 -- ---- one more field
 
@@ -167,6 +175,49 @@ unfolding all_noted
 none_handed old new (Some f) values handed none = absurd (none f refl)
 none_handed old new None values handed none =
     ap (λ fields. all_noted fields values) handed.0
+
+-- ---- short numbers
+
+-- all values after a field of element d with this number and text
+abbrev told : ℕ → Option ℤ → Option (List ℕ) → FirstValues → FirstValues
+told d number text values = record (numbered d (Some number) values) {
+  mobile = known (d == MOBILE_IDENTIFIER) values.mobile (Some text);
+  local = known (d == WIGOS_LOCAL_IDENTIFIER) values.local (Some text);
+}
+
+whole_short : (number : Option ℕ)
+    → whole (option_map (λ n. record { units = pos n; scale = pos 0 }) number)
+    ≡ option_map pos number
+whole_short None = refl
+whole_short (Some n) = refl
+
+number_has_no_text : (kind : Kind) (n : ℕ) (missing : Bool)
+    → text_by kind (Number n) missing ≡ None
+number_has_no_text kinds.Text n missing = refl
+number_has_no_text kinds.Code n missing = refl
+number_has_no_text kinds.Flag n missing = refl
+number_has_no_text kinds.Quantity n missing = refl
+number_has_no_text kinds.Count n missing = refl
+
+short_is_noted : (f : NumberField) (short : ShortNumber) (values : FirstValues)
+    → HasShort f short
+    → noted (as_field f) values ≡ short_noted short.fxy (option_map pos short.number) values
+short_is_noted f short values has =
+    let field = as_field f in
+    let usable : usable_number field ≡ option_map pos short.number =
+    ap whole has.1 ∙ whole_short short.number in
+    let text = number_has_no_text f.spec.kind f.number (is_missing field) in
+    ap (λ d. told d (usable_number field) (usable_text field) values) has.0
+    ∙ ap (λ n. told short.fxy n (usable_text field) values) usable
+    ∙ ap (λ t. told short.fxy (option_map pos short.number) t values) text
+
+pub short_handed : (old new : List Field) (short : ShortNumber) (values : FirstValues)
+    → HandsOutShort old short new
+    → all_noted old values
+    ≡ all_noted new (short_noted short.fxy (option_map pos short.number) values)
+short_handed old new short values handed =
+    handed_noted old new (as_field handed.0) values handed.2
+    ∙ ap (all_noted new) (short_is_noted handed.0 short values handed.1)
 
 -- a test with its sides exchanged
 other_side : (a b : ℕ) → (a == b) ≡ false → (b == a) ≡ false

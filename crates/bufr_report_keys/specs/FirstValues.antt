@@ -1,5 +1,5 @@
 -- The first values of the elements of keys.
-use Rattle.std.specs.Prelude.{ℕ, ◌==◌, Bool, true, false, List, [], ◌∷◌, Option, Some, ℤ, pos}
+use Rattle.std.specs.Prelude.{ℕ, ◌==◌, Bool, true, false, List, [], ◌∷◌, Option, Some, None, ℤ, pos}
 use Rattle.std.specs.Option.{option_map, option_or, option_flatten}
 use Rattle.jiff.specs.Words.{days_in_month}
 use Rattle.bufr_fields.specs.declared.field.Field.{Field}
@@ -94,6 +94,13 @@ numbered d said values = record values {
   second = known (d == SECOND) values.second said;
 }
 
+-- all values after a field of element d with this number, or none if it is unusable, and no text
+abbrev pub short_noted : ℕ → Option ℤ → FirstValues → FirstValues
+short_noted d number values = record (numbered d (Some number) values) {
+  mobile = known (d == MOBILE_IDENTIFIER) values.mobile (Some None);
+  local = known (d == WIGOS_LOCAL_IDENTIFIER) values.local (Some None);
+}
+
 -- ---- all fields
 
 -- all values after some fields
@@ -132,15 +139,15 @@ station_of values =
     (option_flatten values.issue) (option_flatten values.local))
     (mobile_of (option_flatten values.mobile)))
 
--- the moment
-abbrev pub moment_of : FirstValues → Option Moment
-moment_of values = do
-  year ← option_flatten values.year >>= from_to 1 greatest_year
-  month ← option_flatten values.month >>= from_to 1 12
-  day ← option_flatten values.day >>= from_to 1 (days_in_month (pos year) month)
-  hour ← option_flatten values.hour >>= from_to 0 23
-  minute ← sixtieth (option_flatten values.minute)
-  second ← sixtieth (option_flatten values.second)
+-- the moment of these numbers
+abbrev pub moment_by : (year month day hour minute second : Option ℤ) → Option Moment
+moment_by year month day hour minute second = do
+  year ← year >>= from_to 1 greatest_year
+  month ← month >>= from_to 1 12
+  day ← day >>= from_to 1 (days_in_month (pos year) month)
+  hour ← hour >>= from_to 0 23
+  minute ← sixtieth minute
+  second ← sixtieth second
   Some (record {
     year = year;
     month = month;
@@ -150,9 +157,20 @@ moment_of values = do
     second = second;
   })
 
+-- the moment
+abbrev pub moment_of : FirstValues → Option Moment
+moment_of values = moment_by (option_flatten values.year) (option_flatten values.month)
+    (option_flatten values.day) (option_flatten values.hour) (option_flatten values.minute)
+    (option_flatten values.second)
+
 -- the key of these values
 abbrev pub key_of : ReportHead → FirstValues → Option Key
 key_of head values = do
   station ← station_of values
   moment ← moment_of values
   Some (key_with head station moment)
+
+-- the key of a WMO station, if there is a moment
+abbrev pub wmo_key : ReportHead → (block number : ℕ) → Option Moment → Option Key
+wmo_key head block number moment =
+    moment >>= λ m. Some (key_with head (Wmo (pos block) (pos number)) m)

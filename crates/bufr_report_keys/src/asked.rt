@@ -8,6 +8,7 @@ use crate::elements::{
     YEAR,
 };
 use crate::first_values::FirstValues;
+use crate::short_values::ShortValues;
 use bufr_base::{Items, OutOfMemory};
 use bufr_data::{Asks, ChosenFields, Field, Fields, Raw};
 use bufr_tables::Fxy;
@@ -69,6 +70,16 @@ pub(crate) fn note_chosen(
         } else {
             return Ok(());
         }
+    }
+}
+
+/// Notes the fields that are left up to the first without a short number.
+#[inline(always)]
+pub(crate) fn note_short(fields: &mut ChosenFields<'_>, values: &mut ShortValues)
+    ensures { all_noted fields.new values.new ≡ all_noted fields.old values.old }
+{
+    while let Some(field) = fields.next_short() {
+        values.note(field);
     }
 }
 

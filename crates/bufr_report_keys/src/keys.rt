@@ -5,16 +5,17 @@ ghost use Rattle.bufr_fields.specs.declared.field.Subset.{Subset};
 ghost use Rattle.bufr_data.specs.Chosen.{chosen};
 ghost use Rattle.bufr_report_keys.specs.Asked.{elements};
 ghost use Rattle.bufr_report_keys.specs.Keys.{key};
-ghost use Rattle.bufr_report_keys.specs.FirstValues.{key_of};
+ghost use Rattle.bufr_report_keys.specs.FirstValues.{all_noted, key_of, noted, wmo_key};
 
-use crate::asked::{note_chosen, note_handed, note_listed};
+use crate::asked::{note_chosen, note_handed, note_listed, note_short};
 use crate::elements::key_elements;
 use crate::first_values::FirstValues;
 use crate::moments::moment_of;
+use crate::short_values::ShortValues;
 use crate::stations::station_of;
 use bufr_base::OutOfMemory;
 use bufr_data::{ChosenFields, Field, Fields};
-use bufr_entries::{FrontHead, Key, PackedSlot};
+use bufr_entries::{FrontHead, Key, Moment, PackedSlot};
 use bufr_message::{ReportHead, View};
 use std::alloc::Global;
 
@@ -81,17 +82,71 @@ pub fn slot_in(
 }
 
 /// Makes the slot by the chosen fields, which are those of keys.
+#[inline(always)]
 fn slot_of_chosen(
     alloc: Global,
     head: &ReportHead,
-    fields: ChosenFields<'_>,
+    mut fields: ChosenFields<'_>,
 ) -> Result<PackedSlot, OutOfMemory>
     ensures { IfOk result (λ slot. (all : List AField) → fields.entry ≡ chosen elements all
         → slot ≡ record { key = key head.now all; update = head.now.update }) }
 {
-    let mut values = FirstValues::none();
+    let mut values = ShortValues::none();
+    note_short(&mut fields, &mut values);
+    match fields.next(alloc)? {
+        None => slot_of_short(alloc, head, &values),
+        Some(field) => slot_of_rest(alloc, head, &values, field, fields),
+    }
+}
+
+/// Makes the slot by first values, one more field and the fields left after it.
+// Not inline, since these values take much room, and most reports need none of it.
+#[inline(never)]
+fn slot_of_rest(
+    alloc: Global,
+    head: &ReportHead,
+    values: &ShortValues,
+    field: Field,
+    fields: ChosenFields<'_>,
+) -> Result<PackedSlot, OutOfMemory>
+    ensures { IfOk result (λ slot. slot ≡ record {
+      key = key_of head.now (all_noted fields.entry (noted field values.now));
+      update = head.now.update;
+    }) }
+{
+    let mut values = values.widened();
+    values.note(field);
     note_chosen(alloc, fields, &mut values)?;
     slot_of(alloc, head, &mut values)
+}
+
+/// Makes the slot by first values in little room.
+#[inline(always)]
+fn slot_of_short(
+    alloc: Global,
+    head: &ReportHead,
+    values: &ShortValues,
+) -> Result<PackedSlot, OutOfMemory>
+    ensures { IfOk result (λ slot.
+        slot ≡ record { key = key_of head.now values.now; update = head.now.update }) }
+{
+    let (Some(block), Some(number)) = (values.block.usable(), values.station.usable()) else {
+        return slot_of_others(alloc, head, values);
+    };
+    slot_of_wmo(alloc, head, block, number, values.moment())
+}
+
+/// Makes the slot of a report without a WMO station.
+#[inline(never)]
+fn slot_of_others(
+    alloc: Global,
+    head: &ReportHead,
+    values: &ShortValues,
+) -> Result<PackedSlot, OutOfMemory>
+    ensures { IfOk result (λ slot.
+        slot ≡ record { key = key_of head.now values.now; update = head.now.update }) }
+{
+    slot_of(alloc, head, &mut values.widened())
 }
 
 fn slot_of(
@@ -106,9 +161,25 @@ fn slot_of(
     else {
         return PackedSlot::new(alloc, key_of(head, values), head.update);
     };
-    let moment = match moment_of(values) {
-        None => return PackedSlot::new(alloc, None, head.update),
-        Some(moment) => moment,
+    slot_of_wmo(alloc, head, block, number, moment_of(values))
+}
+
+/// Makes the slot of a WMO station; it has no key without a moment.
+#[inline(always)]
+fn slot_of_wmo(
+    alloc: Global,
+    head: &ReportHead,
+    block: u16,
+    number: u16,
+    moment: Option<Moment>,
+) -> Result<PackedSlot, OutOfMemory>
+    ensures { IfOk result (λ slot. slot ≡ record {
+      key = wmo_key head.now block number moment;
+      update = head.now.update;
+    }) }
+{
+    let Some(moment) = moment else {
+        return PackedSlot::new(alloc, None, head.update);
     };
     let front = FrontHead {
         centre: head.centre,

@@ -10,10 +10,12 @@
 mod asked;
 mod elements;
 mod first_number;
+mod first_short;
 mod first_values;
 mod keys;
 pub mod laws;
 mod moments;
+mod short_values;
 mod stations;
 mod usable;
 mod worked_values;

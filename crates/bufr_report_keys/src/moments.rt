@@ -2,7 +2,7 @@
 ghost use Rattle.std.specs.Prelude.{◌≡◌, ◌≤◌, pos};
 ghost use Rattle.jiff.specs.Words.{days_in_month};
 ghost use Rattle.bufr_report_keys.specs.Keys.{greatest_year, from_to, sixtieth};
-ghost use Rattle.bufr_report_keys.specs.FirstValues.{moment_of};
+ghost use Rattle.bufr_report_keys.specs.FirstValues.{moment_by, moment_of};
 
 use crate::first_values::FirstValues;
 use bufr_entries::Moment;
@@ -11,6 +11,7 @@ use jiff::civil::Date;
 /// The last year of a moment.
 pub(crate) const GREATEST_YEAR: u16 = 9999;
 
+#[inline(always)]
 fn year_of(number: i128) -> Option<u16>
     ensures { result ≡ from_to 1 greatest_year number }
 {
@@ -21,6 +22,7 @@ fn year_of(number: i128) -> Option<u16>
     }
 }
 
+#[inline(always)]
 fn from_to(low: u8, high: u8, number: i128) -> Option<u8>
     ensures { result ≡ from_to low high number }
 {
@@ -32,6 +34,7 @@ fn from_to(low: u8, high: u8, number: i128) -> Option<u8>
 }
 
 /// Converts a day of this month in the civil calendar.
+#[inline(always)]
 fn day_of(year: u16, month: u8, number: i128) -> Option<u8>
     requires year { year ≤ greatest_year }
     requires month { (1 ≤ month) × (month ≤ 12) }
@@ -45,6 +48,7 @@ fn day_of(year: u16, month: u8, number: i128) -> Option<u8>
 }
 
 /// Converts a minute or second; 0 if it is absent.
+#[inline(always)]
 fn sixtieth(number: Option<i128>) -> Option<u8>
     ensures { result ≡ sixtieth number }
 {
@@ -54,21 +58,51 @@ fn sixtieth(number: Option<i128>) -> Option<u8>
     }
 }
 
+/// The numbers of a time, as the first fields have them; none if a number is absent.
+#[derive(Clone, Copy)]
+pub(crate) struct TimeNumbers {
+    pub(crate) year: Option<i128>,
+    pub(crate) month: Option<i128>,
+    pub(crate) day: Option<i128>,
+    pub(crate) hour: Option<i128>,
+    pub(crate) minute: Option<i128>,
+    pub(crate) second: Option<i128>,
+}
+
+impl TimeNumbers {
+    // Inline, since numbers of two octets then need no room of 128 bits.
+    #[inline(always)]
+    pub(crate) fn moment(self) -> Option<Moment>
+        ensures { result ≡ moment_by self.year self.month self.day self.hour self.minute
+            self.second }
+    {
+        let year = year_of(self.year?)?;
+        let month = from_to(1, 12, self.month?)?;
+        let day = day_of(year, month, self.day?)?;
+        let hour = from_to(0, 23, self.hour?)?;
+        let minute = sixtieth(self.minute)?;
+        let second = sixtieth(self.second)?;
+        Some(Moment {
+            year,
+            month,
+            day,
+            hour,
+            minute,
+            second,
+        })
+    }
+}
+
 pub(crate) fn moment_of(values: &FirstValues) -> Option<Moment>
     ensures { result ≡ moment_of values.now }
 {
-    let year = year_of(values.year.usable()?)?;
-    let month = from_to(1, 12, values.month.usable()?)?;
-    let day = day_of(year, month, values.day.usable()?)?;
-    let hour = from_to(0, 23, values.hour.usable()?)?;
-    let minute = sixtieth(values.minute.usable())?;
-    let second = sixtieth(values.second.usable())?;
-    Some(Moment {
-        year,
-        month,
-        day,
-        hour,
-        minute,
-        second,
-    })
+    let numbers = TimeNumbers {
+        year: values.year.usable(),
+        month: values.month.usable(),
+        day: values.day.usable(),
+        hour: values.hour.usable(),
+        minute: values.minute.usable(),
+        second: values.second.usable(),
+    };
+    numbers.moment()
 }

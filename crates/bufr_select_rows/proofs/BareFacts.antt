@@ -6,11 +6,9 @@ use Rattle.std.specs.Char.{is_ascii_digit}
 use Rattle.std.proofs.lemmas.Bool.Decides.{nat_tests}
 use Rattle.csv.specs.Writing.{default_writer, field_text, needs_byte, needs_quotes}
 use Rattle.bufr_fields.specs.DecimalTextLaws.{AreDigits}
-use Rattle.bufr_fields.specs.Values.{as_field, digits_by, is_missing, text_of, value}
+use Rattle.bufr_fields.specs.Values.{digits_by, text_of}
 use Rattle.bufr_fields.specs.declared.field.Decimal.{Decimal}
-use Rattle.bufr_fields.specs.declared.field.NumberField.{NumberField}
 use Rattle.bufr_listing.specs.Listings.{number_word}
-use Rattle.bufr_select_rows.specs.Values.{shown_value}
 use Rattle.bufr_select_rows.proofs.ListedFacts.{decimal_digits, front_digits, zeros_before}
 
 -- octets need no quotes around them
@@ -69,18 +67,13 @@ word_bare : (said : Option Decimal) → AreBare (number_word said)
 word_bare None = refl
 word_bare (Some d) = number_bare d.units d.scale
 
-value_if : (is : Bool) (said : Option Decimal) → AreBare (if is then [] else number_word said)
-value_if true said = refl
-value_if false said = word_bare said
-
 -- so octets are the text of their field
 pub bare_text : (octets : List ℕ) → AreBare octets → field_text default_writer octets ≡ octets
 bare_text octets bare = rw bare refl
 
-pub value_text : (n : NumberField)
-    → field_text default_writer (shown_value (as_field n)) ≡ shown_value (as_field n)
-value_text n =
-    bare_text (shown_value (as_field n)) (value_if (is_missing (as_field n)) (value (as_field n)))
+pub word_text : (said : Option Decimal)
+    → field_text default_writer (number_word said) ≡ number_word said
+word_text said = bare_text (number_word said) (word_bare said)
 
 pub count_text : (n : ℕ) → field_text default_writer (decimal n) ≡ decimal n
 count_text n = bare_text (decimal n) (bare_digits (decimal n) (decimal_digits n))

@@ -1,13 +1,13 @@
 -- Settled cells: no later field changes the row.
 use Rattle.std.proofs.Common.{◌≡◌, ◌==◌, ◌≤◌, ℕ, zero, suc, ◌&&◌, Bool, true, false, List, [], ◌∷◌, Some, None, length}
-use Rattle.std.proofs.Common.{map, take, cond, refl, sym, ap, ◌∙◌, subst}
+use Rattle.std.proofs.Common.{map, take, cond, refl, sym, ap, ◌∙◌, ◌+◌, subst, arith, length-append}
 use Rattle.std.specs.List.{list_all}
 use Rattle.std.proofs.lemmas.Bool.{eqb-true}
 use Rattle.std.proofs.lemmas.List.{take_all}
 use Rattle.bufr_fields.specs.declared.field.Field.{Field}
-use Rattle.bufr_data.specs.Handed.{HandsOutAsked}
+use Rattle.bufr_data.specs.Handed.{HandsOutAsked, PassesUnasked}
 use Rattle.bufr_select_rows.specs.Asks.{Covers}
-use Rattle.bufr_select_rows.specs.CellLaws.{columns_after}
+use Rattle.bufr_select_rows.specs.CellLaws.{columns_after, rows_passed}
 use Rattle.bufr_select_rows.specs.Cells.{AreSettled, counted, counted_at, is_settled, noted, noted_by}
 use Rattle.bufr_select_rows.specs.Cells.{row_of, rows_left, settled_by}
 use Rattle.bufr_select_rows.specs.declared.cell.Cell.{Cell}
@@ -76,6 +76,25 @@ pub row_next : (asked : ℕ → Bool) (cells cells' : List Cell) (f : Field) (ol
     → rows_left None cells true old ≡ rows_left None cells' true new
 row_next asked cells cells' f old new covers hands is =
     field_next asked None cells cells' true true f old new covers hands is refl
+
+-- fields were skipped that are not asked for
+pub row_passed : (asked : ℕ → Bool) (cells : List Cell) (old new : List Field)
+    → Covers asked None (map (λ c. c.column) cells) → PassesUnasked asked old new
+    → rows_left None cells true old ≡ rows_left None cells true new
+row_passed asked cells old new covers passes =
+    ap (rows_left None cells true) passes.2
+    ∙ rows_passed asked None cells true passes.0 new covers passes.1
+
+-- fewer fields are left
+pub passes_fewer : (asked : ℕ → Bool) (old new : List Field) → PassesUnasked asked old new
+    → length new ≤ length old
+passes_fewer asked old new passes =
+    omega (arith, ap length passes.2, length-append passes.0 new)
+
+pub hands_fewer : (asked : ℕ → Bool) (f : Field) (old new : List Field)
+    → HandsOutAsked asked old (Some f) new → length new + 1 ≤ length old
+hands_fewer asked f old new hands =
+    omega (arith, ap length hands.3, length-append hands.0 (f ∷ new))
 
 -- they have the same columns, and the first ones stay settled
 pub columns_kept : (cells cells' : List Cell) (f : Field) → cells' ≡ map (noted true f) cells

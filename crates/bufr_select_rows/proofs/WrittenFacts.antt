@@ -3,7 +3,7 @@ use Rattle.std.proofs.Common.{◌≡◌, ℕ, List, [], ◌++◌}
 use Rattle.bufr_listing.specs.DecimalLaws.{value_other}
 use Rattle.std.proofs.Common.{Option, Some, None, IfSome, drop, sym, ap, ◌∙◌}
 use Rattle.std.proofs.Common.{cond, subst}
-use Rattle.std.specs.Prelude.{◌+ℤ◌, pos, false}
+use Rattle.std.specs.Prelude.{◌+ℤ◌, pos, Bool, true, false, refl}
 use Rattle.bufr_fields.specs.Values.{as_field, decimal_within, is_missing, value}
 use Rattle.bufr_fields.specs.declared.field.NumberField.{NumberField}
 use Rattle.bufr_listing.specs.Listings.{number_word}
@@ -30,3 +30,11 @@ pub number_shown : (f : NumberField) → (f.spec.kind ≡ kinds.Text → ⊥)
 number_shown f other there =
     ap number_word (sym (value_other f.spec.kind f.number (as_field f) other there))
     ∙ ap (λ b. cond b [] (number_word (value (as_field f)))) (sym there)
+
+-- a number of a text has no value
+pub none_shown : (f : NumberField) → f.spec.kind ≡ kinds.Text → shown_value (as_field f) ≡ []
+none_shown f is = by (is_missing (as_field f))
+  where
+    by : (b : Bool) → cond b [] (number_word (value (as_field f))) ≡ []
+    by true = refl
+    by false = rw is refl

@@ -1,8 +1,8 @@
 //! Fills the cells of a subset that has one row.
 
-ghost use Rattle.std.specs.Prelude.{◌≡◌, None, true, map, OnOk};
+ghost use Rattle.std.specs.Prelude.{◌≡◌, ◌≤◌, ℕ, None, true, length, map, OnOk};
 ghost use Rattle.bufr_select_rows.specs.Asks.{IsSetOf};
-ghost use Rattle.bufr_select_rows.specs.Cells.{row_of, rows_left};
+ghost use Rattle.bufr_select_rows.specs.Cells.{AreSettled, row_of, rows_left};
 
 use crate::asked::Asked;
 use crate::cell::Cell;
@@ -23,6 +23,8 @@ pub(crate) fn fill_cells<P: Picks>(
         ≡ row_of cells.new) }
     ensures columns { OnOk result (map (λ c. c.column) cells.new ≡ map (λ c. c.column) cells.old) }
 {
+    // To settle all cells takes a field of each descriptor.
+    let mut due = fill_numbers(asked, fields, &mut *cells, asked.listed().len())?;
     let mut settled = 0;
     'fields: loop {
         settled = first_unsettled(cells, settled);
@@ -35,9 +37,38 @@ pub(crate) fn fill_cells<P: Picks>(
         }
         let next = fields.pick(alloc, asked);
         match &next {
-            Ok(Some(field)) => note_field(&mut *cells, asked, true, field)?,
+            Ok(Some(field)) => {
+                note_field(&mut *cells, asked, true, field)?;
+                due = fill_numbers(asked, fields, &mut *cells, due)?;
+            }
             Ok(None) => return Ok(()),
             Err(_) => return Err(OutOfMemory),
         }
     }
+}
+
+/// Notes the next fields of a subset, at most `most`, as long as they are numbers. Returns how many are
+/// left of `most`.
+fn fill_numbers<P: Picks>(
+    asked: &Asked,
+    fields: &mut P,
+    cells: &mut [Cell],
+    most: usize,
+) -> Result<usize, OutOfMemory>
+    requires { IsSetOf asked.now None (map (λ c. c.column) cells.old) }
+    ensures row { OnOk result (rows_left None cells.old true (P.left fields.old)
+        ≡ rows_left None cells.new true (P.left fields.new)) }
+    ensures columns { OnOk result (map (λ c. c.column) cells.new ≡ map (λ c. c.column) cells.old) }
+    ensures settled { OnOk result ((n : ℕ) → AreSettled n cells.old → AreSettled n cells.new) }
+    ensures fewer { OnOk result (length (P.left fields.new) ≤ length (P.left fields.old)) }
+{
+    let mut due = most;
+    'due: while due > 0 {
+        due -= 1;
+        match fields.pick_number(asked) {
+            Some(number) => note_number(&mut *cells, asked, true, number)?,
+            None => return Ok(due),
+        }
+    }
+    Ok(due)
 }

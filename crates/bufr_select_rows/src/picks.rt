@@ -51,11 +51,12 @@ impl<'v> Picks for ChosenFields<'v> {
 
     #[inline(always)]
     fn pick_number(&mut self, asked: &Asked) -> Option<NumberField> {
-        loop {
-            let number = self.next_number()?;
-            if asked.asks(number.fxy) {
-                return Some(number);
-            }
+        // `pick` skips others than this one.
+        let number = self.next_number()?;
+        if asked.asks(number.fxy) {
+            Some(number)
+        } else {
+            None
         }
     }
 

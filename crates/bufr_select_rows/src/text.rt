@@ -1,8 +1,10 @@
 //! The text of a cell.
 
-ghost use Rattle.std.specs.Prelude.{◌≡◌, ◌≤◌, ◌++◌, [], decimal, drop, length, pos, IfSome, OnOk};
+ghost use Rattle.std.specs.Prelude.{◌≡◌, ◌≤◌, ◌++◌, ◌+ℤ◌, ℕ, List, [], decimal, drop, length, pos, IfSome, OnOk};
 ghost use Rattle.csv.specs.Writing.{default_writer, field_text};
-ghost use Rattle.bufr_fields.specs.Values.{as_field, digits_by};
+ghost use Rattle.bufr_fields.specs.Values.{as_field, decimal_within, digits_by};
+ghost use Rattle.bufr_listing.specs.Listings.{number_word};
+ghost use Rattle.bufr_select_rows.specs.Texts.{sum_word, text_of};
 ghost use Rattle.bufr_select_rows.specs.Values.{shown_text, shown_value};
 ghost use Rattle.bufr_select_rows.specs.Values as values;
 
@@ -10,6 +12,7 @@ use crate::quotes::push_field;
 use crate::written::{write_count, write_number, write_octets};
 use bufr_base::OutOfMemory;
 use bufr_fields::{Decimal, Field, NumberField, Raw};
+use bufr_tables::Kind;
 use itoa::{Buffer, write_digits};
 use std::alloc::Global;
 use std::marker::Model;
@@ -23,12 +26,22 @@ const MOST_PLACES: i32 = 20;
 /// What a text is.
 #[derive(Clone, Copy)]
 pub(crate) enum Standing {
+    /// Nothing.
+    Empty,
     /// The octets of the text.
     Octets,
-    /// The value of a field with a number.
-    Number(NumberField),
+    /// A number, to be shown by a scale.
+    Sum(Sum),
     /// The digits of a count.
     Count(u64),
+}
+
+/// A raw number with the reference value that is added to it, and the scale of the sum.
+#[derive(Clone, Copy)]
+pub(crate) struct Sum {
+    pub(crate) number: u64,
+    pub(crate) reference: i64,
+    pub(crate) scale: i32,
 }
 
 /// A text of a cell. It keeps a number as it is, until a row shows its digits. The room of its
@@ -53,7 +66,7 @@ impl Text {
         ensures { result ≡ [] }
     {
         Text {
-            standing: Standing::Octets,
+            standing: Standing::Empty,
             octets: Vec::new(alloc),
         }
     }
@@ -63,8 +76,7 @@ impl Text {
     pub(crate) fn clear(&mut self)
         ensures { self.new ≡ [] }
     {
-        self.standing = Standing::Octets;
-        self.octets.clear();
+        self.standing = Standing::Empty;
     }
 
     /// Replaces the text by the digits of a number.
@@ -103,12 +115,12 @@ impl Text {
         }
     }
 
-    /// Keeps a field with a number in place of the text.
+    /// Puts the value of a field with a number in place of the text.
     #[inline(always)]
     pub(crate) fn keep(&mut self, number: NumberField)
         ensures { self.new ≡ shown_value (as_field number) }
     {
-        self.standing = Standing::Number(number);
+        self.standing = standing_of(number);
     }
 
     /// Puts the octets of a field's value in place of the text, for rows that show it again and again.
@@ -126,8 +138,9 @@ impl Text {
             ≡ text.old.items ++ field_text default_writer self.now) }
     {
         match self.standing {
+            Standing::Empty => Ok(()),
             Standing::Octets => push_field(text, &self.octets),
-            Standing::Number(number) => push_value(text, &field_of(number)),
+            Standing::Sum(sum) => push_sum(text, sum),
             Standing::Count(count) => push_digits(text, count, 0),
         }
     }
@@ -142,10 +155,51 @@ impl Text {
         ensures within { IfSome result (λ start. start ≤ end) }
     {
         match self.standing {
+            Standing::Empty => Some(end),
             Standing::Octets => write_octets(room, end, &self.octets),
-            Standing::Number(number) => write_number(room, end, number),
+            Standing::Sum(sum) => write_number(room, end, sum),
             Standing::Count(count) => write_count(room, end, count),
         }
+    }
+}
+
+/// Returns how a text shows the value of a field with a number.
+#[inline(always)]
+fn standing_of(field: NumberField) -> Standing
+    ensures { (octets : List ℕ) → text_of result octets ≡ shown_value (as_field field) }
+{
+    let NumberField { fxy, spec, number } = field;
+    if field.is_missing() {
+        return Standing::Empty;
+    }
+    match spec.kind {
+        Kind::Text => Standing::Empty,
+        _ => standing_of_sum(sum_of(NumberField { fxy, spec, number })),
+    }
+}
+
+/// Returns the sum of a number and the reference value of its field.
+#[inline(always)]
+fn sum_of(field: NumberField) -> Sum
+    ensures { sum_word result ≡ number_word
+        (decimal_within (pos field.number +ℤ field.spec.reference) field.spec.scale) }
+{
+    Sum {
+        number: field.number,
+        reference: field.spec.reference,
+        scale: field.spec.scale,
+    }
+}
+
+/// Returns how a text shows a sum.
+#[inline(always)]
+fn standing_of_sum(sum: Sum) -> Standing
+    ensures { (octets : List ℕ) → text_of result octets ≡ sum_word sum }
+{
+    if sum.reference == 0 && sum.scale == 0 {
+        Standing::Count(sum.number)
+    } else {
+        Standing::Sum(sum)
     }
 }
 
@@ -173,6 +227,19 @@ fn push_value(text: &mut Vec<u8>, field: &Field) -> Result<(), OutOfMemory>
             Raw::Number(_) => Ok(()),
             Raw::Text(octets) => push_text(text, trimmed(octets.as_slice())),
         },
+    }
+}
+
+/// Adds the digits of a sum.
+fn push_sum(text: &mut Vec<u8>, sum: Sum) -> Result<(), OutOfMemory>
+    ensures { OnOk result (text.new.items ≡ text.old.items ++ sum_word sum) }
+{
+    match Decimal::new(
+        i128::from(sum.number) + i128::from(sum.reference),
+        sum.scale,
+    ) {
+        Some(number) => push_number(text, number),
+        None => Ok(()),
     }
 }
 

@@ -2,13 +2,14 @@
 
 ghost use Rattle.std.specs.Prelude.{◌≡◌, ◌≤◌, ◌++◌, decimal, drop, length, IfSome};
 ghost use Rattle.csv.specs.Writing.{default_writer, field_text};
-ghost use Rattle.bufr_fields.specs.Values.{as_field};
-ghost use Rattle.bufr_select_rows.specs.Values.{shown_value};
+ghost use Rattle.bufr_select_rows.specs.Texts.{sum_word};
 
 use crate::quotes::needs_quotes;
+use crate::text::Sum;
+use bufr_expand::Spec;
 use bufr_fields::NumberField;
 use bufr_listing::write_sum;
-use bufr_tables::Kind;
+use bufr_tables::{Fxy, Kind};
 use itoa::write_digits;
 
 /// The room for a count.
@@ -17,25 +18,30 @@ const MOST_OCTETS: usize = 48;
 // The functions below write before `end`, and return where what they wrote begins. They return
 // `None` if the room is short.
 
-/// Writes the value of a field with a number, unless it is large.
+/// Writes a sum, unless it is large.
 #[inline(always)]
-pub(crate) fn write_number(room: &mut [u8], end: usize, field: NumberField) -> Option<usize>
+pub(crate) fn write_number(room: &mut [u8], end: usize, sum: Sum) -> Option<usize>
     requires { end ≤ length room.old }
     ensures written { IfSome result (λ start. drop start room.new
-        ≡ shown_value (as_field field) ++ drop end room.old) }
+        ≡ sum_word sum ++ drop end room.old) }
     ensures within { IfSome result (λ start. start ≤ end) }
 {
-    let NumberField { fxy, spec, number } = field;
-    if field.is_missing() {
-        return Some(end);
-    }
-    match spec.kind {
-        Kind::Text => None,
-        _ => write_sum(room, end, NumberField { fxy, spec, number }),
-    }
+    let spec = Spec {
+        kind: Kind::Quantity,
+        scale: sum.scale,
+        reference: sum.reference,
+        width: u64::BITS,
+    };
+    let field = NumberField {
+        fxy: Fxy::from_bits(0),
+        spec,
+        number: sum.number,
+    };
+    write_sum(room, end, field)
 }
 
 /// Writes the digits of a count.
+#[inline(always)]
 pub(crate) fn write_count(room: &mut [u8], end: usize, count: u64) -> Option<usize>
     requires { end ≤ length room.old }
     ensures written { IfSome result (λ start. drop start room.new

@@ -20,7 +20,8 @@ use Rattle.bufr_data.specs.declared.plain.layout.LaidField.{LaidField}
 use Rattle.bufr_data.specs.declared.plain.layout.Layout.{Layout}
 use Rattle.bufr_data.specs.declared.plain.places.PlacedField.{PlacedField}
 use Rattle.bufr_data.specs.Chosen.{is_listed, chosen, field_size_by, field_size, placed_from}
-use Rattle.bufr_data.specs.Chosen.{placed_then, fields_placed, HoldPlaced}
+use Rattle.bufr_data.specs.Chosen.{placed, placed_then, fields_placed, HoldPlaced}
+use Rattle.bufr_data.specs.Short.{greatest_short}
 use Rattle.bufr_data.specs.Plain.{SubsetRead, raw_at, field_then, fields_at}
 use Rattle.bufr_data.specs.Plain.Layouts.{laid_course, IsLaid}
 use Rattle.bufr_data.specs.Plain.Reads.{raw_or_ends}
@@ -115,13 +116,13 @@ listed_placed : (list : List ℕ) (gap : ℕ) (f : LaidField) (others : List Pla
     → is_listed list f.fxy ≡ true → gap ≤ length front → raw_at f.spec (drop gap front) ≡ Some x
     → IsOk (with_front (record { fxy = f.fxy; spec = f.spec; raw = x.0 }) r)
     → (IsOk r → ArePlaced list others x.1 r)
-    → ArePlaced list (record { gap = gap; field = f } ∷ others) front
+    → ArePlaced list (placed gap f ∷ others) front
     (with_front (record { fxy = f.fxy; spec = f.spec; raw = x.0 }) r)
 listed_placed list gap f others front x (Ok found) listed within read ok after =
     let h = after refl in
     let field : Field = record { fxy = f.fxy; spec = f.spec; raw = x.0 } in
     record {
-      holds = (within, x, read, h.holds);
+      holds = (within, x, read, h.holds, refl);
       are = ap (placed_then f (fields_placed others)) read ∙ ap (λ fs. field ∷ fs) h.are
           ∙ sym (ap (λ b. cond b (field ∷ chosen list found.fields) (chosen list found.fields)) listed);
     }
@@ -150,7 +151,7 @@ field_placed : (listed : Bool) (list : List ℕ) (gap : ℕ) (f : LaidField) (fi
     → ((g : ℕ) (bs : List Bool) → g ≤ length bs → IsOk (Later fields i (drop g bs))
     → ArePlaced list (placed_from list g fields) bs (Later fields i (drop g bs)))
     → ArePlaced list
-    (cond listed (record { gap = gap; field = f } ∷ placed_from list 0 fields)
+    (cond listed (placed gap f ∷ placed_from list 0 fields)
     (placed_from list (gap + field_size f.spec) fields)) front
     (field_then 1 i f.fxy f.spec (λ n rest. Later fields i rest) o)
 field_placed listed list gap f fields i front None is read within ok after = absurd cc
@@ -222,6 +223,11 @@ placed_handed places others p front rest raw is holds read =
           ∙ ap (placed_then p.field (fields_placed others)) found,
     )
 
+pub placed_greatest : (places others : List PlacedField) (p : PlacedField) (front : List Bool)
+    → places ≡ p ∷ others → HoldPlaced places front → p.greatest ≡ greatest_short p.field.spec
+placed_greatest places others p front is holds =
+    (subst (λ ps. HoldPlaced ps front) is holds).4
+
 pub none_placed : (places : List PlacedField) (front : List Bool) → length places ≡ 0
     → fields_placed places front ≡ []
 none_placed [] front is = refl
@@ -235,10 +241,10 @@ PlacedSoFar list all places gap left = placed_from list 0 all ≡ places ++ plac
 
 pub one_placed : (list : List ℕ) (all left others : List LaidField) (f : LaidField)
     (places grown : List PlacedField) (gap : ℕ) → left ≡ f ∷ others → is_listed list f.fxy ≡ true
-    → grown ≡ places ++ record { gap = gap; field = f } ∷ []
+    → grown ≡ places ++ placed gap f ∷ []
     → PlacedSoFar list all places gap left → PlacedSoFar list all grown 0 others
 one_placed list all left others f places grown gap is listed more so_far =
-    let place : PlacedField = record { gap = gap; field = f } in
+    let place = placed gap f in
     let next : placed_from list gap (f ∷ others) ≡ place ∷ placed_from list 0 others =
     ap (λ b. cond b (place ∷ placed_from list 0 others)
     (placed_from list (gap + field_size f.spec) others)) listed in
@@ -251,7 +257,7 @@ pub none_more_placed : (list : List ℕ) (all left others : List LaidField) (f :
     → is_listed list f.fxy ≡ false → more ≡ gap + field_size f.spec
     → PlacedSoFar list all places gap left → PlacedSoFar list all places more others
 none_more_placed list all left others f places gap more is listed sum so_far =
-    let place : PlacedField = record { gap = gap; field = f } in
+    let place = placed gap f in
     let next : placed_from list gap (f ∷ others) ≡ placed_from list (gap + field_size f.spec) others =
     ap (λ b. cond b (place ∷ placed_from list 0 others)
     (placed_from list (gap + field_size f.spec) others)) listed in

@@ -4,6 +4,7 @@ ghost use Rattle.std.specs.Prelude.{◌≡◌, ◌++◌, true, Some, IfOk, IfSom
 ghost use Rattle.std.specs.Bool.{OnTrue, OnFalse};
 ghost use Rattle.bufr_data.specs.Handed.{HandsOut, HandsOutAsked, FirstIsAsked, PassesFirst};
 ghost use Rattle.bufr_data.specs.Handed.{PassesUnasked};
+ghost use Rattle.bufr_data.specs.Short.{HandsOutShort};
 ghost use Rattle.bufr_fields.specs.Values.{as_field};
 ghost use Rattle.bufr_data.specs.Plain.{plain};
 ghost use Rattle.bufr_data.specs.Subsets.{Extends, has_own_form};
@@ -11,6 +12,7 @@ ghost use Rattle.bufr_data.specs.Subsets.{Extends, has_own_form};
 use crate::compressed::index::{Place, number_there, value};
 use crate::fields::by_parts;
 use crate::plain::write::put_raw;
+use crate::short::{ShortNumber, greatest_short};
 use bufr_base::OutOfMemory;
 use bufr_bits::BitSink;
 use bufr_expand::Asks;
@@ -82,6 +84,24 @@ impl<'v> ColumnFields<'v> {
     {
         while self.pass_first(asked) {}
         self.next_number()
+    }
+
+    /// Hands out the next field if its numbers are short.
+    #[inline(always)]
+    pub(crate) fn next_short(&mut self) -> Option<ShortNumber>
+        ensures found { IfSome result (λ short. HandsOutShort self.old short self.new) }
+        ensures others { IfNone result (self.new ≡ self.old) }
+    {
+        let Some((place, others)) = self.places.split_first() else {
+            return None;
+        };
+        let greatest = greatest_short(place.spec)?;
+        let number = number_there(self.octets, self.subsets, *place, self.index)?;
+        let Ok(number) = u16::try_from(number) else {
+            return None;
+        };
+        self.places = others;
+        Some(ShortNumber::of_raw(place.fxy, number, greatest))
     }
 
     /// Hands out the next field if it is a number.

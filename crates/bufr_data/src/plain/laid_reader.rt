@@ -5,6 +5,7 @@ ghost use Rattle.std.specs.Prelude.{IsOk, IfSome, IfNone, OnErr};
 ghost use Rattle.bufr_base.specs.Answers.{Gives};
 ghost use Rattle.bufr_bits.specs.Ends.{left};
 ghost use Rattle.bufr_fields.specs.declared.field.Raw.TheVariants.{Number};
+ghost use Rattle.bufr_tables.specs.declared.element.Kind.TheVariants.{Text};
 ghost use Rattle.bufr_data.specs.Handed.{moved_on};
 ghost use Rattle.bufr_data.specs.Plain.{raw_at};
 ghost use Rattle.bufr_data.specs.Plain.Reads.{raw_or_ends};
@@ -12,6 +13,7 @@ ghost use Rattle.bufr_data.specs.Plain.Reads.{raw_or_ends};
 use crate::plain::read::read_raw;
 use bufr_base::Failure;
 use bufr_bits::BitReader;
+use bufr_bits::laws::number_taken_was_put;
 use bufr_expand::Spec;
 use bufr_fields::{DataFault, Raw};
 use bufr_tables::Kind;
@@ -113,6 +115,23 @@ impl<'a> LaidReader<'a> {
                 Some(number)
             }
         }
+    }
+
+    /// Takes a number of at most 16 bits that is there after `gap` bits.
+    #[inline(always)]
+    pub(crate) fn short_after(&mut self, gap: u64, spec: Spec) -> u16
+        requires within { gap ≤ length (left self.old) }
+        requires there { IsOk (raw_or_ends 1 1 (raw_at spec (drop gap (left self.old)))) }
+        requires other { spec.kind ≡ Text → ⊥ }
+        requires narrow { spec.width ≤ 16 }
+        ensures found { raw_or_ends 1 1
+            (raw_at spec (drop gap (left self.old))) ≡ Ok (Number result, left self.new) }
+    {
+        number_taken_was_put();
+        self.move_on(gap);
+        let number = self.here().take_left(spec.width);
+        self.move_on(u64::from(spec.width));
+        number as u16
     }
 
     /// Takes a value that is there after `gap` bits.

@@ -2,11 +2,13 @@
 
 ghost use Rattle.std.specs.Prelude.{◌≡◌, Some, IfOk, IfSome, IfNone, OnErr};
 ghost use Rattle.bufr_data.specs.Handed.{HandsOut};
+ghost use Rattle.bufr_data.specs.Short.{HandsOutShort};
 ghost use Rattle.bufr_fields.specs.Values.{as_field};
 
 use crate::fields::by_parts;
 use crate::plain::laid_reader::LaidReader;
 use crate::plain::places::PlacedField;
+use crate::short::ShortNumber;
 use bufr_base::OutOfMemory;
 use bufr_fields::{Field, NumberField};
 use std::alloc::Global;
@@ -33,6 +35,22 @@ impl<'v> Model for PlacedFields<'v> {
 }
 
 impl<'v> PlacedFields<'v> {
+    /// Hands out the next field if its numbers are short.
+    #[inline(always)]
+    pub(crate) fn next_short(&mut self) -> Option<ShortNumber>
+        ensures found { IfSome result (λ short. HandsOutShort self.old short self.new) }
+        ensures others { IfNone result (self.new ≡ self.old) }
+    {
+        let Some((place, others)) = self.places.split_first() else {
+            return None;
+        };
+        let place = *place;
+        let greatest = place.greatest?;
+        let number = self.reader.short_after(place.gap, place.field.spec);
+        self.places = others;
+        Some(ShortNumber::of_raw(place.field.fxy, number, greatest))
+    }
+
     /// Hands out the next field if it is a number. `None` at a text, for `next` to take, and at the
     /// end.
     #[inline(always)]

@@ -6,17 +6,20 @@ ghost use Rattle.bufr_data.specs.Chosen.{placed_from};
 
 use crate::chosen::is_listed;
 use crate::plain::layout::LaidField;
+use crate::short::greatest_short;
 use bufr_base::OutOfMemory;
 use bufr_expand::Spec;
 use bufr_fields::MOST_RAW_BITS;
 use bufr_tables::Kind;
 use std::alloc::Global;
 
-/// A chosen field of every subset, and the bits between it and the chosen field before it.
+/// A chosen field of every subset, the bits between it and the chosen field before it, and its
+/// greatest number if its numbers are short.
 #[derive(Clone, Copy, PartialEq)]
 pub(crate) struct PlacedField {
     pub(crate) gap: u64,
     pub(crate) field: LaidField,
+    pub(crate) greatest: Option<u16>,
 }
 
 /// Finds the places of the fields of some descriptors, which are given by their 16 bits. `None` if
@@ -35,7 +38,7 @@ pub(crate) fn place_fields(
     while let Some((field, others)) = left.split_first() {
         let field = *field;
         if is_listed(asked, field.fxy) {
-            places.push(PlacedField { gap, field })?;
+            places.push(placed(gap, field))?;
             gap = 0;
         } else {
             match gap.checked_add(size_of_field(field.spec)) {
@@ -46,6 +49,17 @@ pub(crate) fn place_fields(
         left = others;
     }
     Ok(Some(places))
+}
+
+/// Makes the place of a field after `gap` bits.
+fn placed(gap: u64, field: LaidField) -> PlacedField
+    ensures { result ≡ chosen.placed gap field }
+{
+    PlacedField {
+        gap,
+        field,
+        greatest: greatest_short(field.spec),
+    }
 }
 
 /// Returns the bits of a field.

@@ -16,6 +16,9 @@ const BLOCKS: &[u16] = &[0x0101];
 /// Temperatures, 0 12 101.
 const TEMPERATURES: &[u16] = &[0x0C65];
 
+/// Blocks, station numbers, names and temperatures.
+const ALL: &[u16] = &[0x0101, 0x0102, 0x010B, 0x0C65];
+
 /// Station numbers, names and temperatures: 0 01 002, 0 01 011 and 0 12 101.
 const OTHERS: &[u16] = &[0x0C65, 0x010B, 0x0102];
 
@@ -141,6 +144,83 @@ fn hands_out_others(rt: &impl Abort, alloc: Global, mut fields: ChosenFields<'_>
     drop(fields);
 }
 
+fn has_short(rt: &impl Abort, fields: &mut ChosenFields<'_>, element: u16, wanted: Option<u16>) {
+    let found = fields.next_short().expect(rt, "a short number");
+    same(rt, found.fxy.bits(), element);
+    same(rt, found.number, wanted);
+}
+
+/// Compares a number that is not short.
+fn has_other(rt: &impl Abort, fields: &mut ChosenFields<'_>, wanted: u64) {
+    same(rt, fields.next_short(), None);
+    has_number(rt, fields, wanted);
+}
+
+/// Short numbers come with their elements. Other fields are left: a wide number, a text, one with a
+/// scale.
+#[test]
+fn short_numbers_at_their_places(rt: HostRuntime) {
+    let alloc = rt.alloc();
+    let mut kept = DataTemplate::new(template(&rt, alloc, BETWEEN));
+    let first = indexed(&rt, alloc, &mut kept, ALL, false, BETWEEN_OCTETS, 1);
+    let index = indexed(&rt, alloc, &mut kept, ALL, false, BETWEEN_OCTETS, 1);
+    assert!(&rt; 0 < index.count());
+    let fields = index.chosen(ALL, 0).expect(&rt, "places");
+    hands_out_short(&rt, alloc, fields);
+    drop(index);
+    drop(first);
+    drop(kept);
+}
+
+fn hands_out_short(rt: &impl Abort, alloc: Global, mut fields: ChosenFields<'_>) {
+    has_short(rt, &mut fields, 0x0101, Some(10));
+    has_other(rt, &mut fields, 0x7FFF_FFFF_FFFF_FFFE);
+    same(rt, fields.next_short(), None);
+    has_name(rt, fields.next(alloc).expect(rt, "room"));
+    has_short(rt, &mut fields, 0x0101, Some(11));
+    has_short(rt, &mut fields, 0x0101, Some(12));
+    has_short(rt, &mut fields, 0x0102, Some(384));
+    has_short(rt, &mut fields, 0x0101, None);
+    has_other(rt, &mut fields, 27315);
+    same(rt, fields.next_short(), None);
+    same(rt, fields.next(alloc).expect(rt, "room"), None);
+    drop(fields);
+}
+
+/// A number of 16 bits is short, one of 17 or with a reference value is not.
+#[test]
+fn bounds_of_short_numbers(rt: HostRuntime) {
+    let alloc = rt.alloc();
+    let list: Descriptors = &[
+        (2, 1, 134),
+        (0, 1, 2),
+        (0, 1, 2),
+        (2, 1, 135),
+        (0, 1, 2),
+        (2, 1, 0),
+        (0, 7, 1),
+        (0, 1, 2),
+    ];
+    // 65534 and 65535 in 16 bits, 5 in 17, 401 in 15, and 3 in ten
+    let octets = [0xFF, 0xFE, 0xFF, 0xFF, 0x00, 0x02, 0x81, 0x91, 0x00, 0xC0];
+    let asked = &[0x0102, 0x0701];
+    let mut kept = DataTemplate::new(template(&rt, alloc, list));
+    let first = indexed(&rt, alloc, &mut kept, asked, false, &octets, 1);
+    let index = indexed(&rt, alloc, &mut kept, asked, false, &octets, 1);
+    assert!(&rt; 0 < index.count());
+    let mut fields = index.chosen(asked, 0).expect(&rt, "places");
+    has_short(&rt, &mut fields, 0x0102, Some(65534));
+    has_short(&rt, &mut fields, 0x0102, None);
+    has_other(&rt, &mut fields, 5);
+    has_other(&rt, &mut fields, 401);
+    has_short(&rt, &mut fields, 0x0102, Some(3));
+    same(&rt, fields.next_short(), None);
+    drop(fields);
+    drop(index);
+    drop(first);
+    drop(kept);
+}
+
 /// Each of eight subsets has its fields a width further on.
 #[test]
 fn each_subset_has_its_places(rt: HostRuntime) {
@@ -180,6 +260,33 @@ fn places_of_no_list(rt: &impl Abort, alloc: Global) {
     has_numbers(rt, alloc, &index, BLOCKS, 0, None);
     drop(index);
     drop(first);
+    drop(kept);
+}
+
+/// Compares the short number of each of two subsets, after a temperature.
+fn has_column(rt: &impl Abort, alloc: Global, index: &SubsetIndex, wanted: &[Option<u16>; 2]) {
+    for (at, number) in wanted.iter().enumerate() {
+        assert!(rt; at < index.count());
+        let mut fields = index.chosen(ALL, at).expect(rt, "places");
+        has_other(rt, &mut fields, 27315);
+        has_short(rt, &mut fields, 0x0101, *number);
+        same(rt, fields.next_short(), None);
+        same(rt, fields.next(alloc).expect(rt, "room"), None);
+        drop(fields);
+    }
+}
+
+/// A column of blocks has 11 and a missing number.
+#[test]
+fn short_numbers_of_columns(rt: HostRuntime) {
+    let alloc = rt.alloc();
+    let list: Descriptors = &[(0, 12, 101), (0, 1, 1)];
+    // 27315 and no increments; 10, increments of two bits, 1 and 3
+    let octets = [0x6A, 0xB3, 0x00, 0x50, 0x4E];
+    let mut kept = DataTemplate::new(template(&rt, alloc, list));
+    let index = indexed(&rt, alloc, &mut kept, ALL, true, &octets, 2);
+    has_column(&rt, alloc, &index, &[Some(11), None]);
+    drop(index);
     drop(kept);
 }
 

@@ -81,6 +81,7 @@ const TABLE_B: &[u8] = b"FXY,BUFR_Unit,BUFR_Scale,BUFR_ReferenceValue,BUFR_DataW
 004003,d,0,0,6
 004004,h,0,0,5
 004005,min,0,0,6
+007001,m,0,-400,15
 012101,K,2,0,16
 031000,Numeric,0,0,1
 031001,Numeric,0,0,8

@@ -47,10 +47,16 @@ returns-in-Ok-None-clause-row g c =
     ∙ rows_last (flagged a.asked.now) None c.fields.cells true (g.P.Picks.left c.fields.fields)
     (g.P.Picks.left c.pick-next.new.self) covers.0 handed
 
--- one field more was taken
-pub fields-preserved-in_ok-note_field-in-Ok-Some :
-    goal.fields-preserved-in_ok-note_field-in-Ok-Some
-fields-preserved-in_ok-note_field-in-Ok-Some g c =
+-- the cells have the same columns when more numbers are noted
+pub fill_numbers-requires-in-Ok-Some : goal.fill_numbers-requires-in-Ok-Some
+fill_numbers-requires-in-Ok-Some g c =
+    subst (IsSetOf c.args.asked.now None)
+    (sym (columns_kept c.fields.cells c.note_field.new.cells c.in-Ok-Some.field
+    c.in_ok-note_field-in-Ok-Some.ensures ∙ c.fields.invariant.columns)) c.requires
+
+-- one field more was taken, and the numbers after it
+pub fields-preserved-in_ok-due-in-Ok-Some : goal.fields-preserved-in_ok-due-in-Ok-Some
+fields-preserved-in_ok-due-in-Ok-Some g c =
     let a = c.args in
     let inv = c.fields.invariant in
     let field = c.in-Ok-Some.field in
@@ -60,17 +66,19 @@ fields-preserved-in_ok-note_field-in-Ok-Some g c =
     (g.P.Picks.left c.pick-next.new.self) c.in_default.ensures.others c.pick-next.ensures) in
     let covers = subst (IsSetOf a.asked.now None) (sym inv.columns) c.requires in
     let e = c.in_ok-note_field-in-Ok-Some.ensures in
+    let more = c.in_ok-due-in-Ok-Some.ensures in
     record {
       row = inv.row ∙ row_next (flagged a.asked.now) c.fields.cells c.note_field.new.cells field
-          (g.P.Picks.left c.fields.fields) (g.P.Picks.left c.pick-next.new.self) covers.0 handed e;
-      columns = columns_kept c.fields.cells c.note_field.new.cells field e ∙ inv.columns;
-      settled = settled_next c.first_unsettled-settled.result c.fields.cells c.note_field.new.cells
-          field e c.first_unsettled-settled.ensures;
+          (g.P.Picks.left c.fields.fields) (g.P.Picks.left c.pick-next.new.self) covers.0 handed e
+          ∙ more.row;
+      columns = more.columns ∙ columns_kept c.fields.cells c.note_field.new.cells field e ∙ inv.columns;
+      settled = more.settled c.first_unsettled-settled.result
+          (settled_next c.first_unsettled-settled.result c.fields.cells c.note_field.new.cells
+          field e c.first_unsettled-settled.ensures);
     }
 
-pub fields-preserved-in_ok-note_field-in-Ok-Some-2 :
-    goal.fields-preserved-in_ok-note_field-in-Ok-Some-2
-fields-preserved-in_ok-note_field-in-Ok-Some-2 g c =
+pub fields-preserved-in_ok-due-in-Ok-Some-2 : goal.fields-preserved-in_ok-due-in-Ok-Some-2
+fields-preserved-in_ok-due-in-Ok-Some-2 g c =
     let a = c.args in
     let inv = c.fields.invariant in
     let field = c.in-Ok-Some.field in
@@ -80,10 +88,13 @@ fields-preserved-in_ok-note_field-in-Ok-Some-2 g c =
     (g.P.Picks.left c.pick-next.new.self) c.in_default.ensures.others c.pick-next.ensures) in
     let covers = subst (IsSetOf a.asked.now None) (sym inv.columns) c.requires in
     let e = c.in_ok-note_field-in-Ok-Some.ensures in
+    let more = c.in_ok-due-in-Ok-Some.ensures in
     record {
       row = inv.row ∙ row_next (flagged a.asked.now) c.fields.cells c.note_field.new.cells field
-          (g.P.Picks.left c.fields.fields) (g.P.Picks.left c.pick-next.new.self) covers.0 handed e;
-      columns = columns_kept c.fields.cells c.note_field.new.cells field e ∙ inv.columns;
-      settled = settled_next c.first_unsettled-settled.result c.fields.cells c.note_field.new.cells
-          field e c.first_unsettled-settled.ensures;
+          (g.P.Picks.left c.fields.fields) (g.P.Picks.left c.pick-next.new.self) covers.0 handed e
+          ∙ more.row;
+      columns = more.columns ∙ columns_kept c.fields.cells c.note_field.new.cells field e ∙ inv.columns;
+      settled = more.settled c.first_unsettled-settled.result
+          (settled_next c.first_unsettled-settled.result c.fields.cells c.note_field.new.cells
+          field e c.first_unsettled-settled.ensures);
     }

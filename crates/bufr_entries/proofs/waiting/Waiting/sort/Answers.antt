@@ -2,7 +2,7 @@
 use Rattle.std.proofs.Common.{◌≡◌, ℕ, List, [], map, reverse, rules, subst}
 use Rattle.std.proofs.lemmas.Fn.{always_returns_same}
 use Rattle.std.proofs.lemmas.List.MinMax.{ranks_by, IsStrictWeakOrder-flip}
-use Rattle.std.proofs.lemmas.List.Sorted.{IsPermutation-sym, IsPermutation-map}
+use Rattle.std.proofs.lemmas.List.Sorted.{IsPermutation-sym, IsPermutation-trans, IsPermutation-map, length_permutation}
 use Rattle.std.specs.List.Sorted.{IsPermutation}
 use Rattle.std.specs.Ordering.{is_lt}
 use Rattle.bufr_entries.specs.Entries.{slot_cmp}
@@ -13,6 +13,13 @@ use Rattle.bufr_entries.specs.declared.waiting.WaitingEntry.{WaitingEntry}
 use Rattle.bufr_entries.proofs.AheadLemmas.{none-last}
 use Rattle.bufr_entries.proofs.PageLemmas.{Within-permutation, falls, parts-within, rising-sorted}
 use Rattle.bufr_entries.proofs.waiting.Waiting.sort.Goals as goal
+
+-- in the order of tickets first, and then in that of slots
+sorted_after : (es arranged after : List WaitingEntry) (before : List WaitingEntry)
+    → before ≡ es → IsPermutation before arranged → IsPermutation arranged after
+    → IsPermutation es after
+sorted_after es arranged after before same p q =
+    subst (λ xs. IsPermutation xs after) same (IsPermutation-trans before arranged after p q)
 
 moved : (os g : List ℕ) (before after : List WaitingEntry) → IsPermutation before after → g ≡ []
     → HaveParts os before → HaveParts os after × AreLast os after g
@@ -44,16 +51,24 @@ pub invariant_of-self-2 : goal.invariant_of-self-2
 invariant_of-self-2 c =
     moved c.self.inside.octets.items c.clear.new.self.items c.self.inside.entries.items
     c.sort_unstable_by.new.self.items
-    (subst (λ es. IsPermutation es c.sort_unstable_by.new.self.items) c.if-merge_runs.ensures.same
-    c.sort_unstable_by.ensures.permutation)
+    (sorted_after c.self.inside.entries.items c.follow_tickets.new.entries.items
+    c.sort_unstable_by.new.self.items c.merge_runs.new.entries.items c.if-merge_runs.ensures.same
+    c.follow_tickets.ensures.permutation c.sort_unstable_by.ensures.permutation)
     c.clear.ensures.items c.self.invariant.0
 
 pub returns-clause-permutation : goal.returns-clause-permutation
 returns-clause-permutation c =
     moved-view c.self.inside.octets.items c.self.inside.entries.items
     c.sort_unstable_by.new.self.items c.args.self.now
-    (subst (λ es. IsPermutation es c.sort_unstable_by.new.self.items) c.if-merge_runs.ensures.same
-    c.sort_unstable_by.ensures.permutation) c.self.view_is
+    (sorted_after c.self.inside.entries.items c.follow_tickets.new.entries.items
+    c.sort_unstable_by.new.self.items c.merge_runs.new.entries.items c.if-merge_runs.ensures.same
+    c.follow_tickets.ensures.permutation c.sort_unstable_by.ensures.permutation) c.self.view_is
+
+pub returns-clause-len : goal.returns-clause-len
+returns-clause-len c =
+    length_permutation c.args.self.now
+    (map (waits_in c.self.inside.octets.items) c.sort_unstable_by.new.self.items)
+    (returns-clause-permutation c)
 
 pub returns-clause-rising : goal.returns-clause-rising
 returns-clause-rising c =

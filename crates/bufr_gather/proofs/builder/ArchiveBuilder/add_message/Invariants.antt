@@ -7,4 +7,4 @@ use Rattle.bufr_gather.proofs.builder.ArchiveBuilder.add_message.Given as goal
 -- the reports before this one are added
 abbrev pub invariant-loop-index : goal.invariant-loop-index
 invariant-loop-index l =
-    l.self ≡ taken_in l.initial.self (take l.index (spelt_entries (reports_of l.reports.view.message)))
+    l.self ≡ taken_in l.initial.self (take l.index (spelt_entries (reports_of l.view.message)))
