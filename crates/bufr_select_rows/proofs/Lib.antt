@@ -14,4 +14,5 @@ mod PickedFacts
 mod PickFacts
 mod PairFacts
 mod SettledFacts
+mod ShortFacts
 mod ChosenFacts

@@ -6,6 +6,7 @@ pub mod Rows
 pub mod Asks
 pub mod Cells
 pub mod CellLaws
+pub mod ShortCells
 pub mod Samples
 pub mod ListedCells
 pub mod MessageRows

@@ -5,11 +5,13 @@ ghost use Rattle.bufr_fields.specs.Values.{as_field};
 ghost use Rattle.bufr_select_rows.specs.Cells.{begun, counted, fresh, is_settled, noted, opened};
 ghost use Rattle.bufr_select_rows.specs.Cells.{put_before, shown};
 ghost use Rattle.bufr_select_rows.specs.Rows.{origin};
+ghost use Rattle.bufr_select_rows.specs.ShortCells.{counted_short, noted_short};
 
 use crate::column::Column;
 use crate::origin::Origin;
 use crate::text::{Text, field_of};
 use bufr_base::OutOfMemory;
+use bufr_data::ShortNumber;
 use bufr_fields::{Field, NumberField};
 use std::alloc::Global;
 
@@ -116,6 +118,43 @@ impl Cell {
                 Ok(())
             }
         }
+    }
+
+    /// Notes a field with a short number in a span.
+    #[inline(always)]
+    pub(crate) fn note_short(&mut self, short: ShortNumber)
+        ensures { self.new ≡ noted_short short self.old }
+    {
+        let column = self.column;
+        match column {
+            Column::Told(_) => {}
+            Column::First(fxy) => self.count_short_if(short.fxy == fxy, short),
+            Column::Nth(fxy, _) => self.count_short_if(short.fxy == fxy, short),
+        }
+    }
+
+    /// Counts a field with a short number if `is`, and shows it if it is the one.
+    #[inline(always)]
+    fn count_short_if(&mut self, is: bool, short: ShortNumber)
+        ensures { self.new ≡ (if is then counted_short short self.old else self.old) }
+    {
+        if is {
+            self.count_short(short);
+        }
+    }
+
+    #[inline(always)]
+    fn count_short(&mut self, short: ShortNumber)
+        ensures { self.new ≡ counted_short short self.old }
+    {
+        if self.ahead == 0 {
+            return;
+        }
+        self.ahead -= 1;
+        if self.ahead > 0 {
+            return;
+        }
+        self.here.keep_short(short);
     }
 
     /// Counts a field with a number in a span if `is`, and shows it if it is the one.

@@ -1,10 +1,13 @@
 //! All cells of a row.
 
-ghost use Rattle.std.specs.Prelude.{◌≡◌, map, IfOk, OnOk};
+ghost use Rattle.std.specs.Prelude.{◌≡◌, map, true, IfOk, OnOk};
 ghost use Rattle.bufr_fields.specs.Values.{as_field};
+ghost use Rattle.bufr_fields.specs.declared.field.NumberField.{NumberField as ANumberField};
+ghost use Rattle.bufr_data.specs.Short.{HasShort};
 ghost use Rattle.bufr_select_rows.specs.Asks.{Finds};
 ghost use Rattle.bufr_select_rows.specs.Cells.{AreSettled, begun, fresh, noted, opened};
 ghost use Rattle.bufr_select_rows.specs.Rows.{origin};
+ghost use Rattle.bufr_select_rows.specs.ShortCells.{noted_short};
 
 use crate::asked::Asked;
 use crate::cell::Cell;
@@ -12,6 +15,7 @@ use crate::column::Column;
 use crate::origin::Origin;
 use crate::text::field_of;
 use bufr_base::OutOfMemory;
+use bufr_data::ShortNumber;
 use bufr_expand::Spec;
 use bufr_fields::{Field, NumberField};
 use std::alloc::Global;
@@ -76,6 +80,28 @@ pub fn note_number(
     match asked.cell_of(number.fxy) {
         Some(index) if index < cells.len() => cells[index].note_number(in_span, number),
         _ => note_in_all(cells, in_span, &field_of(number)),
+    }
+}
+
+/// Notes a field with a short number, in a span.
+#[inline(always)]
+pub fn note_short(cells: &mut [Cell], asked: &Asked, short: ShortNumber)
+    requires { Finds asked.now (map (λ c. c.column) cells.old) }
+    ensures { (f : ANumberField) → HasShort f short
+        → cells.new ≡ map (noted true (as_field f)) cells.old }
+{
+    match asked.cell_of(short.fxy) {
+        Some(index) if index < cells.len() => cells[index].note_short(short),
+        _ => note_short_in_all(cells, &short),
+    }
+}
+
+/// Notes a field with a short number in each cell.
+fn note_short_in_all(cells: &mut [Cell], short: &ShortNumber)
+    ensures { cells.new ≡ map (noted_short short.now) cells.old }
+{
+    for cell in cells.iter_mut() {
+        cell.note_short(*short);
     }
 }
 

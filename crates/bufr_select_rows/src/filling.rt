@@ -6,7 +6,7 @@ ghost use Rattle.bufr_select_rows.specs.Cells.{AreSettled, row_of, rows_left};
 
 use crate::asked::Asked;
 use crate::cell::Cell;
-use crate::cells::{first_unsettled, note_field, note_number};
+use crate::cells::{first_unsettled, note_field, note_number, note_short};
 use crate::picks::Picks;
 use bufr_base::OutOfMemory;
 use std::alloc::Global;
@@ -65,6 +65,10 @@ fn fill_numbers<P: Picks>(
     let mut due = most;
     'due: while due > 0 {
         due -= 1;
+        if let Some(short) = fields.pick_short() {
+            note_short(&mut *cells, asked, short);
+            continue 'due;
+        }
         match fields.pick_number(asked) {
             Some(number) => note_number(&mut *cells, asked, true, number)?,
             None => return Ok(due),

@@ -1,14 +1,15 @@
 //! Sources of the fields that are asked for.
 
-ghost use Rattle.std.specs.Prelude.{List, Some, IfOk, IfSome, IfNone};
+ghost use Rattle.std.specs.Prelude.{◌≡◌, List, Some, IfOk, IfSome, IfNone};
 ghost use Rattle.bufr_fields.specs.declared.field.Field.{Field as AField};
 ghost use Rattle.bufr_fields.specs.Values.{as_field};
 ghost use Rattle.bufr_data.specs.Handed.{HandsOutAsked, PassesUnasked};
+ghost use Rattle.bufr_data.specs.Short.{HandsOutShort};
 ghost use Rattle.bufr_select_rows.specs.Asks.{flagged};
 
 use crate::asked::Asked;
 use bufr_base::OutOfMemory;
-use bufr_data::{ChosenFields, LaidFields, NumberField};
+use bufr_data::{ChosenFields, LaidFields, NumberField, ShortNumber};
 use bufr_expand::Asks;
 use bufr_message::{Field, Fields};
 use std::alloc::Global;
@@ -17,6 +18,12 @@ use std::alloc::Global;
 pub(crate) trait Picks {
     /// The fields that are left.
     ghost left: { Self → List AField };
+
+    /// Hands out the next field if it has a short number. It may return `None` at any other field.
+    fn pick_short(&mut self) -> Option<ShortNumber>
+        ensures found { IfSome result (λ short. HandsOutShort (left self.old) short
+            (left self.new)) }
+        ensures others { IfNone result (left self.new ≡ left self.old) };
 
     /// Hands out the next field that is asked for if it is a number. Else returns `None`, for `pick` to take
     /// it.
@@ -36,6 +43,11 @@ impl<'v> Picks for Fields<'v> {
     ghost left = { λ f. f };
 
     #[inline(always)]
+    fn pick_short(&mut self) -> Option<ShortNumber> {
+        None
+    }
+
+    #[inline(always)]
     fn pick_number(&mut self, asked: &Asked) -> Option<NumberField> {
         self.next_asked_number(asked)
     }
@@ -48,6 +60,11 @@ impl<'v> Picks for Fields<'v> {
 
 impl<'v> Picks for ChosenFields<'v> {
     ghost left = { λ f. f };
+
+    #[inline(always)]
+    fn pick_short(&mut self) -> Option<ShortNumber> {
+        self.next_short()
+    }
 
     #[inline(always)]
     fn pick_number(&mut self, asked: &Asked) -> Option<NumberField> {
@@ -72,6 +89,11 @@ impl<'v> Picks for ChosenFields<'v> {
 
 impl<'v> Picks for LaidFields<'v> {
     ghost left = { λ f. f };
+
+    #[inline(always)]
+    fn pick_short(&mut self) -> Option<ShortNumber> {
+        None
+    }
 
     #[inline(always)]
     fn pick_number(&mut self, asked: &Asked) -> Option<NumberField> {

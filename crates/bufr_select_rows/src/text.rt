@@ -4,6 +4,7 @@ ghost use Rattle.std.specs.Prelude.{◌≡◌, ◌≤◌, ◌++◌, ◌+ℤ◌, 
 ghost use Rattle.csv.specs.Writing.{default_writer, field_text};
 ghost use Rattle.bufr_fields.specs.Values.{as_field, decimal_within, digits_by};
 ghost use Rattle.bufr_listing.specs.Listings.{number_word};
+ghost use Rattle.bufr_select_rows.specs.ShortCells.{short_text};
 ghost use Rattle.bufr_select_rows.specs.Texts.{sum_word, text_of};
 ghost use Rattle.bufr_select_rows.specs.Values.{shown_text, shown_value};
 ghost use Rattle.bufr_select_rows.specs.Values as values;
@@ -11,6 +12,7 @@ ghost use Rattle.bufr_select_rows.specs.Values as values;
 use crate::quotes::push_field;
 use crate::written::{write_count, write_number, write_octets};
 use bufr_base::OutOfMemory;
+use bufr_data::ShortNumber;
 use bufr_fields::{Decimal, Field, NumberField, Raw};
 use bufr_tables::Kind;
 use itoa::{Buffer, write_digits};
@@ -121,6 +123,17 @@ impl Text {
         ensures { self.new ≡ shown_value (as_field number) }
     {
         self.standing = standing_of(number);
+    }
+
+    /// Puts a short number in place of the text.
+    #[inline(always)]
+    pub(crate) fn keep_short(&mut self, short: ShortNumber)
+        ensures { self.new ≡ short_text short }
+    {
+        self.standing = match short.number {
+            Some(number) => Standing::Count(u64::from(number)),
+            None => Standing::Empty,
+        };
     }
 
     /// Puts the octets of a field's value in place of the text, for rows that show it again and again.
