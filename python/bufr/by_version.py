@@ -46,12 +46,15 @@ class Answering(Fed):
         self.text = memoryview(self.room)
         self.at = self.cut = self.end = 0
 
-    def ask(self, octets):
-        """Feeds a part and a mark. Returns the places at which they begin for the program."""
-        start, place = self.fed, self.fed + len(octets)
-        self.fed = place + len(MARK)
-        self.put(octets + MARK)
-        return start, place
+    def ask(self, octets, place):
+        """Feeds a part and a mark. Returns the places at which they begin for the program: for the part the place that it has in
+        its input, if few octets more do it."""
+        gap = place - self.fed
+        filler = bytes(gap) if 0 <= gap <= max(4 * len(octets), 1 << 16) else b""
+        start = self.fed + len(filler)
+        self.fed = start + len(octets) + len(MARK)
+        self.put(filler + octets + MARK)
+        return start, start + len(octets)
 
     def read(self):
         """Takes in what has come; all that came before is printed. Returns whether there may be more."""
@@ -88,7 +91,7 @@ class Asked:
         self.source, self.part, self.kind = source, part, kind
         octets, self.has_noise = part.octets()
         self.size = len(octets)
-        self.start, mark = source.ask(octets)
+        self.start, mark = source.ask(octets, part.start)
         self.ending = LINES[kind] % mark
         self.known = None
 
@@ -117,7 +120,10 @@ class Asked:
         return source.text[start:stop], 0, is_all
 
     def moved(self, text):
-        """A text with other places, and how many messages are refused in it."""
+        """A text with the places of the input, and how many messages are refused in it."""
+        if self.has_noise and self.start == self.part.start:
+            whole = bytes(text)
+            return text, whole.count(b" refused ") if self.kind == "check" else (b"\n" + whole).count(b"\n# refused ")
         if self.kind == "check":
             lines = bytes(text).split(b"\n")[:-1]
             ends = [line.index(b" ") for line in lines]

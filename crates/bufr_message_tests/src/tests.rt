@@ -13,7 +13,7 @@ mod shown;
 use std::fmt::Debug;
 use std::process::Abort;
 
-/// Stops the test if the two differ. Inline it would lengthen the proof.
+/// Inline it would lengthen the proof.
 fn same<T: PartialEq + Debug + Drop>(rt: &impl Abort, place: &str, found: T, wanted: T) {
     assert_eq!(rt; found, wanted, "at {place}");
 }

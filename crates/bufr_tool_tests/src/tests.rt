@@ -1,5 +1,4 @@
-//! What the engines and the commands return and write. Octets and texts are typed from the rules of
-//! the formats.
+//! What the engines and the commands return and write.
 
 mod collecting;
 mod commands;

@@ -7,7 +7,7 @@ mod writing;
 use std::fmt::Debug;
 use std::process::Abort;
 
-/// Stops the test if the two differ. Inline it would lengthen the proof.
+/// Inline it would lengthen the proof.
 fn same<T: PartialEq + Debug + Drop>(rt: &impl Abort, found: T, wanted: T) {
     assert_eq!(rt; found, wanted);
 }

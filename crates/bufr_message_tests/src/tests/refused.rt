@@ -60,6 +60,33 @@ fn subset_limit(rt: HostRuntime) {
     }
 }
 
+/// A message with one subset, without a field.
+const NO_FIELD: &str = "42554652 00002F 04 | S1 | 000009 00 0001 80 8100 | 000004 00 | END";
+
+/// An operator 255 times over, five times.
+const TOO_MANY_ITEMS: &[(u8, u8, u8)] = &[
+    (1, 5, 255),
+    (1, 4, 255),
+    (1, 3, 255),
+    (1, 2, 255),
+    (1, 1, 255),
+    (2, 1, 0),
+];
+
+/// The limit on items of what is written, plain and compressed.
+#[test]
+fn item_limit(rt: HostRuntime) {
+    let tables = tables(&rt, rt.alloc());
+    let all = octets(&rt, rt.alloc(), NO_FIELD);
+    let found = decode(rt.alloc(), &tables, all.as_slice());
+    let mut message = found.expect(&rt, "a message").message;
+    message.descriptors = list_of(&rt, rt.alloc(), TOO_MANY_ITEMS);
+    for compressed in [false, true] {
+        message.compressed = compressed;
+        assert_not_written(&rt, rt.alloc(), &message, "E3 TooLarge");
+    }
+}
+
 fn assert_refused(rt: &impl Abort, alloc: Global, tables: &Tables, all: &[u8], wanted: &str) {
     let failure = decode(alloc, tables, all).err().expect(rt, wanted);
     let found = format!(in alloc; "{failure}").expect(rt, "room");

@@ -58,7 +58,7 @@ fn digits_of(word: &str) -> &str {
     }
 }
 
-/// One plain subset of eight elements: 70 octets. `SEQUENCES` has the same in sequences, and others
+/// One plain subset of eight elements. `SEQUENCES` has the same in sequences, and others
 /// change one thing of it.
 pub(crate) const ELEMENTS_ONLY: &str = "\
 42554652 000046 04 | S1 | 000017 00 0001 80 0101 0102 0401 0402 0403 0404 0405 0C65 |
@@ -80,15 +80,15 @@ pub(crate) const EMPTY_SECTION_2: &str = "\
 42554652 000042 04 | 000016 00 0062 0000 00 80 00 02 00 25 00 07E8 01 0F 0C 00 00 |
 000004 00 | 00000F 00 0001 80 C101 C10B C10C 0C65 | 00000D 00 14C03F409EC01AACC0 | END";
 
-/// A delayed count of 0: 52 octets.
+/// A delayed count of 0.
 pub(crate) const DELAYED_COUNT_0: &str =
     "42554652 000034 04 | S1 | 00000D 00 0001 80 4100 1F01 0C65 | 000005 00 00 | END";
 
-/// A delayed count of 1: 54 octets.
+/// A delayed count of 1.
 pub(crate) const DELAYED_COUNT_1: &str =
     "42554652 000036 04 | S1 | 00000D 00 0001 80 4100 1F01 0C65 | 000007 00 016AB3 | END";
 
-/// Two plain subsets of counts 0 and 1: 55 octets.
+/// Two plain subsets of counts 0 and 1.
 pub(crate) const UNEQUAL_COUNTS: &str =
     "42554652 000037 04 | S1 | 00000D 00 0002 80 4100 1F01 0C65 | 000008 00 00016AB3 | END";
 
@@ -124,8 +124,7 @@ pub(crate) const TEXT_WIDTH_AND_ESCAPES: &str =
 pub(crate) const LOCAL_DESCRIPTOR: &str =
     "42554652 000033 04 | S1 | 00000B 00 0001 80 860C 01FA | 000006 00 0050 | END";
 
-/// `ELEMENTS_ONLY` with two octets for local use, a section 2, an odd octet and two octets after
-/// the data: 81 octets.
+/// `ELEMENTS_ONLY` with octets for local use, a section 2, an odd octet and two octets after the data.
 pub(crate) const LOCAL_OCTETS_AND_SLACK: &str = "\
 42554652 000051 04 | 000018 00 0062 0000 00 80 00 02 00 25 00 07E8 01 0F 0C 00 00 ABCD |
 000006 00 0102 | 000018 00 0001 80 0101 0102 0401 0402 0403 0404 0405 0C65 FF |
@@ -151,7 +150,7 @@ pub(crate) const DISTINCT_HEAD: &str = "\
 pub(crate) const CHARACTERS: &str =
     "42554652 00003B 04 | S1 | 00000B 00 0001 80 880A 010B | 00000E 00 1F2021227D7E7F5C0AFF | END";
 
-/// Two compressed subsets, the second with a missing temperature: 68 octets.
+/// Two compressed subsets, the second with a missing temperature.
 pub(crate) const COMPRESSED_PAIR: &str = "\
 42554652 000044 04 | S1 | 00000F 00 0002 C0 C101 C10B C10C 0C65
 | 000013 00 14030003F400201E03000006AB3050 | END";

@@ -118,7 +118,7 @@ fn said_4<'a>(head: &'a Head, section2: &'a Option<Items<u8>>, descriptors: &'a 
     }
 }
 
-/// Stops the test if the two differ. Inline it would lengthen the proof.
+/// Inline it would lengthen the proof.
 fn same<T: PartialEq + Debug + Drop>(rt: &impl Abort, found: T, wanted: T) {
     assert_eq!(rt; found, wanted);
 }

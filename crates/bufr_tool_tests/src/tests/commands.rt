@@ -70,7 +70,14 @@ const FILES: &[(&str, &[Part<'static>])] = &[
     ("unequal.txt", &[(UNEQUAL_LISTING, 2)]),
     ("second.txt", &[(LISTING, 1), (UNEQUAL_LISTING, 1)]),
     ("bad.txt", &[(UNEQUAL_LISTING, 1), (b"end\n", 1)]),
+    ("local", &[(LOCAL, 1)]),
+    ("local.txt", &[(LOCAL_LISTING, 1)]),
+    ("edition_3", &[(EDITION_3, 1)]),
+    ("edition_3.txt", &[(EDITION_3_LISTING, 1)]),
+    ("empty", &[]),
+    ("front", &[(FRONT, 1)]),
     ("stream", TWO_FRAMES),
+    ("updates", &[(SEQUENCES, 1), (LATER, 1)]),
     ("later", &[(LATER, 1)]),
     ("edition_5", &[(EDITION_5, 1)]),
     ("refused", &[(REFUSED, 1)]),
@@ -84,8 +91,8 @@ const LATER: &[u8] = b"BUFR\x00\x00\x3E\x04\
 \x00\x00\x0D\x00\x14\xC0\x3F\x40\x9E\xC0\x1A\xC2\x00\
 7777";
 
-/// A message whose numbers of section 1 all differ, with octets for local use and a section 2: 70
-/// octets. Its data are not observed.
+/// Numbers of section 1 that all differ, octets for local use and a section 2. Its data are not
+/// observed.
 const NUMBERS: &[u8] = b"BUFR\x00\x00\x46\x04\
 \x00\x00\x18\x00\x01\x02\x03\x04\x05\x80\x06\x07\x08\x09\x0A\x0B\x0C\x0D\x0E\x0F\x10\x11\x12\x13\
 \x00\x00\x06\x00\xAB\xCD\
@@ -117,6 +124,80 @@ const EDITION_5: &[u8] = b"BUFR\x00\x00\x3E\x05\
 \x00\x00\x0D\x00\x14\xC0\x3F\x40\x9E\xC0\x1A\xAC\xC0\
 7777";
 
+/// Octets for local use, a section 2, an odd octet, and slack.
+const LOCAL: &[u8] = b"BUFR\x00\x00\x51\x04\
+\x00\x00\x18\x00\x00\x62\x00\x00\x00\x80\x00\x02\x00\x25\x00\x07\xE8\x01\x0F\x0C\x00\x00\xAB\xCD\
+\x00\x00\x06\x00\x01\x02\
+\x00\x00\x18\x00\x00\x01\x80\x01\x01\x01\x02\x04\x01\x04\x02\x04\x03\x04\x04\x04\x05\x0C\x65\xFF\
+\x00\x00\x0F\x00\x14\xC0\x3F\x40\x9E\xC0\x1A\xAC\xC0\x00\x00\
+7777";
+
+const LOCAL_LISTING: &[u8] = b"message\n\
+section1 98 0 0 0 2 0 37 0\n\
+time 2024 1 15 12 0 0\n\
+local1 abcd\n\
+section2 0102\n\
+flags observed\n\
+descriptors 001001 001002 004001 004002 004003 004004 004005 012101\n\
+subset\n\
+001001 10\n\
+001002 384\n\
+004001 2024\n\
+004002 1\n\
+004003 15\n\
+004004 12\n\
+004005 0\n\
+012101 273.15\n\
+end\n";
+
+const LOCAL_WRITTEN: &[u8] = b"BUFR\x00\x00\x4E\x04\
+\x00\x00\x18\x00\x00\x62\x00\x00\x00\x80\x00\x02\x00\x25\x00\x07\xE8\x01\x0F\x0C\x00\x00\xAB\xCD\
+\x00\x00\x06\x00\x01\x02\
+\x00\x00\x17\x00\x00\x01\x80\x01\x01\x01\x02\x04\x01\x04\x02\x04\x03\x04\x04\x04\x05\x0C\x65\
+\x00\x00\x0D\x00\x14\xC0\x3F\x40\x9E\xC0\x1A\xAC\xC0\
+7777";
+
+/// An octet for local use and one of slack.
+const EDITION_3: &[u8] = b"BUFR\x00\x00\x3C\x03\
+\x00\x00\x12\x00\x00\x62\x00\x00\x00\x02\x0D\x00\x18\x01\x0F\x0C\x00\x00\
+\x00\x00\x10\x00\x00\x01\x80\xC1\x01\xC1\x0B\xC1\x0C\x0C\x65\x00\
+\x00\x00\x0E\x00\x14\xC0\x3F\x40\x9E\xC0\x1A\xAC\xC0\x00\
+7777";
+
+const EDITION_3_LISTING: &[u8] = b"message\n\
+section1 98 0 0 0 255 2 13 0\n\
+time 2024 1 15 12 0 0\n\
+local1 00\n\
+flags observed\n\
+descriptors 301001 301011 301012 012101\n\
+subset\n\
+001001 10\n\
+001002 384\n\
+004001 2024\n\
+004002 1\n\
+004003 15\n\
+004004 12\n\
+004005 0\n\
+012101 273.15\n\
+end\n";
+
+/// In edition 4.
+const EDITION_3_WRITTEN: &[u8] = b"BUFR\x00\x00\x3F\x04\
+\x00\x00\x17\x00\x00\x62\x00\x00\x00\x00\x00\xFF\x02\x0D\x00\x07\xE8\x01\x0F\x0C\x00\x00\x00\
+\x00\x00\x0F\x00\x00\x01\x80\xC1\x01\xC1\x0B\xC1\x0C\x0C\x65\
+\x00\x00\x0D\x00\x14\xC0\x3F\x40\x9E\xC0\x1A\xAC\xC0\
+7777";
+
+const SEQUENCES_COMPRESSED: &[u8] = b"BUFR\x00\x00\x44\x04\
+\x00\x00\x16\x00\x00\x62\x00\x00\x00\x00\x00\x02\x00\x25\x00\x07\xE8\x01\x0F\x0C\x00\x00\
+\x00\x00\x0F\x00\x00\x01\xC0\xC1\x01\xC1\x0B\xC1\x0C\x0C\x65\
+\x00\x00\x13\x00\x14\x03\x00\x03\xF4\x00\x20\x1E\x03\x00\x00\x06\xAB\x30\x00\
+7777";
+
+/// The first 30 octets of `SEQUENCES`.
+const FRONT: &[u8] = b"BUFR\x00\x00\x3E\x04\
+\x00\x00\x16\x00\x00\x62\x00\x00\x00\x00\x00\x02\x00\x25\x00\x07\xE8\x01\x0F\x0C\x00\x00";
+
 /// Two compressed subsets of counts 0 and 1.
 const UNEQUAL_LISTING: &[u8] = b"message\n\
 section1 98 0 0 0 2 0 37 0\n\
@@ -130,7 +211,7 @@ subset\n\
 012101 273.15\n\
 end\n";
 
-/// Messages of 62, 46, 48, 48, 48, 69, 52 and 48 octets that are refused: edition 5; section 3 of 8
+/// Messages that are refused: edition 5; section 3 of 8
 /// octets; descriptors 001250, 203012 and 222000; eight data octets for 66 bits; descriptors 101000
 /// 031011 012101, and 301250. Last comes `SEQUENCES` with a total of 63, which is no frame.
 const REFUSED: &[u8] = b"BUFR\x00\x00\x3E\x05\
@@ -193,8 +274,28 @@ frames 8 refused 8 skipped 62\n";
 const COMMANDS: &[(&str, u8, Told<'static>)] = &[
     ("show -b b -d d elements", 0, (LISTING, "")),
     ("encode -b b -d d elements.txt", 0, (ELEMENTS_ONLY, "")),
+    ("show -b b -d d local", 0, (LOCAL_LISTING, "")),
+    ("encode -b b -d d local.txt", 0, (LOCAL_WRITTEN, "")),
     ("show -b b -d d sequences", 0, (SEQUENCES_LISTING, "")),
     ("encode -b b -d d sequences.txt", 0, (SEQUENCES, "")),
+    (
+        "encode -b b -d d --compressed sequences.txt",
+        0,
+        (SEQUENCES_COMPRESSED, ""),
+    ),
+    ("encode -b b -d d empty", 0, (b"", "")),
+    (
+        "check -b b -d d edition_3",
+        0,
+        (b"0 60 ok 1 1\nframes 1 refused 0 skipped 0\n", ""),
+    ),
+    ("show -b b -d d edition_3", 0, (EDITION_3_LISTING, "")),
+    ("encode -b b -d d edition_3.txt", 0, (EDITION_3_WRITTEN, "")),
+    (
+        "check -b b -d d front",
+        0,
+        (b"frames 0 refused 0 skipped 30\n", ""),
+    ),
     (
         "show -b b -d d compressed",
         0,
@@ -233,6 +334,11 @@ const COMMANDS: &[(&str, u8, Told<'static>)] = &[
         "merge -b b -d d -o out sequences stream",
         2,
         (b"", "bufr: not an archive input 2 at 0\n"),
+    ),
+    (
+        "merge -b b -d d -o out edition_3",
+        2,
+        (b"", "bufr: not an archive input 1 at 0\n"),
     ),
     (
         "add -b b -d d -o out stream none",
@@ -321,6 +427,8 @@ fn assert_archives<R: Abort + Files + AllocGlobal>(rt: &R) {
     let added: Told<'_> = (b"frames 2 refused 0 reports 1\n", "");
     assert_ended(rt, rt.alloc(), "add -b b -d d -o out stream", 0, added);
     assert_holds(rt, "out", SEQUENCES);
+    assert_ended(rt, rt.alloc(), "add -b b -d d -o latest updates", 0, added);
+    assert_holds(rt, "latest", LATER);
     let refused: Told<'_> = (b"frames 2 refused 1 reports 1\n", "");
     let words = "add -b b -d d -o kept edition_5 later";
     assert_ended(rt, rt.alloc(), words, 1, refused);

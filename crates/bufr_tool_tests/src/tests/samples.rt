@@ -28,14 +28,14 @@ pub(super) const TABLE_D: &[u8] = b"FXY1,FXY2\n\
 301012,004004\n\
 301012,004005\n";
 
-/// One plain subset of eight elements: 70 octets.
+/// One plain subset of eight elements.
 pub(super) const ELEMENTS_ONLY: &[u8] = b"BUFR\x00\x00\x46\x04\
 \x00\x00\x16\x00\x00\x62\x00\x00\x00\x00\x00\x02\x00\x25\x00\x07\xE8\x01\x0F\x0C\x00\x00\
 \x00\x00\x17\x00\x00\x01\x80\x01\x01\x01\x02\x04\x01\x04\x02\x04\x03\x04\x04\x04\x05\x0C\x65\
 \x00\x00\x0D\x00\x14\xC0\x3F\x40\x9E\xC0\x1A\xAC\xC0\
 7777";
 
-/// Its listing: 236 octets.
+/// Its listing.
 pub(super) const LISTING: &[u8] = b"message\n\
 section1 98 0 0 0 2 0 37 0\n\
 time 2024 1 15 12 0 0\n\
@@ -52,7 +52,7 @@ subset\n\
 012101 273.15\n\
 end\n";
 
-/// One plain subset of a station, a time and a temperature: 62 octets.
+/// One plain subset of a station, a time and a temperature.
 pub(super) const SEQUENCES: &[u8] = b"BUFR\x00\x00\x3E\x04\
 \x00\x00\x16\x00\x00\x62\x00\x00\x00\x00\x00\x02\x00\x25\x00\x07\xE8\x01\x0F\x0C\x00\x00\
 \x00\x00\x0F\x00\x00\x01\x80\xC1\x01\xC1\x0B\xC1\x0C\x0C\x65\
@@ -75,7 +75,7 @@ subset\n\
 012101 273.15\n\
 end\n";
 
-/// Two compressed subsets, the second without its temperature: 68 octets.
+/// Two compressed subsets, the second without its temperature.
 pub(super) const COMPRESSED_PAIR: &[u8] = b"BUFR\x00\x00\x44\x04\
 \x00\x00\x16\x00\x00\x62\x00\x00\x00\x00\x00\x02\x00\x25\x00\x07\xE8\x01\x0F\x0C\x00\x00\
 \x00\x00\x0F\x00\x00\x02\xC0\xC1\x01\xC1\x0B\xC1\x0C\x0C\x65\
@@ -133,7 +133,7 @@ subset\n\
 012101 273.16\n\
 end\n";
 
-/// Its compressed message: 68 octets.
+/// Its compressed message.
 pub(super) const PAIR_COMPRESSED: &[u8] = b"BUFR\x00\x00\x44\x04\
 \x00\x00\x16\x00\x00\x62\x00\x00\x00\x00\x00\x02\x00\x25\x00\x07\xE8\x01\x0F\x0C\x00\x00\
 \x00\x00\x0F\x00\x00\x02\xC0\xC1\x01\xC1\x0B\xC1\x0C\x0C\x65\
@@ -152,7 +152,7 @@ BUFR\x00\x00\x3E\x04\
 \x00\x00\x0D\x00\x14\xC0\x3F\x46\x9E\xC0\x1A\xAC\xC0\
 7777";
 
-/// Sixty characters that no listing has as themselves: 107 octets.
+/// Sixty characters that no listing has as themselves.
 pub(super) const TEXT: &[u8] = b"BUFR\x00\x00\x6B\x04\
 \x00\x00\x16\x00\x00\x62\x00\x00\x00\x00\x00\x02\x00\x25\x00\x07\xE8\x01\x0F\x0C\x00\x00\
 \x00\x00\x09\x00\x00\x01\x80\x85\x3C\
@@ -174,7 +174,7 @@ subset\n\
 \\e9\\e9\\e9\\e9\\e9\\e9\\e9\\e9\\e9\\e9\\e9\\e9\\e9\\e9\\e9\\e9\\e9\\e9\\e9\\e9\"\n\
 end\n";
 
-/// Four thousand compressed subsets of one element, all alike: 49 octets.
+/// Four thousand compressed subsets of one element, all alike.
 pub(super) const MANY_SUBSETS: &[u8] = b"BUFR\x00\x00\x31\x04\
 \x00\x00\x16\x00\x00\x62\x00\x00\x00\x00\x00\x02\x00\x25\x00\x07\xE8\x01\x0F\x0C\x00\x00\
 \x00\x00\x09\x00\x0F\xA0\xC0\x01\x01\

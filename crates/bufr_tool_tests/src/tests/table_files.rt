@@ -53,6 +53,8 @@ const D_FAILED: Option<ToolFault> = Some(ToolFault::ReadFailed(Input::TableD));
 
 const B_ENDLESS: Option<ToolFault> = Some(ToolFault::EndlessInput(Input::TableB));
 
+const D_ENDLESS: Option<ToolFault> = Some(ToolFault::EndlessInput(Input::TableD));
+
 /// Ten thousand reads of five octets.
 const MANY: (u32, usize) = (10_000, 5);
 
@@ -64,7 +66,7 @@ fn faults_of_tables(rt: HostRuntime) {
     for (b, d, wanted) in LOADED {
         let _ = assert_loaded(&rt, alloc, MANY, (b, false), (d, false), wanted);
     }
-    for length in 0..TABLE_B.len() {
+    for length in 0..=TABLE_B.len() {
         let front = TABLE_B.get(..length).expect(&rt, "a front");
         for d_breaks in [false, true] {
             let _ = assert_loaded(
@@ -77,14 +79,14 @@ fn faults_of_tables(rt: HostRuntime) {
             );
         }
     }
-    for length in 0..TABLE_D.len() {
+    for length in 0..=TABLE_D.len() {
         let front = TABLE_D.get(..length).expect(&rt, "a front");
         let _ = assert_loaded(&rt, alloc, MANY, (TABLE_B, false), (front, true), D_FAILED);
     }
 }
 
-/// The first endless table is the fault after exactly the reads allowed, and the engine does not
-/// read the other.
+/// The first endless table is the fault after exactly the reads allowed. If that is Table B, the engine
+/// does not read Table D.
 #[test]
 fn endless_tables(rt: HostRuntime) {
     let lines = [b'\n'; 2000];
@@ -94,4 +96,15 @@ fn endless_tables(rt: HostRuntime) {
         let [(b_reads, _), (d_reads, _)] = found;
         same(&rt, (b_reads, d_reads), (u64::from(reads), 0));
     }
+    // one read takes all of Table B, and the next one its end
+    let found = assert_loaded(
+        &rt,
+        rt.alloc(),
+        (2, 1000),
+        (TABLE_B, false),
+        lines,
+        D_ENDLESS,
+    );
+    let [(b_reads, _), (d_reads, _)] = found;
+    same(&rt, (b_reads, d_reads), (2, 2));
 }
