@@ -57,7 +57,7 @@ const UPDATED: [u8; 62] = [
     0x00, 0x14, 0xC0, 0x3F, 0x40, 0x9E, 0xC0, 0x1A, 0xC2, 0x00, 0x37, 0x37, 0x37, 0x37,
 ];
 
-/// The first message in two pieces: 30 octets and 32.
+/// The first message in two pieces.
 const FRONT: &[u8] = b"BUFR\x00\x00\x3E\x04\
 \x00\x00\x16\x00\x00\x62\x00\x00\x00\x00\x00\x02\x00\x25\x00\x07\xE8\x01\x0F\x0C\x00\x00";
 
@@ -188,6 +188,7 @@ fn answer_of(told: &Told) -> Result<Answer, StepFault> {
 fn does<S: Shelf>(rt: &impl Abort, alloc: Global, depot: &mut Depot<S>, done: &Done, told: &Told) {
     let step = step_of(rt, alloc, done);
     same(rt, depot.step(&step), answer_of(told));
+    drop(step);
 }
 
 fn assert_writes<S: Shelf>(
@@ -231,6 +232,7 @@ fn one_by_one<S: Shelf>(
         does(rt, alloc, &mut depot, done, told);
         assert_all_write(rt, alloc, &depot, *written);
     }
+    drop(depot);
 }
 
 /// The first message in two pieces, a transfer to the other slot, and the update in both slots.
@@ -333,6 +335,9 @@ fn at_once<S: Shelf>(rt: &impl Abort, alloc: Global, tables: &Tables, slots: usi
     if let Some((_, _, written)) = rows.last() {
         assert_all_write(rt, alloc, &depot, *written);
     }
+    drop(answers);
+    drop(steps);
+    drop(depot);
 }
 
 /// Runs the steps of rows over both shelves, one by one and in one run.
@@ -350,4 +355,5 @@ fn steps(rt: HostRuntime) {
     for (slots, rows) in DEPOTS {
         run_rows(&rt, rt.alloc(), &tables, *slots, *rows);
     }
+    drop(tables);
 }

@@ -8,6 +8,7 @@ ghost use Rattle.bufr_data.specs.Plain.{fields_at, raw_at};
 ghost use Rattle.bufr_data.specs.Samples.{sample_course, raws, sample_raws, sample_texts};
 ghost use Rattle.bufr_fields.specs.Samples.{spec_of, number_kinds};
 
+use crate::kept_templates::MOST_KEPT;
 use bufr_fields::{DataFault, Raw};
 use bufr_tables::Kind;
 
@@ -55,4 +56,9 @@ pub fn raw_values_by_kind()
         ∷ Some (Raw.Text (65 ∷ 66 ∷ []), []) ∷ None ∷ [] }
     ensures most_bits { map (λ width. is_some (raw_at (spec_of Kind.Quantity width)
         (replicate 70 false))) (63 ∷ 64 ∷ 65 ∷ []) ≡ true ∷ true ∷ false ∷ [] }
+{}
+
+/// The most templates kept.
+pub fn most_kept()
+    ensures { MOST_KEPT ≡ 4 }
 {}

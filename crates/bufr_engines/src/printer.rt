@@ -22,7 +22,7 @@ use bufr_base::{Failure, OutOfMemory};
 use bufr_bits::Sink;
 use bufr_io::{ToolFault, write_after};
 use bufr_listing::laws::{listings_are_joined_parts, subsets_are_joined_lines};
-use bufr_listing::{end_text, push_heading, push_subset_line};
+use bufr_listing::{KeptHeading, end_text, push_subset_line};
 use bufr_message::laws::subsets_are_small;
 use bufr_message::{Fields, MessageReader, Refused, View};
 use bufr_tables::Tables;
@@ -48,8 +48,8 @@ pub(crate) struct Printer<'t> {
     pub(crate) written: u128,
     /// The lines that it did not write yet.
     pub(crate) held: Vec<u8>,
-    /// Room for the lines of a message before its first subset.
-    pub(crate) heading: Vec<u8>,
+    /// The lines of the last message before its first subset.
+    pub(crate) heading: KeptHeading,
 }
 
 impl<'t> Printer<'t> {
@@ -70,7 +70,7 @@ impl<'t> Printer<'t> {
             octets: 0,
             written: 0,
             held: Vec::new(alloc),
-            heading: Vec::new(alloc),
+            heading: KeptHeading::new(alloc),
         }
     }
 
@@ -152,9 +152,8 @@ impl<'t> Printer<'t> {
     {
         listings_are_joined_parts();
         subsets_are_joined_lines();
-        self.heading.clear();
-        push_heading(alloc, &mut self.heading, &found.sections())?;
-        self.held.extend_from_slice(&self.heading)?;
+        self.heading.set(alloc, &found.sections())?;
+        self.held.extend_from_slice(self.heading.as_slice())?;
         self.write_long(writer)?;
         for index in 0..found.count() {
             let fields = found.fields(alloc, index)?;

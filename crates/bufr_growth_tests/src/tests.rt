@@ -6,6 +6,7 @@
 mod data;
 mod fields;
 mod frames;
+mod headings;
 mod messages;
 mod refusals;
 mod samples;

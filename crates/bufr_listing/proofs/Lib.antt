@@ -5,3 +5,4 @@ pub mod FrontFacts
 pub mod RowFacts
 pub mod QuoteFacts
 pub mod DecimalFacts
+pub mod KeptHeadingFacts

@@ -3,3 +3,4 @@ pub mod OctetLines
 pub mod Laws
 pub mod Reasons
 pub mod DecimalLaws
+pub mod KeptHeadings

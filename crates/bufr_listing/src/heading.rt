@@ -5,7 +5,8 @@ ghost use Rattle.bufr_fields.specs.declared.field.Subset.{Subset};
 ghost use Rattle.bufr_sections.specs.SectionsRead.{message_lent};
 ghost use Rattle.bufr_listing.specs.OctetLines.{octets_text};
 ghost use Rattle.bufr_listing.specs.Listings.{words, line, joined, numbers_line};
-ghost use Rattle.bufr_listing.specs.Listings.{section1_line, time_line, flags_line};
+ghost use Rattle.bufr_listing.specs.Listings.{section1_line, section1_numbers, time_line};
+ghost use Rattle.bufr_listing.specs.Listings.{time_numbers, flags_line};
 ghost use Rattle.bufr_listing.specs.Listings.{descriptors_line, heading_lines};
 
 use bufr_base::{Items, OutOfMemory};
@@ -48,7 +49,15 @@ fn push_section1(text: &mut Vec<u8>, head: &Head) -> Result<(), OutOfMemory>
     ensures { OnOk result (text.new.items
         ≡ text.old.items ++ line (section1_line head.now) ++ line (time_line head.now)) }
 {
-    let numbers = [
+    push_numbers(text, b"section1", &section1_numbers(head))?;
+    push_numbers(text, b"time", &time_numbers(head))
+}
+
+/// Returns the numbers of section 1 before the time.
+pub(crate) fn section1_numbers(head: &Head) -> [u16; 8]
+    ensures { result ≡ section1_numbers head.now }
+{
+    [
         head.centre,
         head.sub_centre,
         u16::from(head.update),
@@ -57,17 +66,21 @@ fn push_section1(text: &mut Vec<u8>, head: &Head) -> Result<(), OutOfMemory>
         u16::from(head.local_category),
         u16::from(head.master_version),
         u16::from(head.local_version),
-    ];
-    let time = [
+    ]
+}
+
+/// Returns the numbers of the time.
+pub(crate) fn time_numbers(head: &Head) -> [u16; 6]
+    ensures { result ≡ time_numbers head.now }
+{
+    [
         head.year,
         u16::from(head.month),
         u16::from(head.day),
         u16::from(head.hour),
         u16::from(head.minute),
         u16::from(head.second),
-    ];
-    push_numbers(text, b"section1", &numbers)?;
-    push_numbers(text, b"time", &time)
+    ]
 }
 
 /// Adds a line of at most eight numbers. Fills a row from its end, and adds it at once.

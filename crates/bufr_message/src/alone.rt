@@ -1,6 +1,8 @@
 //! Subsets that fit a message of their own.
 
-ghost use Rattle.std.specs.Prelude.{◌≡◌, ◌<◌, ◌*◌, ◌^◌, ℕ, Bool, List, length, nat_le, IfOk};
+ghost use Rattle.std.specs.Prelude.{◌≡◌, ◌<◌, ◌^◌, Bool, List, true, length, nat_le, is_some};
+ghost use Rattle.std.specs.Prelude.{IfOk, IfSome};
+ghost use Rattle.bufr_fields.specs.declared.field.Subset.{Subset as ASubset};
 ghost use Rattle.bufr_data.specs.Plain.{field_bits};
 ghost use Rattle.bufr_sections.specs.Spelt.{longest};
 ghost use Rattle.bufr_message.specs.Messages.{octets_alone, can_be_alone};
@@ -13,22 +15,43 @@ use bufr_sections::LONGEST;
 use bufr_tables::Fxy;
 use std::alloc::Global;
 
-/// Whether each subset fits a message of its own. Builds the subsets only if `there`, the number of
-/// their bits, is large.
-pub(crate) fn can_be_alone(
-    alloc: Global,
-    descriptors: &[Fxy],
-    there: u128,
-    subsets: &SubsetIndex<'_>,
-) -> Result<bool, OutOfMemory>
-    requires { (octets : List ℕ) × (compressed : Bool)
-        × AreReadFrom octets compressed subsets.now × (there ≡ 8 * length octets) }
-    ensures { IfOk result (λ b. b ≡ can_be_alone descriptors.now subsets.now) }
+/// Whether even a message with all these octets of data would be short enough.
+#[inline(always)]
+pub(crate) fn are_few(descriptors: &[Fxy], contents: &[u8]) -> bool
+    ensures { (compressed : Bool) (subsets : List ASubset)
+        → AreReadFrom contents.now compressed subsets → result ≡ true
+        → can_be_alone descriptors.now subsets ≡ true }
 {
     data_hold_subsets();
-    if 45 + 2 * descriptors.len() as u128 + there / 8 <= LONGEST {
-        return Ok(true);
+    45 + 2 * descriptors.len() as u128 + contents.len() as u128 <= LONGEST
+}
+
+/// Returns the index if each subset fits a message of its own.
+// By value: an index that is lent would be kept in memory on every path of the caller.
+#[inline(never)]
+pub(crate) fn if_each_alone<'a>(
+    alloc: Global,
+    descriptors: &[Fxy],
+    subsets: SubsetIndex<'a>,
+) -> Result<Option<SubsetIndex<'a>>, OutOfMemory>
+    ensures some { IfOk result (λ found. IfSome found (λ s. s ≡ subsets.entry)) }
+    ensures is { IfOk result (λ found.
+        is_some found ≡ can_be_alone descriptors.now subsets.entry) }
+{
+    if !can_be_alone(alloc, descriptors, &subsets)? {
+        return Ok(None);
     }
+    Ok(Some(subsets))
+}
+
+/// Whether each subset fits a message of its own. Builds each.
+fn can_be_alone(
+    alloc: Global,
+    descriptors: &[Fxy],
+    subsets: &SubsetIndex<'_>,
+) -> Result<bool, OutOfMemory>
+    ensures { IfOk result (λ b. b ≡ can_be_alone descriptors.now subsets.now) }
+{
     for index in 0..subsets.count() {
         let subset = subsets.subset(alloc, index)?;
         if !is_short(descriptors, &subset) {

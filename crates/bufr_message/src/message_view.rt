@@ -19,7 +19,7 @@ ghost use Rattle.bufr_message.specs.OwnBits.{HaveRoom, spelt_alone, AddsOwn};
 ghost use Rattle.bufr_message.specs.Reports.{reports_of, IsUnder};
 ghost use Rattle.bufr_message.specs.Views.{AreReadFrom};
 
-use crate::alone::can_be_alone;
+use crate::alone::{are_few, if_each_alone};
 use crate::judged::Judged;
 use crate::kept::bring_to_front;
 use crate::laws::{reports_have_canonical_messages, sections_are_spelt};
@@ -376,11 +376,14 @@ fn subsets_of<'a>(
     ensures same { kept.new ≡ kept.old }
 {
     let (subsets, slack_octets) = index_of(alloc, asked, &mut kept.template, sections)?;
-    let there = 8 * sections.contents.len() as u128;
-    if !can_be_alone(alloc, kept.descriptors.as_slice(), there, &subsets)? {
-        return Err(Failure::Fault(Refused::Data(DataFault::TooLarge)));
+    let descriptors = kept.descriptors.as_slice();
+    if are_few(descriptors, sections.contents) {
+        return Ok((subsets, slack_octets));
     }
-    Ok((subsets, slack_octets))
+    match if_each_alone(alloc, descriptors, subsets)? {
+        Some(subsets) => Ok((subsets, slack_octets)),
+        None => Err(Failure::Fault(Refused::Data(DataFault::TooLarge))),
+    }
 }
 
 #[inline(always)]

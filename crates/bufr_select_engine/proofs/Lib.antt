@@ -4,3 +4,6 @@ mod ToldFacts
 mod SelectorFacts
 mod SelectedFacts
 mod EngineFacts
+mod PlainLines
+mod ListedFacts
+mod DescriptorFacts

@@ -4,3 +4,4 @@ pub mod Tells
 pub mod Selectors
 pub mod CommandLines
 pub mod FrameSamples
+pub mod Listed

@@ -4,6 +4,7 @@
 mod command;
 mod command_line;
 mod frames;
+pub mod laws;
 mod line_faults;
 mod outputs;
 mod select;

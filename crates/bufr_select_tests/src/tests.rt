@@ -127,6 +127,7 @@ fn assert_run(
     same(rt, answer, wanted, run.place);
     same(rt, out.rows.taken.as_slice(), rows, run.place);
     same(rt, out.refusals.taken.as_slice(), refusals, run.place);
+    drop(columns);
 }
 
 fn joined(rt: &impl Abort, alloc: Global, texts: &[&[u8]]) -> Vec<u8> {
@@ -238,6 +239,7 @@ fn rows_in_any_pieces(rt: HostRuntime) {
             assert_row(&rt, alloc, &tables, most, row);
         }
     }
+    drop(tables);
 }
 
 /// The rows and the refusals of the frames that count.
@@ -280,6 +282,7 @@ fn refusals_to_the_other_writer(rt: HostRuntime) {
     for heard in 0..=HEARD_LINES.len() + 1 {
         assert_heard(&rt, alloc, &tables, &first, &second, heard);
     }
+    drop(tables);
 }
 
 /// Adds the pair of tables that reads the versions up to this one.
@@ -325,6 +328,8 @@ fn pairs_of_versions(rt: HostRuntime) {
     let new = tables_of(&rt, alloc, TABLE_B);
     assert_two_pairs(&rt, alloc, &old, &new);
     assert_old_pair(&rt, alloc, &old);
+    drop(new);
+    drop(old);
 }
 
 /// The rows and the refusal of the frames up to the end of both inputs.
@@ -392,6 +397,7 @@ fn reads_that_fail(rt: HostRuntime) {
         assert_broken(&rt, alloc, &tables, &second[..given]);
     }
     assert_each_endless(&rt, alloc, &tables, &second);
+    drop(tables);
 }
 
 /// The rows and the refusal of both inputs.
@@ -424,6 +430,7 @@ fn writes_that_fail(rt: HostRuntime) {
     for room in 0..=WRITTEN_ROWS.len() {
         assert_written(&rt, alloc, &tables, &first, &WRITTEN_ROWS[..room]);
     }
+    drop(tables);
 }
 
 /// The columns of the rows of two thousand messages.
@@ -477,4 +484,5 @@ fn thousands_of_messages(rt: HostRuntime) {
     for most in [1000, 65_536] {
         assert_thousands(&rt, alloc, &tables, &stream, most, &rows);
     }
+    drop(tables);
 }

@@ -44,6 +44,7 @@ fn adds<S: Shelf>(rt: &impl Abort, alloc: Global, tables: &Tables) {
         assert_holds(rt, alloc, &archive, first(rt, BOTH, held));
     }
     same(rt, held, 2);
+    drop(archive);
 }
 
 #[test]
@@ -51,6 +52,7 @@ fn refused_growth_while_adding(rt: HostRuntime) {
     let tables = tables(&rt, rt.alloc());
     adds::<MapShelf>(&rt, rt.alloc(), &tables);
     adds::<SortedShelf>(&rt, rt.alloc(), &tables);
+    drop(tables);
 }
 
 fn archive_of<'t, S: Shelf>(
@@ -75,6 +77,7 @@ fn merged<'t, S: Shelf>(rt: &impl Abort, alloc: Global, tables: &'t Tables) -> A
         assert_holds(rt, alloc, &archive, OWN)
     );
     assert_holds(rt, alloc, &other, OTHERS);
+    drop(other);
     archive
 }
 
@@ -84,6 +87,8 @@ fn merges<S: Shelf>(rt: &impl Abort, alloc: Global, tables: &Tables) {
     let copied = repeated!(rt, archive.copy());
     assert_holds(rt, alloc, &copied, ALL);
     assert_holds(rt, alloc, &archive, ALL);
+    drop(copied);
+    drop(archive);
 }
 
 #[test]
@@ -91,4 +96,5 @@ fn refused_growth_while_merging(rt: HostRuntime) {
     let tables = tables(&rt, rt.alloc());
     merges::<MapShelf>(&rt, rt.alloc(), &tables);
     merges::<SortedShelf>(&rt, rt.alloc(), &tables);
+    drop(tables);
 }

@@ -148,6 +148,7 @@ fn does<S: Shelf>(rt: &impl Abort, alloc: Global, depot: &mut Depot<S>, row: &Ro
     }
     same(rt, answer, Ok(answer_of(done, *messages, *new, before)));
     assert_slot(rt, alloc, depot, *slot, *after);
+    drop(step);
 }
 
 fn depot_of<'t, S: Shelf>(
@@ -164,6 +165,7 @@ fn steps<S: Shelf>(rt: &impl Abort, alloc: Global, tables: &Tables) {
         let mut depot: Depot<S> = depot_of(rt, alloc, tables, *slots);
         do_all(rt, alloc, &mut depot, *rows);
         assert_slot(rt, alloc, &depot, 0, *held);
+        drop(depot);
     }
 }
 
@@ -178,6 +180,7 @@ fn refused_growth_in_a_depot(rt: HostRuntime) {
     let tables = tables(&rt, rt.alloc());
     steps::<MapShelf>(&rt, rt.alloc(), &tables);
     steps::<SortedShelf>(&rt, rt.alloc(), &tables);
+    drop(tables);
 }
 
 /// The number of reports that a step brought, by its answer.
@@ -208,7 +211,9 @@ fn assert_told<S: Shelf>(
 /// Runs steps; a refused run does none. Returns whether each was done.
 fn run<S: Shelf>(rt: &impl Abort, alloc: Global, depot: &mut Depot<S>, steps: &[Step]) -> bool {
     let answers = repeated!(rt, depot.run(steps), assert_slot(rt, alloc, depot, 0, &[]));
-    assert_told(rt, alloc, depot, &answers)
+    let told = assert_told(rt, alloc, depot, &answers);
+    drop(answers);
+    told
 }
 
 fn runs<S: Shelf>(rt: &impl Abort, alloc: Global, tables: &Tables, steps: &[Step]) {
@@ -216,6 +221,7 @@ fn runs<S: Shelf>(rt: &impl Abort, alloc: Global, tables: &Tables, steps: &[Step
     if !run(rt, alloc, &mut depot, steps) {
         assert!(rt; run(rt, alloc, &mut depot, steps));
     }
+    drop(depot);
 }
 
 fn steps_of(rt: &impl Abort, alloc: Global) -> [Step; 3] {
@@ -232,6 +238,8 @@ fn depots_run(rt: HostRuntime) {
     let steps = steps_of(&rt, rt.alloc());
     runs::<MapShelf>(&rt, rt.alloc(), &tables, &steps);
     runs::<SortedShelf>(&rt, rt.alloc(), &tables, &steps);
+    drop(steps);
+    drop(tables);
 }
 
 /// Runs two plans, on both shelves. Returns whether no step was refused.
@@ -239,6 +247,8 @@ fn run_plans(rt: &impl Abort, alloc: Global, plan: &Plan<'_, '_>, other: &Plan<'
     let (one, two): (Ran<MapShelf>, Ran<SortedShelf>) = repeated!(rt, run_both(alloc, plan, other));
     let first = assert_told(rt, alloc, &one.depot, &one.answers);
     let second = assert_told(rt, alloc, &two.depot, &two.answers);
+    drop(two);
+    drop(one);
     first && second
 }
 
@@ -259,4 +269,6 @@ fn both_plans_run(rt: HostRuntime) {
     let tables = tables(&rt, rt.alloc());
     let steps = steps_of(&rt, rt.alloc());
     plans_run(&rt, rt.alloc(), &tables, &steps);
+    drop(steps);
+    drop(tables);
 }

@@ -50,6 +50,7 @@ fn refused_growth_while_gathering(rt: HostRuntime) {
     if !gathers(&rt, rt.alloc(), &tables) {
         assert!(rt; gathers(&rt, rt.alloc(), &tables));
     }
+    drop(tables);
 }
 
 fn copied(rt: &impl Abort, alloc: Global, octets: &[u8]) -> Items<u8> {

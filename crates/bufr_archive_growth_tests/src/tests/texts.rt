@@ -47,12 +47,15 @@ fn hands_out<'t>(rt: &impl Abort, alloc: Global, own: &ArchiveText<'t>, other: &
         assert_next(rt, &mut left, *wanted);
     }
     assert_end(rt, &mut left);
+    drop(left);
 }
 
 fn hands_out_both(rt: &impl Abort, alloc: Global, tables: &Tables) {
     let own = text_of(rt, alloc, tables, OWN);
     let other = text_of(rt, alloc, tables, OTHERS);
     hands_out(rt, alloc, &own, &other);
+    drop(other);
+    drop(own);
 }
 
 /// Merges a text into another, which stays after a refusal; the text that it takes in is gone.
@@ -79,6 +82,7 @@ fn texts_merged(rt: HostRuntime) {
     let tables = tables(&rt, rt.alloc());
     hands_out_both(&rt, rt.alloc(), &tables);
     merges(&rt, rt.alloc(), &tables);
+    drop(tables);
 }
 
 /// The key of the message of a WIGOS identifier.
@@ -129,4 +133,6 @@ fn keys_and_entries(rt: HostRuntime) {
     let found = reports_of(&rt, rt.alloc(), &tables);
     let report = found.as_slice().get(0).expect(&rt, "a report");
     assert_entry(&rt, rt.alloc(), &tables, report);
+    drop(found);
+    drop(tables);
 }

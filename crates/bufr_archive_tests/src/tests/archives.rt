@@ -67,6 +67,7 @@ fn write_each_front<S: Shelf>(rt: &impl Abort, alloc: Global, tables: &Tables, t
     for left in 0..127usize {
         write_some(rt, alloc, &archive, text, left);
     }
+    drop(archive);
 }
 
 /// Two reports, one without a key.
@@ -78,6 +79,7 @@ fn failing_writer(rt: HostRuntime) {
     same(&rt, text.len(), 124);
     write_each_front::<MapShelf>(&rt, rt.alloc(), &tables, &text);
     write_each_front::<SortedShelf>(&rt, rt.alloc(), &tables, &text);
+    drop(tables);
 }
 
 fn held<'t>(rt: &impl Abort, alloc: Global, tables: &'t Tables, text: &[u8]) -> ArchiveText<'t>
@@ -95,6 +97,7 @@ fn texts_merged(rt: HostRuntime) {
     text.merge(rt.alloc(), other).expect(&rt, "room");
     same(&rt, text.len(), 1);
     same(&rt, text.into_octets().as_slice(), UPDATED.as_slice());
+    drop(tables);
 }
 
 /// The key of the first message, at a station of block 10.
@@ -149,6 +152,7 @@ fn assert_entry(rt: &impl Abort, alloc: Global, tables: &Tables, message: &[u8],
     same(rt, entry.key, Some(first_key(384)));
     same(rt, entry.update, update);
     same(rt, entry.bytes.as_slice(), message);
+    drop(found);
 }
 
 /// The second message has more than 65,536 octets.
@@ -159,4 +163,5 @@ fn entries(rt: HostRuntime) {
     let all = octets_of_fields(&rt, rt.alloc());
     same(&rt, all.len(), 76_566);
     assert_entry(&rt, rt.alloc(), &tables, &all, 0);
+    drop(tables);
 }

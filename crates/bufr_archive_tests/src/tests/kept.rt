@@ -24,42 +24,42 @@ const MISSING_TEMPERATURE: &[u8] = b"BUFR\x00\x00\x3E\x04\
 \x00\x00\x0D\x00\x14\xC0\x3F\x40\x9E\xC0\x3F\xFF\xC0\
 7777";
 
-/// The reports of the first message and of that with a missing temperature, compressed: 68 octets.
+/// The reports of the first message and of that with a missing temperature, compressed.
 const COMPRESSED_PAIR: &[u8] = b"BUFR\x00\x00\x44\x04\
 \x00\x00\x16\x00\x00\x62\x00\x00\x00\x00\x00\x02\x00\x25\x00\x07\xE8\x01\x0F\x0C\x00\x00\
 \x00\x00\x0F\x00\x00\x02\xC0\xC1\x01\xC1\x0B\xC1\x0C\x0C\x65\
 \x00\x00\x13\x00\x14\x03\x00\x03\xF4\x00\x20\x1E\x03\x00\x00\x06\xAB\x30\x50\
 7777";
 
-/// The first message without a subset: 53 octets.
+/// The first message without a subset.
 const NO_SUBSETS: &[u8] = b"BUFR\x00\x00\x35\x04\
 \x00\x00\x16\x00\x00\x62\x00\x00\x00\x00\x00\x02\x00\x25\x00\x07\xE8\x01\x0F\x0C\x00\x00\
 \x00\x00\x0F\x00\x00\x00\x80\xC1\x01\xC1\x0B\xC1\x0C\x0C\x65\
 \x00\x00\x04\x00\
 7777";
 
-/// No temperature by a delayed count, and so no station: 52 octets.
+/// No temperature by a delayed count, and so no station.
 const COUNT_0: &[u8] = b"BUFR\x00\x00\x34\x04\
 \x00\x00\x16\x00\x00\x62\x00\x00\x00\x00\x00\x02\x00\x25\x00\x07\xE8\x01\x0F\x0C\x00\x00\
 \x00\x00\x0D\x00\x00\x01\x80\x41\x00\x1F\x01\x0C\x65\
 \x00\x00\x05\x00\x00\
 7777";
 
-/// One temperature by a delayed count: 54 octets.
+/// One temperature by a delayed count.
 const COUNT_1: &[u8] = b"BUFR\x00\x00\x36\x04\
 \x00\x00\x16\x00\x00\x62\x00\x00\x00\x00\x00\x02\x00\x25\x00\x07\xE8\x01\x0F\x0C\x00\x00\
 \x00\x00\x0D\x00\x00\x01\x80\x41\x00\x1F\x01\x0C\x65\
 \x00\x00\x07\x00\x01\x6A\xB3\
 7777";
 
-/// Both counts as two plain subsets: 55 octets.
+/// Both counts as two plain subsets.
 const COUNTS: &[u8] = b"BUFR\x00\x00\x37\x04\
 \x00\x00\x16\x00\x00\x62\x00\x00\x00\x00\x00\x02\x00\x25\x00\x07\xE8\x01\x0F\x0C\x00\x00\
 \x00\x00\x0D\x00\x00\x02\x80\x41\x00\x1F\x01\x0C\x65\
 \x00\x00\x08\x00\x00\x01\x6A\xB3\
 7777";
 
-/// No temperature twice, as two plain subsets: 53 octets.
+/// No temperature twice, as two plain subsets.
 const COUNT_0_TWICE: &[u8] = b"BUFR\x00\x00\x35\x04\
 \x00\x00\x16\x00\x00\x62\x00\x00\x00\x00\x00\x02\x00\x25\x00\x07\xE8\x01\x0F\x0C\x00\x00\
 \x00\x00\x0D\x00\x00\x02\x80\x41\x00\x1F\x01\x0C\x65\
@@ -87,14 +87,14 @@ const NEXT_STATION: &[u8] = b"BUFR\x00\x00\x3E\x04\
 \x00\x00\x0D\x00\x14\xC0\xBF\x40\x9E\xC0\x1A\xAC\xC0\
 7777";
 
-/// A message of edition 3 of the first station, time and temperature: 60 octets.
+/// A message of edition 3 of the first station, time and temperature.
 const EDITION_3: &[u8] = b"BUFR\x00\x00\x3C\x03\
 \x00\x00\x12\x00\x00\x62\x00\x00\x00\x02\x0D\x00\x18\x01\x0F\x0C\x00\x00\
 \x00\x00\x10\x00\x00\x01\x80\xC1\x01\xC1\x0B\xC1\x0C\x0C\x65\x00\
 \x00\x00\x0E\x00\x14\xC0\x3F\x40\x9E\xC0\x1A\xAC\xC0\x00\
 7777";
 
-/// The canonical message of its report: 62 octets.
+/// The canonical message of its report.
 const EDITION_3_CANONICAL: &[u8] = b"BUFR\x00\x00\x3E\x04\
 \x00\x00\x16\x00\x00\x62\x00\x00\x00\x00\x00\xFF\x02\x0D\x00\x07\xE8\x01\x0F\x0C\x00\x00\
 \x00\x00\x0F\x00\x00\x01\x80\xC1\x01\xC1\x0B\xC1\x0C\x0C\x65\
@@ -200,6 +200,7 @@ fn add_on<S: Shelf>(rt: &impl Abort, alloc: Global, tables: &Tables) {
             add(rt, &mut archive, row);
         }
         assert_holds(rt, alloc, &archive, *held);
+        drop(archive);
     }
 }
 
@@ -208,6 +209,7 @@ fn messages_added(rt: HostRuntime) {
     let tables = tables(&rt, rt.alloc());
     add_on::<MapShelf>(&rt, rt.alloc(), &tables);
     add_on::<SortedShelf>(&rt, rt.alloc(), &tables);
+    drop(tables);
 }
 
 fn archive_of<'t, S: Shelf>(
@@ -286,6 +288,7 @@ fn take_in<'t, S: Shelf>(
         same(rt, other.len(), archive.len());
     }
     archive.merge(&other).expect(rt, "room");
+    drop(other);
     archive
 }
 
@@ -306,6 +309,7 @@ fn merge_all<S: Shelf>(
     assert_holds(rt, alloc, &archive, *held_then);
     let archive = take_in(rt, alloc, tables, archive, third);
     assert_holds(rt, alloc, &archive, *held_last);
+    drop(archive);
 }
 
 fn merge_on<S: Shelf>(rt: &impl Abort, alloc: Global, tables: &Tables) {
@@ -319,6 +323,7 @@ fn archives_taken_in(rt: HostRuntime) {
     let tables = tables(&rt, rt.alloc());
     merge_on::<MapShelf>(&rt, rt.alloc(), &tables);
     merge_on::<SortedShelf>(&rt, rt.alloc(), &tables);
+    drop(tables);
 }
 
 /// Messages, and the place from which they are no archive, if they are none.
@@ -351,6 +356,7 @@ fn read_on<S: Shelf>(rt: &impl Abort, alloc: Global, tables: &Tables) {
             Ok(archive) => {
                 same(rt, *place, None);
                 assert_holds(rt, alloc, &archive, *messages);
+                drop(archive);
             }
             Err(Failure::Fault(why)) => same(rt, Some(why.place), *place),
             Err(Failure::OutOfMemory) => panic!(rt; "room"),
@@ -363,4 +369,5 @@ fn archives_read(rt: HostRuntime) {
     let tables = tables(&rt, rt.alloc());
     read_on::<MapShelf>(&rt, rt.alloc(), &tables);
     read_on::<SortedShelf>(&rt, rt.alloc(), &tables);
+    drop(tables);
 }

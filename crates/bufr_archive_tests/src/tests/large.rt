@@ -94,10 +94,13 @@ fn assert_ran<S: Shelf>(rt: &impl Abort, alloc: Global, ran: &Ran<S>, text: &[u8
 fn run_all(rt: &impl Abort, alloc: Global, plan: &Plan<'_, '_>, other: &Plan<'_, '_>, text: &[u8]) {
     let ran: Ran<SortedShelf> = plan.run(alloc).expect(rt, "room");
     assert_ran(rt, alloc, &ran, text);
+    drop(ran);
     let both = run_both(alloc, plan, other);
     let (first, second): (Ran<MapShelf>, Ran<SortedShelf>) = both.expect(rt, "room");
     assert_ran(rt, alloc, &first, text);
     assert_ran(rt, alloc, &second, text);
+    drop(second);
+    drop(first);
 }
 
 #[test]
@@ -115,4 +118,6 @@ fn plans_of_a_thousand_reports(rt: HostRuntime) {
         ..plan
     };
     run_all(&rt, rt.alloc(), &plan, &other, &text);
+    drop(steps);
+    drop(tables);
 }

@@ -27,6 +27,7 @@ fn written(rt: &impl Abort, alloc: Global, compressed: bool, subsets: &[Subset])
     let template = template(rt, alloc, THIRTY);
     let mut sink = BitSink::new(alloc);
     write_subsets(alloc, &template, compressed, subsets, &mut sink).expect(rt, "octets");
+    drop(template);
     octets_of(sink)
 }
 

@@ -52,6 +52,7 @@ fn assert_row(rt: &impl Abort, alloc: Global, row: &Row) {
     let read = read_compressed(alloc, &template, &mut reader, count).err();
     assert_fault(rt, alloc, read, fault);
     same(rt, reader.place(), 8);
+    drop(template);
 }
 
 #[test]

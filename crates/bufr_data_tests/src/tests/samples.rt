@@ -106,7 +106,9 @@ pub(crate) fn template(rt: &impl Abort, alloc: Global, list: Descriptors) -> Tem
         let fxy = Fxy::new(*f, *x, *y).expect(rt, "a descriptor");
         descriptors.push(fxy).expect(rt, "room");
     }
-    Template::build(alloc, &tables, descriptors.as_slice()).expect(rt, "a template")
+    let built = Template::build(alloc, &tables, descriptors.as_slice());
+    drop(tables);
+    built.expect(rt, "a template")
 }
 
 pub(crate) fn octets_of(mut sink: BitSink) -> Vec<u8> {
@@ -150,6 +152,7 @@ pub(crate) fn read(
     let template = template(rt, alloc, list);
     let mut reader = BitReader::new(octets);
     let subsets = read_subsets(alloc, &template, compressed, count, &mut reader).expect(rt, "data");
+    drop(template);
     same(rt, reader.left() < 8 || count == 0, true);
     same(rt, subsets.len(), usize::from(count));
     subsets

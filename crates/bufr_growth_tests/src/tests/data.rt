@@ -23,7 +23,9 @@ const PACKED: &[u8] = b"\x01\x01\xAA\xCC\x21\x00\x00\x09\x05\x09\x0D\x10";
 fn template(rt: &impl Abort, alloc: Global) -> Template {
     let tables = tables(rt, alloc);
     let list = DESCRIPTORS.map(Fxy::from_bits);
-    repeated!(rt, Template::build(alloc, &tables, &list))
+    let built = repeated!(rt, Template::build(alloc, &tables, &list));
+    drop(tables);
+    built
 }
 
 /// Whether a subset has a count of 1, this temperature and this text.
@@ -49,6 +51,7 @@ fn read_one(rt: &impl Abort, alloc: Global, template: &Template) {
     );
     assert!(rt; has_values(&subset, 27315, b"AB"));
     same(rt, (items, reader.place()), (9, 40));
+    drop(subset);
 }
 
 /// Reads the two subsets; a refusal leaves the reader where it was.
@@ -85,6 +88,7 @@ fn assert_taken_out(
     assert!(rt; 1 <= number && number <= columns.count());
     let subset = repeated!(rt, columns.subset(alloc, number));
     assert!(rt; has_values(&subset, temperature, text));
+    drop(subset);
 }
 
 /// Indexes the columns; a refusal leaves the reader where it was. Takes the second subset first.
@@ -98,13 +102,17 @@ fn index_both(rt: &impl Abort, alloc: Global, template: &Template) {
     same(rt, reader.place(), 94);
     assert_taken_out(rt, alloc, &columns, 2, 27316, b"CD");
     assert_taken_out(rt, alloc, &columns, 1, 27315, b"AB");
+    drop(columns);
 }
 
 fn read_all(rt: &impl Abort, alloc: Global) {
     let template = template(rt, alloc);
     read_one(rt, alloc, &template);
-    assert_both(rt, read_both(rt, alloc, &template).as_slice());
+    let both = read_both(rt, alloc, &template);
+    assert_both(rt, both.as_slice());
+    drop(both);
     index_both(rt, alloc, &template);
+    drop(template);
 }
 
 #[test]
@@ -163,6 +171,8 @@ fn write_all(rt: &impl Abort, alloc: Global) {
     assert_written(rt, alloc, false, &template, subsets.as_slice(), plain);
     let packed = b"\xEE\x01\x01\xAA\xCC\x21\x00\x00\x09\x05\x09\x0D\x10";
     assert_written(rt, alloc, true, &template, subsets.as_slice(), packed);
+    drop(subsets);
+    drop(template);
 }
 
 #[test]

@@ -25,7 +25,6 @@ const PACKED: &[u8] =
 /// The three characters, 205003, as 16 bits.
 const LAST: u16 = 0x8503;
 
-/// The three characters.
 struct LastText;
 
 impl Asks for LastText {
@@ -54,7 +53,6 @@ fn has_number(rt: &impl Abort, found: Option<Field>, number: u64) {
     }
 }
 
-/// All three fields come, one after the other.
 fn all_come(rt: &impl Abort, alloc: Global, mut fields: Fields<'_>) {
     has_text(rt, repeated!(rt, fields.next(alloc)), b"AB");
     has_number(rt, repeated!(rt, fields.next(alloc)), 27315);
@@ -117,7 +115,9 @@ fn last_comes_chosen(rt: &impl Abort, alloc: Global, index: &SubsetIndex) {
 fn template(rt: &impl Abort, alloc: Global) -> Template {
     let tables = tables(rt, alloc);
     let list = DESCRIPTORS.map(Fxy::from_bits);
-    repeated!(rt, Template::build(alloc, &tables, &list))
+    let built = repeated!(rt, Template::build(alloc, &tables, &list));
+    drop(tables);
+    built
 }
 
 /// Reads a message without a layout, plain or compressed.

@@ -41,6 +41,7 @@ fn all_read(rt: &impl Abort, alloc: Global) {
     for octets in [SEQUENCES, COMPRESSED_PAIR, LOCAL_OCTETS] {
         comes_back(rt, alloc, &tables, octets);
     }
+    drop(tables);
 }
 
 #[test]
@@ -67,6 +68,7 @@ fn parts_into(rt: &impl Abort, alloc: Global, tables: &Tables, octets: &[u8], wa
     for (report, own) in found.iter().zip(wanted) {
         assert_canonical(rt, alloc, tables, report, *own);
     }
+    drop(found);
 }
 
 /// Messages of plain and of compressed subsets, and the canonical messages of their reports.
@@ -80,6 +82,7 @@ fn all_parted(rt: &impl Abort, alloc: Global) {
     for (octets, wanted) in REPORTS {
         parts_into(rt, alloc, &tables, *octets, *wanted);
     }
+    drop(tables);
 }
 
 #[test]
@@ -121,6 +124,7 @@ fn all_viewed(rt: &impl Abort, alloc: Global) {
     for (octets, wanted) in REPORTS {
         view_of(rt, alloc, &tables, *octets, *wanted);
     }
+    drop(tables);
 }
 
 #[test]
@@ -146,6 +150,7 @@ fn read_both(rt: &impl Abort, alloc: Global) {
         assert_written(rt, alloc, &tables, message, COMPRESSED_TEXTS);
     }
     drop(found);
+    drop(tables);
 }
 
 #[test]
@@ -186,6 +191,7 @@ fn list_one(rt: &impl Abort, alloc: Global) {
     same(rt, listing.as_slice(), TEXTS_LISTED);
     assert_listed(rt, alloc, &found.message, TEXTS_LISTED);
     drop(found);
+    drop(tables);
 }
 
 #[test]

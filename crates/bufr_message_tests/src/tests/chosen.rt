@@ -114,6 +114,7 @@ fn places_of_four_lists_in_turn(rt: HostRuntime) {
         reads(&rt, alloc, &mut reader, row, wanted);
     }
     drop(reader);
+    drop(tables);
 }
 
 fn wider_tables(rt: &impl Abort, alloc: Global) -> Tables {
@@ -145,6 +146,8 @@ fn places_under_other_tables(rt: HostRuntime) {
     let usual = tables(&rt, alloc);
     let wider = wider_tables(&rt, alloc);
     read_in_turn(&rt, alloc, &usual, &wider);
+    drop(wider);
+    drop(usual);
 }
 
 /// A reader without a list knows no place.
@@ -157,4 +160,5 @@ fn no_list_no_places(rt: HostRuntime) {
         reads(&rt, alloc, &mut reader, &ROWS[0], None);
     }
     drop(reader);
+    drop(tables);
 }

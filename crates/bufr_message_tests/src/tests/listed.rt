@@ -116,6 +116,7 @@ fn assert_read_back(rt: &impl Abort, alloc: Global, tables: &Tables, listing: &s
     for message in messages.iter() {
         assert_written(rt, alloc, tables, message, wanted);
     }
+    drop(messages);
 }
 
 /// Returns the listing with these lines after those of section 1.
@@ -141,4 +142,5 @@ fn listed_and_written(rt: HostRuntime) {
     for row in ROWS {
         assert_row(&rt, rt.alloc(), &tables, row);
     }
+    drop(tables);
 }

@@ -22,16 +22,16 @@ fn with_numbers(rt: &impl Abort, alloc: Global, front: &str, numbers: Numbers) -
     all
 }
 
-/// The start of a message of a thousand subsets of one temperature: 2,047 octets.
+/// The start of a message of a thousand subsets of one temperature.
 const THOUSAND_FRONT: &str = "42554652 0007FF 04 | S1 | 000009 00 03E8 80 0C65 | 0007D4 00";
 
-/// The start of a message of one temperature: 49 octets.
+/// The start of a message of one temperature.
 const ONE_FRONT: &str = "42554652 000031 04 | S1 | 000009 00 0001 80 0C65 | 000006 00";
 
-/// The start of a message of 255 times 150 temperatures: 76,551 octets.
+/// The start of a message of 255 times 150 temperatures.
 const FIELDS_FRONT: &str = "42554652 012B07 04 | S1 | 00000D 00 0001 80 4296 41FF 0C65 | 012AD8 00";
 
-/// The start of a message of a delayed replication of count 255: 562 octets.
+/// The start of a message of a delayed replication of count 255.
 const COUNT_255_FRONT: &str =
     "42554652 000232 04 | S1 | 00000D 00 0001 80 4100 1F01 0C65 | 000203 00 FF";
 
@@ -61,6 +61,7 @@ fn read_and_written(rt: &impl Abort, alloc: Global, all: &[u8]) -> Message {
     same(rt, "slack", found.slack_octets, 0);
     let written = encode(alloc, &tables, &found.message).expect(rt, "octets");
     same(rt, "octets", written.as_slice(), all);
+    drop(tables);
     found.message
 }
 
@@ -78,5 +79,6 @@ fn long_messages_and_their_reports(rt: HostRuntime) {
             alone,
             (numbers.0, *fields),
         );
+        drop(found);
     }
 }

@@ -9,15 +9,15 @@ use bufr_tables::{Fxy, Tables};
 use std::alloc::Global;
 use std::process::Abort;
 
-/// A message with the most subsets, each without a field.
+/// Each without a field.
 const MOST_SUBSETS: &str = "42554652 00002F 04 | S1 | 000009 00 FFFF 80 8100 | 000004 00 | END";
 
-/// Returns a message with one subset too many, each without a field.
+/// Returns a message with one subset too many.
 fn one_too_many(rt: &impl Abort, alloc: Global) -> Message {
     let (tables, all) = (tables(rt, alloc), octets(rt, alloc, MOST_SUBSETS));
-    let message = decode(alloc, &tables, all.as_slice())
-        .expect(rt, "a message")
-        .message;
+    let decoded = decode(alloc, &tables, all.as_slice());
+    drop(tables);
+    let message = decoded.expect(rt, "a message").message;
     let mut whole = message.subsets.into_vec();
     let fields = Items::from_vec(Vec::new(alloc));
     whole.push(Subset { fields }).expect(rt, "room");
@@ -37,6 +37,7 @@ fn list_of(rt: &impl Abort, alloc: Global, list: &[(u8, u8, u8)]) -> Items<Fxy> 
 fn assert_not_written(rt: &impl Abort, alloc: Global, message: &Message, wanted: &str) {
     let tables = tables(rt, alloc);
     let failure = encode(alloc, &tables, message).err().expect(rt, wanted);
+    drop(tables);
     let found = format!(in alloc; "{failure}").expect(rt, "room");
     same(rt, wanted, found.as_str(), wanted);
 }
@@ -58,6 +59,7 @@ fn subset_limit(rt: HostRuntime) {
         message.descriptors = list_of(&rt, rt.alloc(), list);
         assert_not_written(&rt, rt.alloc(), &message, wanted);
     }
+    drop(message);
 }
 
 /// A message with one subset, without a field.
@@ -79,12 +81,14 @@ fn item_limit(rt: HostRuntime) {
     let tables = tables(&rt, rt.alloc());
     let all = octets(&rt, rt.alloc(), NO_FIELD);
     let found = decode(rt.alloc(), &tables, all.as_slice());
+    drop(tables);
     let mut message = found.expect(&rt, "a message").message;
     message.descriptors = list_of(&rt, rt.alloc(), TOO_MANY_ITEMS);
     for compressed in [false, true] {
         message.compressed = compressed;
         assert_not_written(&rt, rt.alloc(), &message, "E3 TooLarge");
     }
+    drop(message);
 }
 
 fn assert_refused(rt: &impl Abort, alloc: Global, tables: &Tables, all: &[u8], wanted: &str) {
@@ -106,6 +110,7 @@ fn cut_short(rt: HostRuntime) {
         };
         assert_refused(&rt, rt.alloc(), &tables, front, wanted);
     }
+    drop(tables);
 }
 
 /// The start of a message that is refused, zero octets of data, and why.
@@ -205,6 +210,7 @@ fn refusals_of_octets(rt: HostRuntime) {
         let all = with_zeros(&rt, rt.alloc(), front, *zeros);
         assert_refused(&rt, rt.alloc(), &tables, all.as_slice(), wanted);
     }
+    drop(tables);
 }
 
 /// The start of a message of edition 3 with 12 descriptors and 16,777,215 octets, and of one with five
@@ -226,6 +232,7 @@ fn edition_3_too_long(rt: HostRuntime) {
     assert_refused(&rt, rt.alloc(), &tables, all.as_slice(), "V6 TooLarge");
     let all = with_zeros(&rt, rt.alloc(), EDITION_3_LONGEST, 16_777_146);
     assert_longest(&rt, rt.alloc(), &tables, all.as_slice());
+    drop(tables);
 }
 
 /// Reads octets without slack, and writes the most octets that a message has.
@@ -246,4 +253,5 @@ fn unequal_counts_in_columns(rt: HostRuntime) {
     found.message.compressed = true;
     assert_not_written(&rt, rt.alloc(), &found.message, "E2 NotCompressible 1");
     drop(found);
+    drop(tables);
 }

@@ -144,6 +144,7 @@ fn assert_read(rt: &impl Abort, alloc: Global, text: &str, wanted: &Said<'_>) {
     let all = octets(rt, alloc, text);
     let found = read_sections(alloc, all.as_slice()).expect(rt, "an answer");
     assert_found(rt, alloc, &found, wanted);
+    drop(found);
 }
 
 #[test]
@@ -154,6 +155,8 @@ fn each_octet_at_its_place(rt: HostRuntime) {
     let said = said_4(&head, &section2, descriptors.as_slice());
     assert_read(&rt, alloc, EDITION_4, &said);
     assert_read(&rt, alloc, EDITION_4_FILLED, &said);
+    drop(section2);
+    drop(head);
 }
 
 fn assert_spelt(rt: &impl Abort, alloc: Global, said: &Said<'_>, text: &str) {
@@ -192,6 +195,8 @@ fn assert_row(rt: &impl Abort, alloc: Global, local: &str, has_section2: bool, w
     let descriptors = descriptors_4();
     let said = said_4(&head, &section2, descriptors.as_slice());
     assert_spelt(rt, alloc, &said, wanted);
+    drop(section2);
+    drop(head);
 }
 
 #[test]
@@ -211,4 +216,5 @@ fn refused_behind_others(rt: HostRuntime) {
     same(&rt, added.is_err(), true);
     let others = [0x1C, 0x1D];
     same(&rt, out.as_slice(), others.as_slice());
+    drop(head);
 }

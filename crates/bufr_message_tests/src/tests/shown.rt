@@ -74,7 +74,9 @@ fn assert_octets(rt: &impl Abort, alloc: Global, found: &[u8], wanted: &str) {
 
 pub(crate) fn canonical_of(rt: &impl Abort, alloc: Global, report: &Report) -> Vec<u8> {
     let tables = tables(rt, alloc);
-    canonical(alloc, &tables, report).expect(rt, "room")
+    let octets = canonical(alloc, &tables, report);
+    drop(tables);
+    octets.expect(rt, "room")
 }
 
 fn assert_canonical(rt: &impl Abort, alloc: Global, reports: &[Report], wanted: &[&str]) {
@@ -88,9 +90,11 @@ fn assert_canonical(rt: &impl Abort, alloc: Global, reports: &[Report], wanted: 
 fn assert_read(rt: &impl Abort, alloc: Global, all: &[u8], row: &Row<'_>) {
     let tables = tables(rt, alloc);
     let found = decode(alloc, &tables, all).expect(rt, "a message");
+    drop(tables);
     same(rt, row.0, found.slack_octets, row.1);
     let reports = reports(alloc, found.message).expect(rt, "room");
     assert_canonical(rt, alloc, reports.as_slice(), row.2);
+    drop(reports);
 }
 
 /// This report has this canonical message, and so has its subset, also after other octets.
@@ -135,7 +139,9 @@ fn assert_owns(rt: &impl Abort, alloc: Global, found: &View<'_>, wanted: &[&str]
 
 fn viewed<'a>(rt: &impl Abort, alloc: Global, all: &'a [u8]) -> View<'a> {
     let tables = tables(rt, alloc);
-    view(alloc, &tables, all).expect(rt, "a view")
+    let found = view(alloc, &tables, all);
+    drop(tables);
+    found.expect(rt, "a view")
 }
 
 fn assert_row(rt: &impl Abort, alloc: Global, row: &Row<'_>) {

@@ -107,6 +107,8 @@ fn select(rt: &impl Abort, alloc: Global) -> (Vec<u8>, Vec<u8>, bool) {
     };
     let each = Fxy::from_text(b"007004");
     let answer = run_select(alloc, 1000, pairs, &columns, each, &mut inputs, &mut out);
+    drop(columns);
+    drop(tables);
     let is_all = is_tally(rt, answer);
     (out.rows.taken, out.refusals.taken, is_all)
 }

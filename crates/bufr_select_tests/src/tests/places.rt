@@ -164,4 +164,5 @@ fn rows_by_places(rt: HostRuntime) {
         assert_row(&rt, alloc, &tables, row.2, place, row);
         assert_row(&rt, alloc, &tables, &[], place, row);
     }
+    drop(tables);
 }

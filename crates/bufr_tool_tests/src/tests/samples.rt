@@ -181,20 +181,20 @@ pub(super) const MANY_SUBSETS: &[u8] = b"BUFR\x00\x00\x31\x04\
 \x00\x00\x06\x00\x14\x00\
 7777";
 
-/// The lines of its listing before the first subset: 102 octets.
+/// The lines of its listing before the first subset.
 pub(super) const HEADING: &[u8] = b"message\n\
 section1 98 0 0 0 2 0 37 0\n\
 time 2024 1 15 12 0 0\n\
 flags observed compressed\n\
 descriptors 001001\n";
 
-/// The lines of a subset: 17 octets.
+/// The lines of a subset.
 pub(super) const SUBSET: &[u8] = b"subset\n001001 10\n";
 
 /// Octets, and how often they come, one after another.
 pub(super) type Part<'a> = (&'a [u8], u32);
 
-/// A bulletin's heading, the message, a stray `BUFR`, and the message again: 146 octets.
+/// A bulletin's heading, the message, a stray `BUFR`, and the message again.
 pub(super) const TWO_FRAMES: &[Part<'static>] = &[
     (b"ISMD01 EDZW 151200", 1),
     (SEQUENCES, 1),

@@ -52,10 +52,13 @@ fn stations(rt: HostRuntime) {
     let mobile = key(bufr_archive::Station::Mobile {
         name: items(&rt, rt.alloc(), b"10384"),
     });
-    assert!(rt; wmo_key() < wigos && wigos < mobile);
+    let wmo = wmo_key();
+    assert!(rt; wmo < wigos && wigos < mobile);
+    drop(wmo);
+    drop(mobile);
+    drop(wigos);
 }
 
-/// Whether an entry has this key and these octets.
 fn is_held(
     held: Option<bufr_archive::Held>,
     key: Option<&bufr_archive::Key>,

@@ -173,7 +173,6 @@ fn decimals(rt: HostRuntime) {
     assert!(rt; decimal.units == -1 && decimal.scale == 2);
 }
 
-/// The one plain subset of octets.
 fn plain_subset(
     rt: &impl Abort,
     alloc: Global,
@@ -194,7 +193,9 @@ fn plain_data(rt: HostRuntime) {
     let template = template(&rt, alloc);
     let subset = plain_subset(&rt, alloc, &template, b"\x6A\xB3");
     let mut sink = bufr_bits::BitSink::new(alloc);
-    bufr_data::write_plain(alloc, &template, &[subset], &mut sink).expect(&rt, "room");
+    let subsets = [subset];
+    bufr_data::write_plain(alloc, &template, &subsets, &mut sink).expect(&rt, "room");
+    drop(subsets);
     assert!(rt; sink.len_bits() == 16);
     drop(sink);
     drop(template);
@@ -214,6 +215,7 @@ fn fields(rt: HostRuntime) {
     drop(template);
     let field: &bufr_data::Field = fields.get(0).expect(&rt, "a field");
     assert_field(&rt, field);
+    drop(fields);
 }
 
 /// One compressed subset: 273.15 K, with no increments.
@@ -248,7 +250,6 @@ fn subset_of_columns(
     subset.expect(rt, "room")
 }
 
-/// Returns the number of bits of subsets, compressed.
 fn compressed_bits(
     rt: &impl Abort,
     alloc: Global,
@@ -270,6 +271,7 @@ fn compressed_data(rt: HostRuntime) {
     drop(template);
     assert!(rt; Some(&subset) == subsets.get(0));
     drop(subset);
+    drop(subsets);
 }
 
 fn assert_encodes(
@@ -289,6 +291,7 @@ fn assert_reports(rt: &impl Abort, alloc: Global, tables: &Tables, message: bufr
     let report = reports.first().expect(rt, "a report");
     let octets = bufr_message::canonical(alloc, tables, report).expect(rt, "octets");
     assert!(rt; octets.as_slice() == BARE);
+    drop(reports);
 }
 
 #[test]
@@ -336,6 +339,9 @@ fn views(rt: HostRuntime) {
     let head: bufr_message::ReportHead = head;
     assert!(rt; observed && head.centre == 98 && head.update == 0);
     assert!(rt; descriptors.len() == 1 && subset.fields.len() == 1);
+    drop(subset);
+    drop(descriptors);
+    drop(head);
 }
 
 fn listed(rt: &impl Abort, alloc: Global, message: &bufr_message::Message) -> Vec<u8> {
@@ -350,6 +356,7 @@ fn assert_listed(rt: &impl Abort, alloc: Global, tables: &Tables) {
     let messages = bufr_message::listing::read(alloc, tables, BARE_LISTED).expect(rt, "messages");
     let message = messages.first().expect(rt, "a message");
     assert!(rt; listed(rt, alloc, message).as_slice() == BARE_LISTED);
+    drop(messages);
 }
 
 #[test]

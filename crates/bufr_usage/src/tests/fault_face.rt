@@ -7,7 +7,6 @@ use bufr_message::listing::{Cause, ListingFault, ListingWriteFault};
 use bufr_message::{EncodeFault, Refused};
 use bufr_tables::{Column, Fxy, TableFault};
 
-/// Whether a column is that of descriptors.
 fn is_of_descriptors(column: Column) -> bool {
     match column {
         Column::Fxy => true,
@@ -15,7 +14,6 @@ fn is_of_descriptors(column: Column) -> bool {
     }
 }
 
-/// Returns the record that a fault of a table file carries, if it carries one.
 fn table_record(fault: TableFault) -> Option<u64> {
     match fault {
         TableFault::NotCsv(record) => Some(record),
@@ -24,7 +22,6 @@ fn table_record(fault: TableFault) -> Option<u64> {
     }
 }
 
-/// Returns the descriptor that a fault of a table file carries, if it carries one.
 fn table_descriptor(fault: TableFault) -> Option<Fxy> {
     match fault {
         TableFault::Conflict(fxy) => Some(fxy),
@@ -41,7 +38,6 @@ fn lacks_descriptors_column(fault: TableFault) -> bool {
     }
 }
 
-/// Returns the descriptor that a fault of a template carries, if it carries one.
 fn template_descriptor(fault: TemplateFault) -> Option<Fxy> {
     match fault {
         TemplateFault::UnknownElement(fxy) => Some(fxy),
@@ -77,7 +73,6 @@ fn misfit_field(fault: MisfitFault) -> Option<u64> {
     }
 }
 
-/// Returns the octet that a refusal of a message carries, if it carries one.
 fn refused_octet(why: Refused) -> Option<u8> {
     match why {
         Refused::NotBufr => None,
@@ -94,7 +89,6 @@ fn refused_octet(why: Refused) -> Option<u8> {
     }
 }
 
-/// Whether a message has no encoding for want of descriptors.
 fn lacks_descriptors(why: EncodeFault) -> bool {
     match why {
         EncodeFault::NoDescriptors => true,
@@ -138,6 +132,7 @@ fn faults_of_templates(rt: HostRuntime) {
     let refused = bufr_expand::Template::build(rt.alloc(), &tables, &list)
         .err()
         .expect(&rt, "a fault");
+    drop(tables);
     let found = match refused {
         bufr_expand::Failure::Fault(fault) => template_descriptor(fault),
         bufr_expand::Failure::OutOfMemory => None,

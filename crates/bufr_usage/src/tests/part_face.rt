@@ -6,7 +6,6 @@ use std::alloc::Global;
 use std::fmt::Display;
 use std::process::Abort;
 
-/// Makes the head of `STATION`.
 fn station_head(alloc: Global) -> bufr_message::Head {
     bufr_message::Head {
         centre: 98,
@@ -45,13 +44,17 @@ fn messages(rt: HostRuntime) {
         descriptors,
         subsets,
     } = station_message(&rt, rt.alloc());
-    assert!(rt; head == station_head(rt.alloc()) && section2.is_none());
+    let wanted = station_head(rt.alloc());
+    assert!(rt; head == wanted && section2.is_none());
+    drop(wanted);
     drop(section2);
     assert!(rt; observed && !compressed);
     assert!(rt; descriptors.len() == 8 && subsets.len() == 1);
+    drop(subsets);
+    drop(descriptors);
+    drop(head);
 }
 
-/// Whether a field of this kind has a text.
 fn is_text(kind: Kind) -> bool {
     match kind {
         Kind::Text => true,

@@ -124,7 +124,6 @@ fn merged(rt: HostRuntime) {
     assert!(rt; is_told(tally, writer, 2, 1, BARE));
 }
 
-/// Whether a fault is want of memory.
 fn is_memory(fault: bufr_tool::ToolFault) -> bool {
     match fault {
         bufr_tool::ToolFault::ReadFailed(bufr_tool::Input::Number(_)) => false,

@@ -70,6 +70,8 @@ fn assert_order(rt: &impl Abort, alloc: Global, place: usize, other_place: usize
         mark.slot_order(row.2, &other_mark, other.2) == place.cmp(&other_place),
         "{place}, {other_place}"
     );
+    drop(other_mark);
+    drop(mark);
 }
 
 #[test]

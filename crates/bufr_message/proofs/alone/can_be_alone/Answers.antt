@@ -1,13 +1,7 @@
--- Subsets in few octets all fit; else one that does not decides.
+-- A subset that does not fit decides.
 use Rattle.std.proofs.Common.{◌<◌, length, ◌∙◌, sym, arith}
-use Rattle.bufr_message.proofs.ViewFacts.{few_octets, one_more_short, one_too_long}
+use Rattle.bufr_message.proofs.ViewFacts.{one_more_short, one_too_long}
 use Rattle.bufr_message.proofs.alone.can_be_alone.Goals as goal
-
-pub returns-then-descriptors-there-le-LONGEST : goal.returns-then-descriptors-there-le-LONGEST
-returns-then-descriptors-there-le-LONGEST c =
-    let there = c.requires.3 in
-    sym (few_octets c.data_hold_subsets.ensures.read c.requires.0 c.requires.1
-    c.args.descriptors.now c.args.subsets.now c.requires.2 (omega arith))
 
 pub returns-then-not-is_short : goal.returns-then-not-is_short
 returns-then-not-is_short c =

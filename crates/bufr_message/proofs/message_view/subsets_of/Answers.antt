@@ -1,7 +1,9 @@
-use Rattle.std.proofs.Common.{arith}
+use Rattle.std.proofs.Common.{◌≡◌, true, rules}
+use Rattle.bufr_message.specs.Messages.{can_be_alone}
 use Rattle.bufr_message.proofs.message_view.subsets_of.Goals as goal
 
-pub can_be_alone-requires : goal.can_be_alone-requires
-can_be_alone-requires c =
+pub returns-then-are_few-clause-exact : goal.returns-then-are_few-clause-exact
+returns-then-are_few-clause-exact c =
     let s = c.args.sections.now in
-    (s.contents.now, s.compressed, c.in_ok-subsets.ensures.stand, omega arith)
+    let few = c.are_few.ensures s.compressed _ c.in_ok-subsets.ensures.stand c.if-are_few.true in
+    search (rules, few)

@@ -12,7 +12,6 @@ use bufr_sections::{LentSections, Message};
 use std::alloc::Global;
 use std::process::Abort;
 
-/// The lines before the first subset.
 const HEADING: &str = "\
 message
 section1 98 0 0 0 2 0 37 0
@@ -21,7 +20,6 @@ flags observed
 descriptors 301001 301011 301012 012101
 ";
 
-/// The lines of a subset.
 const SUBSET: &str = "\
 subset
 001001 10
@@ -87,4 +85,5 @@ fn the_parts_of_a_thousand_subsets(rt: HostRuntime) {
     assert_listed(&rt, alloc, &message, text.as_str());
     let last = message.subsets.get(999).expect(&rt, "a subset");
     assert_subset(&rt, alloc, last);
+    drop(message);
 }

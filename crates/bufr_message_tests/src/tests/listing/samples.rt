@@ -31,6 +31,8 @@ pub(super) fn first_message(rt: &impl Abort, alloc: Global, text: &str) -> Messa
     let b = TableB::parse(alloc, ELEMENTS.as_bytes()).expect(rt, "an answer");
     let d = TableD::parse(alloc, SEQUENCES.as_bytes()).expect(rt, "an answer");
     let tables = Tables::new(b, d);
-    let messages = read(alloc, &tables, text.as_bytes()).expect(rt, "an answer");
+    let messages = read(alloc, &tables, text.as_bytes());
+    drop(tables);
+    let messages = messages.expect(rt, "an answer");
     messages.into_iter().next().expect(rt, "a message")
 }

@@ -10,7 +10,6 @@ use std::io;
 use std::io::{ErrorKind, Write};
 use std::process::Abort;
 
-/// A listing with one plain subset.
 const SEQUENCES_LISTED: &str = "\
 message
 section1 98 0 0 0 2 0 37 0
@@ -90,6 +89,7 @@ fn written_to_narrow_writers(rt: HostRuntime) {
     for room in [208, 1000] {
         assert_front(&rt, rt.alloc(), &message, room, false);
     }
+    drop(message);
 }
 
 #[test]

@@ -18,9 +18,9 @@ pub write_long-requires-clause-lines : goal.write_long-requires-clause-lines
 write_long-requires-clause-lines g c =
     let p = c.args.self.now in
     let grown = c.in_ok-extend_from_slice.ensures.items
-    ∙ ap (λ (t : List ℕ). p.held.items ++ t) (c.deref.ensures.value
-    ∙ c.in_ok-push_heading.ensures c.args.found.now.message.subsets
-    ∙ (λ i. c.clear.ensures.items i ++ joined (heading_lines (c.sections.ensures i)))) in
+    ∙ ap (λ (t : List ℕ). p.held.items ++ t) (c.as_slice.ensures
+    ∙ c.in_ok-set.ensures c.args.found.now.message.subsets
+    ∙ (λ i. joined (heading_lines (c.sections.ensures i)))) in
     (heading_added c.args.found.now.message p _ (g.W.Sink.writing c.args.writer.now) grown
     c.requires.lines c.requires.works).held_whole
 
@@ -33,9 +33,9 @@ returns-in_err-write_long-clause-prints g c =
     let last = g.W.Sink.writing c.write_long.new.writer in
     let e = c.in_err-write_long.field-0.0 in
     let grown = c.in_ok-extend_from_slice.ensures.items
-    ∙ ap (λ (t : List ℕ). p.held.items ++ t) (c.deref.ensures.value
-    ∙ c.in_ok-push_heading.ensures c.args.found.now.message.subsets
-    ∙ (λ i. c.clear.ensures.items i ++ joined (heading_lines (c.sections.ensures i)))) in
+    ∙ ap (λ (t : List ℕ). p.held.items ++ t) (c.as_slice.ensures
+    ∙ c.in_ok-set.ensures c.args.found.now.message.subsets
+    ∙ (λ i. joined (heading_lines (c.sections.ensures i)))) in
     passed (Adds (listing m) p c.write_long.new.self first last)
     c.from_residual-in_err-write_long.result e c.from_residual-in_err-write_long.ensures.1
     (adds_longer (listed m 0) (unlisted m 0) (listing m) p c.write_long.new.self first last e
@@ -52,9 +52,9 @@ loop-index-init g c =
     let last = g.W.Sink.writing c.write_long.new.writer in
     let held = c.extend_from_slice.new.self.items in
     let grown = c.in_ok-extend_from_slice.ensures.items
-    ∙ ap (λ (t : List ℕ). p.held.items ++ t) (c.deref.ensures.value
-    ∙ c.in_ok-push_heading.ensures c.args.found.now.message.subsets
-    ∙ (λ i. c.clear.ensures.items i ++ joined (heading_lines (c.sections.ensures i)))) in
+    ∙ ap (λ (t : List ℕ). p.held.items ++ t) (c.as_slice.ensures
+    ∙ c.in_ok-set.ensures c.args.found.now.message.subsets
+    ∙ (λ i. joined (heading_lines (c.sections.ensures i)))) in
     let e = c.in_ok-write_long.ensures in
     record {
       done = held_less held c.write_long.new.self.held.items (p.held.items ++ listed m 0)
@@ -128,8 +128,8 @@ print_fields-requires-clause-fits g c =
       length-append c.loop-index.self.held.items (line subset_line),
     )
 
-pub returns-in_err-push_heading-clause-prints : goal.returns-in_err-push_heading-clause-prints
-returns-in_err-push_heading-clause-prints g c =
+pub returns-in_err-set-clause-prints : goal.returns-in_err-set-clause-prints
+returns-in_err-set-clause-prints g c =
     let text = listing c.args.found.now.message in
     let p = c.args.self.now in
     let writer = g.W.Sink.writing c.args.writer.now in

@@ -1,0 +1,22 @@
+-- The lines before the first subset without octets for local use, by their numbers.
+use Rattle.std.proofs.Common.{◌≡◌, ℕ, List, [], true, false, refl, true≢false}
+use Rattle.std.proofs.lemmas.Bool.{eqb-true}
+use Rattle.std.proofs.lemmas.List.{nil_from_length}
+use Rattle.std.specs.Prelude.{Option, Some, None, length, is_some, ◌==◌}
+use Rattle.bufr_sections.specs.declared.message.Message.{Message}
+use Rattle.bufr_listing.specs.KeptHeadings.{bare_heading_lines}
+use Rattle.bufr_listing.specs.Listings.{heading_lines, section1_numbers, time_numbers}
+
+no_octets : (local : List ℕ) → length local == 0 ≡ true → local ≡ []
+no_octets local t = nil_from_length local (eqb-true (length local) 0 t)
+
+no_section : (section2 : Option (List ℕ)) → is_some section2 ≡ false → section2 ≡ None
+no_section None t = refl
+no_section (Some octets) t = absurd (true≢false t)
+
+pub bare_lines : (m : Message) → length m.head.local == 0 ≡ true → is_some m.section2 ≡ false
+    → heading_lines m ≡ bare_heading_lines (section1_numbers m.head) (time_numbers m.head)
+    m.observed m.compressed m.descriptors
+unfolding heading_lines
+bare_lines m local two =
+    rw (no_octets m.head.local local, no_section m.section2 two) refl

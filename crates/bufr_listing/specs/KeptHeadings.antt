@@ -1,0 +1,10 @@
+-- The lines before the first subset of a message without octets for local use.
+use Rattle.std.specs.Prelude.{ℕ, Bool, List, [], ◌∷◌, codes}
+use Rattle.bufr_listing.specs.Listings.{descriptors_line, flags_line, numbers_line}
+
+-- the lines by their numbers, flags and descriptors
+abbrev pub bare_heading_lines : List ℕ → List ℕ → Bool → Bool → List ℕ → List (List ℕ)
+bare_heading_lines section1 time observed compressed descriptors =
+    codes "message" ∷ numbers_line (codes "section1") section1
+    ∷ numbers_line (codes "time") time ∷ flags_line observed compressed
+    ∷ descriptors_line descriptors ∷ []
