@@ -9,7 +9,8 @@ use Rattle.std.specs.Int.{byte_at, bytes_high_first}
 use Rattle.std.proofs.Math.Nat.{pow-suc, pow-le-pow_right}
 use Rattle.std.proofs.lemmas.Nat.{pow_pos, pow-add, one_shl, and_mask, shl-shr, shr-shr, shr_high}
 use Rattle.std.proofs.lemmas.Nat.{mod_low, mod_below}
-use Rattle.std.proofs.lemmas.List.{append-nil, take_at, drop_at, take-append-drop, length-take-le}
+use Rattle.std.proofs.lemmas.List.{append-nil, take_at, drop_at, take-append-drop, length-take}
+use Rattle.std.proofs.lemmas.List.{length-take-le}
 use Rattle.std.proofs.lemmas.List.{length-replicate, drop-drop, take-take, drop-take, get_or-take}
 use Rattle.std.proofs.lemmas.List.{get_or-drop, get_or_past, drop_more, take_more}
 use Rattle.std.proofs.lemmas.Bool.{cases_lt}
@@ -215,6 +216,32 @@ number_of_eight octets i within small =
       octet_more octets i 6 (i + 6) (omega arith) (omega arith) small,
       octet_more octets i 7 (i + 7) (omega arith) (omega arith) small,
     )
+
+pub number_of_four : (octets : List ℕ) (i : ℕ) → i + 4 ≤ length octets
+    → ((j : ℕ) → get_or octets j 0 < 256)
+    → get_or octets i 0 * 16777216 + get_or octets (i + 1) 0 * 65536
+    + get_or octets (i + 2) 0 * 256 + get_or octets (i + 3) 0
+    ≡ number (bits (take 4 (drop i octets)))
+number_of_four octets i within small =
+    omega (
+      arith,
+      number_nil,
+      octet_more octets i 0 i (omega arith) (omega arith) small,
+      octet_more octets i 1 (i + 1) (omega arith) (omega arith) small,
+      octet_more octets i 2 (i + 2) (omega arith) (omega arith) small,
+      octet_more octets i 3 (i + 3) (omega arith) (omega arith) small,
+    )
+
+-- a number of at most 16 bits
+pub short_below : (width place : ℕ) (octets : List ℕ) → width ≤ 16
+    → number (take width (drop place (bits octets))) < 65536
+short_below width place octets narrow =
+    let taken = take width (drop place (bits octets)) in
+    let small = number_below taken in
+    let few : length taken ≤ 16 =
+    omega (arith, length-take width (drop place (bits octets)), narrow) in
+    let more : 2 ^ length taken ≤ 2 ^ 16 = pow-le-pow_right (omega arith) few in
+    omega arith
 
 pub numbers-more : (k width t : ℕ) (text : List Bool) → t ≡ k * width
     → numbers (k + 1) width text ≡ numbers k width text ++ number (take width (drop t text)) ∷ []

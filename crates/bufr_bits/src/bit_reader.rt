@@ -1,12 +1,12 @@
 //! Reads bits. A refused call leaves the reader where it was.
 
-ghost use Rattle.std.specs.Prelude.{◌≡◌, ◌+◌, ◌*◌, ◌<◌, ◌≤◌, length, drop, Some, None, IfSome};
+ghost use Rattle.std.specs.Prelude.{◌≡◌, ◌+◌, ◌-◌, ◌*◌, ◌^◌, ◌<◌, ◌≤◌, length, drop, Some, None, IfSome};
 ghost use Rattle.std.specs.Prelude.{IfNone, OnSome, OnErr, OnOk, IfOk, option_map};
 ghost use Rattle.std.specs.Bool.{OnTrue, OnFalse};
 ghost use Rattle.bufr_bits.specs.Bits.{number_at, octets_at};
 ghost use Rattle.bufr_bits.specs.Ends.{BitPlace, left};
 
-use super::field::field;
+use super::field::{field, short_field};
 use super::octets::octets_from;
 use bufr_base::OutOfMemory;
 use std::alloc::Global;
@@ -118,6 +118,20 @@ impl<'a> BitReader<'a> {
         ensures moved { self.new ≡ record self.old { place = self.old.place + width } }
     {
         let number = field(self.octets, self.place, width);
+        self.place += u128::from(width);
+        number
+    }
+
+    /// Takes at most 16 bits that are there as a number; `greatest` is the greatest of as many bits.
+    #[inline(always)]
+    pub fn take_short(&mut self, width: u32, greatest: u16) -> u16
+        requires narrow { width ≤ 16 }
+        requires ones { greatest ≡ 2 ^ width - 1 }
+        requires enough { width ≤ length (left self.old) }
+        ensures found { number_at width (left self.old) ≡ Some (result, left self.new) }
+        ensures moved { self.new ≡ record self.old { place = self.old.place + width } }
+    {
+        let number = short_field(self.octets, self.place, width, greatest);
         self.place += u128::from(width);
         number
     }

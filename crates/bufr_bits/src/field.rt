@@ -1,6 +1,6 @@
 //! Reads numbers from bits.
 
-ghost use Rattle.std.specs.Prelude.{◌≡◌, ◌+◌, ◌*◌, ◌≤◌, length, take, drop};
+ghost use Rattle.std.specs.Prelude.{◌≡◌, ◌+◌, ◌-◌, ◌*◌, ◌^◌, ◌≤◌, length, take, drop};
 ghost use Rattle.bufr_bits.specs.Bits.{bits, number};
 
 fn spelt(octets: &[u8]) -> u128
@@ -59,4 +59,33 @@ pub(crate) fn field(octets: &[u8], place: u128, width: u32) -> u64
         return (word_at(octets, first) >> (64 - before - width)) & ((1u64 << width) - 1);
     }
     field_by_octets(octets, place, width)
+}
+
+fn half_word_at(octets: &[u8], first: usize) -> u32
+    requires { first + 4 ≤ length octets.now }
+    ensures { result ≡ number (bits (take 4 (drop first octets.now))) }
+{
+    u32::from_be_bytes([
+        octets[first],
+        octets[first + 1],
+        octets[first + 2],
+        octets[first + 3],
+    ])
+}
+
+/// Reads at most 16 bits from bit `place` on, four octets at once if it can. The greatest number of
+/// these bits is their mask.
+#[inline(always)]
+pub(crate) fn short_field(octets: &[u8], place: u128, width: u32, greatest: u16) -> u16
+    requires narrow { width ≤ 16 }
+    requires ones { greatest ≡ 2 ^ width - 1 }
+    requires within { place + width ≤ 8 * length octets.now }
+    ensures { result ≡ number (take width (drop place (bits octets.now))) }
+{
+    let first = (place / 8) as usize;
+    if 1 <= width && octets.len() >= 4 && first <= octets.len() - 4 {
+        let spare = 32 - (place % 8) as u32 - width;
+        return ((half_word_at(octets, first) >> spare) & u32::from(greatest)) as u16;
+    }
+    field_by_octets(octets, place, width) as u16
 }

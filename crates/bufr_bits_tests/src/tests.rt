@@ -125,6 +125,19 @@ fn widest_fields_at_every_place(rt: HostRuntime) {
     }
 }
 
+/// The 13 bits from each bit of five octets on.
+#[test]
+fn short_numbers_at_every_place(rt: HostRuntime) {
+    let octets = [0xFE, 0xDC, 0xBA, 0x98, 0x76];
+    for place in 0..28u32 {
+        let mut reader = BitReader::at(&octets, u128::from(place));
+        assert!(&rt; reader.left() >= 13);
+        let wanted = ((0xFE_DCBA_9876u64 >> (27 - place)) & 0x1FFF) as u16;
+        same(&rt, reader.take_short(13, 0x1FFF), wanted);
+        same(&rt, reader.place(), u128::from(place) + 13);
+    }
+}
+
 fn cut(rt: &impl Abort, sink: &mut BitSink, bits: u128, left: u128) {
     let found = sink.len_bits();
     same(rt, found, bits);

@@ -98,7 +98,7 @@ none_from P j i d spec after (Some x) unasked h =
     none_in_front P (record { fxy = d; spec = spec; raw = x.0 }) (after (number_of x.0) x.1) unasked
     (h (number_of x.0) x.1)
 
-none_read : (P : ℕ → Bool) (j i : ℕ) (c : Course) (front : List Bool) → TellsNone P c
+pub none_read : (P : ℕ → Bool) (j i : ℕ) (c : Course) (front : List Bool) → TellsNone P c
     → NoneAsked P (fields_of (fields_at j i c front))
 unfolding fields_at TellsNone
 none_read P j i (ends met) front h = tt

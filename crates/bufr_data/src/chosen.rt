@@ -10,6 +10,7 @@ use crate::compressed::fields::ColumnFields;
 use crate::plain::placed_fields::PlacedFields;
 use crate::short::ShortNumber;
 use bufr_base::OutOfMemory;
+use bufr_expand::Asks;
 use bufr_fields::{Field, NumberField};
 use bufr_tables::Fxy;
 use std::alloc::Global;
@@ -77,6 +78,20 @@ impl<'v> ChosenFields<'v> {
             ChosenSource::Placed(fields) => fields.next(alloc),
             ChosenSource::Compressed(fields) => fields.next(alloc),
         }
+    }
+}
+
+/// A filter of the descriptors in a list.
+#[derive(Drop)]
+pub(crate) struct Listed<'l> {
+    pub(crate) list: &'l [u16],
+}
+
+impl<'l> Asks for Listed<'l> {
+    ghost is_asked = { λ l. chosen.is_listed l.list.now };
+
+    fn asks(&self, fxy: Fxy) -> bool {
+        is_listed(self.list, fxy)
     }
 }
 

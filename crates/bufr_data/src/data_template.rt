@@ -119,7 +119,8 @@ impl DataTemplate {
             self.likeness.ask(alloc, &self.template, reader)?
         };
         let template = self.template.share()?;
-        let layout = if alike.is_some() {
+        let has_places = !compressed && count > 0 && !asked.is_empty();
+        let layout = if alike.is_some() || has_places {
             self.plan.serve(alloc, &self.template, asked, count)?
         } else {
             None

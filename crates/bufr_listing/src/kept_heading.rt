@@ -1,6 +1,6 @@
 //! The lines of a listing before its first subset, kept from one message to the next.
 
-ghost use Rattle.std.specs.Prelude.{◌≡◌, ◌++◌, List, true, OnOk};
+ghost use Rattle.std.specs.Prelude.{◌≡◌, ◌++◌, [], List, true, OnOk};
 ghost use Rattle.bufr_fields.specs.declared.field.Subset.{Subset};
 ghost use Rattle.bufr_sections.specs.SectionsRead.{message_lent};
 ghost use Rattle.bufr_listing.specs.Listings.{heading_lines, joined};
@@ -42,7 +42,9 @@ impl Model for KeptHeading {
 
 impl KeptHeading {
     /// Starts without a message.
-    pub fn new(alloc: Global) -> KeptHeading {
+    pub fn new(alloc: Global) -> KeptHeading
+        ensures { result ≡ [] }
+    {
         KeptHeading {
             text: Vec::new(alloc),
             section1: [0; 8],

@@ -1,4 +1,4 @@
--- The fields of a layout are those that the course of each subset asks for.
+-- The fields of a layout are those that the course of each subset asks for first.
 use Rattle.std.proofs.Common.{◌≡◌, ℕ, ◌+◌, ◌≤◌, Bool, true, false, List, [], ◌∷◌, ◌++◌, Option, Some, None}
 use Rattle.std.proofs.Common.{Result, Ok, Err, map, length, drop, refl, sym, ap, subst, ◌∙◌, arith}
 use Rattle.std.specs.Prelude.{IsOk}
@@ -11,7 +11,8 @@ use Rattle.bufr_expand.specs.declared.walk.Step.TheVariants as steps
 use Rattle.bufr_expand.specs.declared.walk.Walk.{Walk}
 use Rattle.bufr_expand.specs.Courses.{Course, ends, stops, asks, course}
 use Rattle.bufr_expand.specs.Trees.{Tree}
-use Rattle.bufr_expand.specs.Unrolling.{Told, After, Allows, Unrolls}
+use Rattle.bufr_expand.specs.Asked.{TellsNone}
+use Rattle.bufr_expand.specs.Unrolling.{Told, After}
 use Rattle.bufr_expand.specs.Limits.{most_items}
 use Rattle.bufr_expand.specs.Runs.{after_joined}
 use Rattle.bufr_expand.specs.Steady.{IsSteady, course_steady}
@@ -24,13 +25,16 @@ use Rattle.bufr_data.specs.declared.plain.layout.LaidField.{LaidField}
 use Rattle.bufr_data.specs.declared.plain.layout.Layout.{Layout}
 use Rattle.bufr_data.specs.Plain.{SubsetRead, raw_at, field_then, fields_at}
 use Rattle.bufr_fields.specs.Forms.{number_of}
-use Rattle.bufr_data.specs.Plain.Layouts.{laid_course, told_laid, HaveNoCount, HasPlaces, IsLaid}
+use Rattle.bufr_data.specs.Chosen.{is_listed}
+use Rattle.bufr_data.specs.Plain.Layouts.{laid_then, laid_course, told_laid, HaveNoCount}
+use Rattle.bufr_data.specs.Plain.Layouts.{HasPlaces, IsLaid}
 use Rattle.bufr_bits.specs.Bits.{bits}
 use Rattle.bufr_bits.specs.Ends as ends_of
 use Rattle.bufr_bits.specs.Ends.{BitPlace}
 use Rattle.bufr_data.specs.Handed.{fields_laid, StandLaid, FirstIsAsked, PassesLaid, moved_on}
 use Rattle.bufr_data.specs.Plain.Reads.{raw_or_ends, behind_fields}
 use Rattle.bufr_data.specs.Plain.Starts.{PassesRaw, fields_of, subset_at, BeginsAtStart}
+use Rattle.bufr_fields.specs.CourseLaws.{AreUnrolled, AreAllowed}
 use Rattle.bufr_fields.specs.StepLaws.{asks_field, ends_there}
 use Rattle.bufr_data.proofs.AskedFacts.{one_passed, asked_from}
 use Rattle.bufr_data.proofs.ListFacts.{all_grown, map_grown}
@@ -70,29 +74,51 @@ one_laid c old new fields grown f is goes so_far =
           so_far.no_count a.kind;
     }
 
-pub all_laid : (tree : Tree) (old new : Walk) (fields : List LaidField) (items : ℕ)
-    (layout : Layout)
-    → ((tree : Tree) (used : ℕ) (fields : List Told) (met : ℕ)
-    → used ≤ most_items → Allows (course tree used) fields met → Unrolls tree used fields met)
-    → ((tree : Tree) (used : ℕ) (fields : List Told) (met : ℕ)
-    → Unrolls tree used fields met → Allows (course tree used) fields met)
+none_at_end : (P : ℕ → Bool) (n : ℕ) → TellsNone P (ends n)
+unfolding TellsNone
+none_at_end P n = tt
+
+pub all_laid : (tree : Tree) (old new : Walk) (list : List ℕ) (fields : List LaidField)
+    (items : ℕ) (layout : Layout) → AreUnrolled → AreAllowed
     → Goes (left old) (Ok steps.End) new → items ≡ items_met new
-    → LaidSoFar (course tree 0) fields (left old) → HasPlaces fields items layout
+    → LaidSoFar (course tree 0) fields (left old) → HasPlaces list fields true items layout
     → IsLaid tree layout
-all_laid tree old new laid items layout unrolled allowed goes met so_far has =
+all_laid tree old new list laid items layout unrolled allowed goes met so_far has =
     let fields = map told_laid layout.fields in
     let here =
     subst (λ fs. LaidSoFar (course tree 0) fs (left old)) (sym has.same_fields) so_far in
     let end : left old ≡ ends layout.items =
     ends_there (left old) new goes ∙ ap ends (sym met ∙ sym has.same_items) in
-    let u =
-    unrolled tree 0 fields layout.items (omega arith)
-    (subst (After (course tree 0) fields) end here.behind) in
+    let first = subst (After (course tree 0) fields) end here.behind in
+    let u = unrolled tree 0 fields layout.items (omega arith) first in
     record {
       no_count = here.no_count;
-      asked = λ used room.
+      begins = record {
+        later = ends layout.items;
+        first = first;
+        no_more = none_at_end (is_listed layout.asked) layout.items;
+      };
+      whole = λ is used room.
           let sum : used + layout.items ≡ used + u.1 = omega (arith, u.3) in
           allowed tree used fields (used + layout.items) (u.0, u.1, u.2, sum, room);
+      placed = has.placed;
+    }
+
+-- the fields up to the last chosen one
+pub front_laid : (tree : Tree) (w : Walk) (list : List ℕ) (fields : List LaidField) (items : ℕ)
+    (layout : Layout) → LaidSoFar (course tree 0) fields (left w)
+    → TellsNone (is_listed list) (left w) → HasPlaces list fields false items layout
+    → IsLaid tree layout
+front_laid tree w list fields items layout so_far none has =
+    let here = subst (λ fs. LaidSoFar (course tree 0) fs (left w)) (sym has.same_fields) so_far in
+    record {
+      no_count = here.no_count;
+      begins = record {
+        later = left w;
+        first = here.behind;
+        no_more = subst (λ ds. TellsNone (is_listed ds) (left w)) (sym has.same_asked) none;
+      };
+      whole = λ is. absurd (let e = sym has.same_whole ∙ is in cc);
       placed = has.placed;
     }
 
@@ -119,23 +145,42 @@ field_uncounted i d spec one other (Some x) same =
     in_front (record { fxy = d; spec = spec; raw = x.0 }) (one (number_of x.0) x.1)
     (other (number_of x.0) x.1) (same (number_of x.0) x.1)
 
-read_as_laid : (used met i : ℕ) (c : Course) (fields : List LaidField) (front : List Bool)
-    → IsSteady used c → HaveNoCount fields → Allows c (map told_laid fields) met
-    → fields_at 1 i (laid_course fields) front ≡ uncounted (fields_at 1 i c front)
-unfolding After IsSteady fields_at laid_course
-read_as_laid used met i c [] front steady none asked =
-    ap (λ x. uncounted (fields_at 1 i x front)) (sym asked)
-read_as_laid used met i (ends n) (f ∷ fields) front steady none asked = absurd asked
-read_as_laid used met i (stops n fault) (f ∷ fields) front steady none asked = absurd asked
-read_as_laid used met i (asks m d spec more) (f ∷ fields) front steady none asked =
+-- the fields alone are those before an end, but for the number of items
+alone_uncounted : (met i : ℕ) (fields : List LaidField) (front : List Bool)
+    → fields_at 1 i (laid_course fields) front
+    ≡ uncounted (fields_at 1 i (laid_then fields (ends met)) front)
+unfolding fields_at laid_then
+alone_uncounted met i [] front = refl
+alone_uncounted met i (f ∷ fields) front =
+    field_uncounted i f.fxy f.spec (λ n rest. fields_at 1 (i + 1) (laid_course fields) rest)
+    (λ n rest. fields_at 1 (i + 1) (laid_then fields (ends met)) rest) (raw_at f.spec front)
+    (λ n rest. alone_uncounted met (i + 1) fields rest)
+
+field_same : (i d : ℕ) (spec : Spec) (one other : ℕ → List Bool → Result SubsetRead DataFault)
+    (o : Option (Raw × List Bool)) → ((n : ℕ) (rest : List Bool) → one n rest ≡ other n rest)
+    → field_then 1 i d spec one o ≡ field_then 1 i d spec other o
+field_same i d spec one other None same = refl
+field_same i d spec one other (Some x) same =
+    ap (with_front (record { fxy = d; spec = spec; raw = x.0 })) (same (number_of x.0) x.1)
+
+-- a course is read like the fields that it asks for first, and what it asks for later
+pub read_as_laid : (used i : ℕ) (c later : Course) (fields : List LaidField) (front : List Bool)
+    → IsSteady used c → HaveNoCount fields → After c (map told_laid fields) later
+    → fields_at 1 i (laid_then fields later) front ≡ fields_at 1 i c front
+unfolding After IsSteady fields_at laid_then
+read_as_laid used i c later [] front steady none asked =
+    ap (λ x. fields_at 1 i x front) (sym asked)
+read_as_laid used i (ends n) later (f ∷ fields) front steady none asked = absurd asked
+read_as_laid used i (stops n fault) later (f ∷ fields) front steady none asked = absurd asked
+read_as_laid used i (asks m d spec more) later (f ∷ fields) front steady none asked =
     let kind : same_kind spec.kind kinds.Count ≡ false =
     subst (λ (s : Spec). same_kind s.kind kinds.Count ≡ false) asked.1 none.0 in
-    (λ t. fields_at 1 i (asks 0 (asked.0 t) (asked.1 t) (λ number. laid_course fields)) front)
-    ∙ field_uncounted i d spec (λ n rest. fields_at 1 (i + 1) (laid_course fields) rest)
+    (λ t. fields_at 1 i (asks 0 (asked.0 t) (asked.1 t) (λ number. laid_then fields later)) front)
+    ∙ field_same i d spec (λ n rest. fields_at 1 (i + 1) (laid_then fields later) rest)
     (λ n rest. fields_at 1 (i + 1) (more n) rest) (raw_at spec front)
     (λ n rest.
-    read_as_laid m met (i + 1) (more 0) fields rest (steady.3 0) none.1 asked.2
-    ∙ ap (λ c. uncounted (fields_at 1 (i + 1) c rest)) (sym (steady.2 kind n)))
+    read_as_laid m (i + 1) (more 0) later fields rest (steady.3 0) none.1 asked.2
+    ∙ ap (λ c. fields_at 1 (i + 1) c rest) (sym (steady.2 kind n)))
 
 fields_uncounted : (found : Result SubsetRead DataFault) → fields_of (uncounted found)
     ≡ fields_of found
@@ -153,31 +198,34 @@ pub record Same (fields : List LaidField) (subset : Result SubsetRead DataFault)
   pub are : fields_of (fields_at 1 1 (laid_course fields) front) ≡ fields_of subset
 
 pub laid_fields : (tree : Tree) (layout : Layout) (used : ℕ) (front : List Bool)
-    → IsLaid tree layout → used + layout.items ≤ most_items
+    → IsLaid tree layout → layout.is_whole ≡ true → used + layout.items ≤ most_items
     → IsOk (fields_at 1 1 (course tree used) front)
     → Same layout.fields (fields_at 1 1 (course tree used) front) front
-laid_fields tree layout used front laid room ok =
+laid_fields tree layout used front laid whole room ok =
     let same =
-    read_as_laid used (used + layout.items) 1 (course tree used) layout.fields front
-    (course_steady tree used) laid.no_count (laid.asked used room) in
+    alone_uncounted (used + layout.items) 1 layout.fields front
+    ∙ ap uncounted
+    (read_as_laid used 1 (course tree used) (ends (used + layout.items)) layout.fields front
+    (course_steady tree used) laid.no_count (laid.whole whole used room)) in
     record {
       there = subst IsOk (sym same) (there_uncounted (fields_at 1 1 (course tree used) front) ok);
       are = ap fields_of same ∙ fields_uncounted (fields_at 1 1 (course tree used) front);
     }
 
-pub laid_here : (octets : List ℕ) (tree : Tree) (s : SubsetStart) (kept one other : Layout)
-    → one ≡ kept → other ≡ kept → IsLaid tree kept → s.used + one.items ≤ most_items
-    → BeginsAtStart octets tree s
-    → Same other.fields (subset_at octets tree s) (drop s.bit (bits octets))
-laid_here octets tree s kept one other same_one same_other laid room begins =
+pub laid_here : (octets : List ℕ) (tree : Tree) (s : SubsetStart) (kept one two three : Layout)
+    → one ≡ kept → two ≡ kept → three ≡ kept → IsLaid tree kept → one.is_whole ≡ true
+    → s.used + two.items ≤ most_items → BeginsAtStart octets tree s
+    → Same three.fields (subset_at octets tree s) (drop s.bit (bits octets))
+laid_here octets tree s kept one two three same_one same_two same_three laid whole room begins =
     subst (λ (l : Layout). Same l.fields (subset_at octets tree s) (drop s.bit (bits octets)))
-    (sym same_other)
+    (sym same_three)
     (laid_fields tree kept s.used (drop s.bit (bits octets)) laid
-    (subst (λ (l : Layout). s.used + l.items ≤ most_items) same_one room) begins.1)
+    (ap (λ (l : Layout). l.is_whole) (sym same_one) ∙ whole)
+    (subst (λ (l : Layout). s.used + l.items ≤ most_items) same_two room) begins.1)
 
 pub none_left : (fields : List LaidField) (reader : BitPlace) → length fields ≡ 0
     → StandLaid fields reader × (fields_laid fields reader ≡ [])
-unfolding fields_at laid_course
+unfolding fields_at laid_then
 none_left [] reader is = (refl, refl)
 none_left (f ∷ fields) reader is = absurd (omega (arith, is))
 
@@ -187,7 +235,7 @@ pub first_handed : (fields others : List LaidField) (f : LaidField) (reader rest
     → Handed (record { fxy = f.fxy; spec = f.spec; raw = raw })
     (fields_at 1 1 (laid_course fields) (ends_of.left reader))
     (fields_at 1 1 (laid_course others) (ends_of.left rest))
-unfolding laid_course
+unfolding laid_then
 first_handed [] others f reader rest raw is stand read = absurd cc
 first_handed (g ∷ fields) others f reader rest raw is stand read =
     let step : fields_at 1 1 (laid_course (f ∷ others)) (ends_of.left reader)
@@ -201,7 +249,7 @@ first_handed (g ∷ fields) others f reader rest raw is stand read =
 
 pub first_there : (others : List LaidField) (f : LaidField) (reader : BitPlace)
     → StandLaid (f ∷ others) reader → IsOk (raw_or_ends 1 1 (raw_at f.spec (ends_of.left reader)))
-unfolding fields_at laid_course
+unfolding fields_at laid_then
 first_there others f reader stand =
     asked_there (laid_course (f ∷ others)) 0 f.fxy f.spec (λ n. laid_course others)
     (ends_of.left reader) refl stand
@@ -261,7 +309,7 @@ one_more_passed P all fields others f reader passed size is so_far unasked takes
 pub first_asked : (P : ℕ → Bool) (fields others : List LaidField) (f : LaidField)
     (reader : BitPlace) → fields ≡ f ∷ others → P f.fxy ≡ true
     → FirstIsAsked P (fields_laid fields reader)
-unfolding fields_at laid_course
+unfolding fields_at laid_then
 first_asked P fields others f reader is asked =
     subst (λ fs. FirstIsAsked P (fields_laid fs reader)) (sym is)
     (asked_from P 1 1 f.fxy f.spec (λ n rest. fields_at 1 2 (laid_course others) rest)

@@ -1,6 +1,7 @@
 -- The chosen fields of a layout at their places.
 use Rattle.std.proofs.Common.{◌≡◌, ℕ, ◌+◌, ◌*◌, ◌/◌, ◌≤◌, Bool, true, false, cond, List, [], ◌∷◌, ◌++◌}
-use Rattle.std.proofs.Common.{Option, Some, None, Result, Ok, Err, length, drop, refl, sym, ap, subst, ◌∙◌}
+use Rattle.std.proofs.Common.{Option, Some, None, Result, Ok, Err, map, length, drop, refl, sym, ap}
+use Rattle.std.proofs.Common.{subst, ◌∙◌}
 use Rattle.std.proofs.Common.{append_assoc, append-nil, arith}
 use Rattle.std.specs.Prelude.{IsOk, nat_le, nat_lt}
 use Rattle.std.proofs.lemmas.Bool.{le-leb, ltb-true, ltb-false}
@@ -10,24 +11,32 @@ use Rattle.bufr_bits.specs.Bits.{bits}
 use Rattle.bufr_tables.specs.declared.element.Kind.{Kind}
 use Rattle.bufr_tables.specs.declared.element.Kind.TheVariants as kinds
 use Rattle.bufr_expand.specs.declared.operators.Spec.{Spec}
+use Rattle.bufr_expand.specs.Asked.{TellsNone}
+use Rattle.bufr_expand.specs.Courses.{Course, course}
+use Rattle.bufr_expand.specs.Steady.{course_steady}
 use Rattle.bufr_expand.specs.Trees.{Tree}
+use Rattle.bufr_expand.specs.Unrolling.{After}
 use Rattle.bufr_expand.specs.Limits.{most_items}
 use Rattle.bufr_fields.specs.declared.field.Raw.{Raw}
 use Rattle.bufr_fields.specs.declared.field.Field.{Field}
 use Rattle.bufr_fields.specs.declared.fault.DataFault.{DataFault}
+use Rattle.bufr_fields.specs.CourseLaws.{AreUnrolled, AreAllowed}
 use Rattle.bufr_data.specs.declared.plain.index.SubsetStart.{SubsetStart}
 use Rattle.bufr_data.specs.declared.plain.layout.LaidField.{LaidField}
 use Rattle.bufr_data.specs.declared.plain.layout.Layout.{Layout}
 use Rattle.bufr_data.specs.declared.plain.places.PlacedField.{PlacedField}
 use Rattle.bufr_data.specs.Chosen.{is_listed, chosen, field_size_by, field_size, placed_from}
 use Rattle.bufr_data.specs.Chosen.{placed, placed_then, fields_placed, HoldPlaced}
+use Rattle.bufr_data.specs.Handed.{NoneAsked}
 use Rattle.bufr_data.specs.Short.{greatest_short}
 use Rattle.bufr_data.specs.Plain.{SubsetRead, raw_at, field_then, fields_at}
-use Rattle.bufr_data.specs.Plain.Layouts.{laid_course, IsLaid}
+use Rattle.bufr_data.specs.Plain.Layouts.{laid_then, told_laid, HaveNoCount, IsLaid}
 use Rattle.bufr_data.specs.Plain.Reads.{raw_or_ends}
 use Rattle.bufr_data.specs.Plain.Starts.{PassesRaw, fields_of, subset_at, BeginsAtStart}
 use Rattle.bufr_data.proofs.PlainFacts.Alike.{text_takes}
-use Rattle.bufr_data.proofs.PlainFacts.Layouts.{with_front, laid_fields}
+use Rattle.bufr_data.proofs.AskedFacts.{none_read}
+use Rattle.bufr_data.proofs.FitFacts.{read_stands, standing_read}
+use Rattle.bufr_data.proofs.PlainFacts.Layouts.{with_front, read_as_laid}
 use Rattle.bufr_data.proofs.PlainFacts.Passed.{number_has_bits, number_passes}
 use Rattle.bufr_data.proofs.PlainFacts.Reads.{found_is}
 
@@ -140,63 +149,108 @@ unlisted_placed list places front f (Ok found) listed ok after =
     }
 unlisted_placed list places front f (Err e) listed ok after = absurd cc
 
--- the fields after one of a layout
-abbrev Later : List LaidField → ℕ → List Bool → Result SubsetRead DataFault
-Later fields i front = fields_at 1 (i + 1) (laid_course fields) front
+-- what is read after a field of a layout
+abbrev Later : List LaidField → Course → ℕ → List Bool → Result SubsetRead DataFault
+Later fields c i front = fields_at 1 (i + 1) (laid_then fields c) front
 
 field_placed : (listed : Bool) (list : List ℕ) (gap : ℕ) (f : LaidField) (fields : List LaidField)
-    (i : ℕ) (front : List Bool) (o : Option (Raw × List Bool)) → is_listed list f.fxy ≡ listed
+    (c : Course) (i : ℕ) (front : List Bool) (o : Option (Raw × List Bool))
+    → is_listed list f.fxy ≡ listed
     → raw_at f.spec (drop gap front) ≡ o → gap ≤ length front
-    → IsOk (field_then 1 i f.fxy f.spec (λ n rest. Later fields i rest) o)
-    → ((g : ℕ) (bs : List Bool) → g ≤ length bs → IsOk (Later fields i (drop g bs))
-    → ArePlaced list (placed_from list g fields) bs (Later fields i (drop g bs)))
+    → IsOk (field_then 1 i f.fxy f.spec (λ n rest. Later fields c i rest) o)
+    → ((g : ℕ) (bs : List Bool) → g ≤ length bs → IsOk (Later fields c i (drop g bs))
+    → ArePlaced list (placed_from list g fields) bs (Later fields c i (drop g bs)))
     → ArePlaced list
     (cond listed (placed gap f ∷ placed_from list 0 fields)
     (placed_from list (gap + field_size f.spec) fields)) front
-    (field_then 1 i f.fxy f.spec (λ n rest. Later fields i rest) o)
-field_placed listed list gap f fields i front None is read within ok after = absurd cc
-field_placed true list gap f fields i front (Some x) is read within ok after =
-    listed_placed list gap f (placed_from list 0 fields) front x (Later fields i x.1) is within
+    (field_then 1 i f.fxy f.spec (λ n rest. Later fields c i rest) o)
+field_placed listed list gap f fields c i front None is read within ok after = absurd cc
+field_placed true list gap f fields c i front (Some x) is read within ok after =
+    listed_placed list gap f (placed_from list 0 fields) front x (Later fields c i x.1) is within
     read ok (λ there. after 0 x.1 (omega arith) there)
-field_placed false list gap f fields i front (Some x) is read within ok after =
+field_placed false list gap f fields c i front (Some x) is read within ok after =
     let taken = size_taken f.spec (drop gap front) x read in
     let more = gap + field_size f.spec in
     let behind : drop more front ≡ x.1 = sym (taken.1 ∙ drop-drop (field_size f.spec) gap front) in
     unlisted_placed list (placed_from list more fields) front
-    (record { fxy = f.fxy; spec = f.spec; raw = x.0 }) (Later fields i x.1) is ok
+    (record { fxy = f.fxy; spec = f.spec; raw = x.0 }) (Later fields c i x.1) is ok
     (λ there.
-    subst (λ bs. ArePlaced list (placed_from list more fields) front (Later fields i bs)) behind
+    subst (λ bs. ArePlaced list (placed_from list more fields) front (Later fields c i bs)) behind
     (after more front (omega (arith, within, taken.0, length-drop gap front))
-    (subst (λ bs. IsOk (Later fields i bs)) (sym behind) there)))
+    (subst (λ bs. IsOk (Later fields c i bs)) (sym behind) there)))
 
-pub places_hold : (list : List ℕ) (gap : ℕ) (fields : List LaidField) (i : ℕ) (front : List Bool)
-    → gap ≤ length front → IsOk (fields_at 1 i (laid_course fields) (drop gap front))
+none_chosen : (list : List ℕ) (fields : List Field) → NoneAsked (is_listed list) fields
+    → chosen list fields ≡ []
+none_chosen list [] none = refl
+none_chosen list (f ∷ fields) none =
+    ap (λ b. cond b (f ∷ chosen list fields) (chosen list fields)) none.0
+    ∙ none_chosen list fields none.1
+
+-- the course after the fields has none of the chosen ones
+places_hold : (list : List ℕ) (gap : ℕ) (fields : List LaidField) (c : Course) (i : ℕ)
+    (front : List Bool) → TellsNone (is_listed list) c → gap ≤ length front
+    → IsOk (fields_at 1 i (laid_then fields c) (drop gap front))
     → ArePlaced list (placed_from list gap fields) front
-    (fields_at 1 i (laid_course fields) (drop gap front))
-unfolding fields_at laid_course
-places_hold list gap [] i front within ok = record { holds = tt; are = refl }
-places_hold list gap (f ∷ fields) i front within ok =
-    field_placed _ list gap f fields i front _ refl refl within ok
-    (λ g bs short there. places_hold list g fields (i + 1) bs short there)
+    (fields_at 1 i (laid_then fields c) (drop gap front))
+unfolding fields_at laid_then
+places_hold list gap [] c i front none within ok = record {
+  holds = tt;
+  are = sym (none_chosen list (fields_of (fields_at 1 i c (drop gap front)))
+      (none_read (is_listed list) 1 i c (drop gap front) none));
+}
+places_hold list gap (f ∷ fields) c i front none within ok =
+    field_placed _ list gap f fields c i front _ refl refl within ok
+    (λ g bs short there. places_hold list g fields c (i + 1) bs none short there)
+
+-- a subset has the same fields whatever items come before it in its message
+alone : AreUnrolled → AreAllowed → (tree : Tree) (used : ℕ) (front : List Bool) (f : SubsetRead)
+    → used ≤ most_items → fields_at 1 1 (course tree used) front ≡ Ok f
+    → (n : ℕ) × (fields_at 1 1 (course tree 0) front ≡ Ok (record f { items = n }))
+alone unrolled allowed tree used front f le read =
+    let stands = read_stands unrolled tree 1 used front f le read in
+    let n = stands.0.0 in (
+      n,
+      standing_read allowed tree 1 0 front (record f { items = n })
+          ((n, stands.0.1, omega arith, omega (arith, stands.0.2, stands.0.3)), stands.1),
+    )
+
+-- it is read like the fields of the layout, and what comes after them
+begun : AreUnrolled → AreAllowed → (tree : Tree) (used : ℕ) (fields : List LaidField)
+    (later : Course) (front : List Bool) (found : Result SubsetRead DataFault)
+    → HaveNoCount fields → After (course tree 0) (map told_laid fields) later → used ≤ most_items
+    → fields_at 1 1 (course tree used) front ≡ found → IsOk found
+    → IsOk (fields_at 1 1 (laid_then fields later) front)
+    × (fields_of (fields_at 1 1 (laid_then fields later) front) ≡ fields_of found)
+begun unrolled allowed tree used fields later front (Err e) none first le read ok = absurd cc
+begun unrolled allowed tree used fields later front (Ok f) none first le read ok =
+    let here = alone unrolled allowed tree used front f le read in
+    let same : fields_at 1 1 (laid_then fields later) front ≡ Ok (record f { items = here.0 }) =
+    read_as_laid 0 1 (course tree 0) later fields front (course_steady tree 0) none first
+    ∙ here.1 in
+    (subst IsOk (sym same) refl, ap fields_of same)
 
 -- the chosen fields of the subset at a start
-pub placed_here : (octets : List ℕ) (tree : Tree) (s : SubsetStart) (kept one two three : Layout)
+pub placed_here : AreUnrolled → AreAllowed
+    → (octets : List ℕ) (tree : Tree) (s : SubsetStart) (kept one two three : Layout)
     (asked : List ℕ) → one ≡ kept → two ≡ kept → three ≡ kept → IsLaid tree kept
     → s.used + one.items ≤ most_items → BeginsAtStart octets tree s → two.asked ≡ asked
     → ArePlaced asked three.places (drop s.bit (bits octets)) (subset_at octets tree s)
-placed_here octets tree s kept one two three asked same_one same_two same_three laid room begins is =
+placed_here unrolled allowed octets tree s kept one two three asked same_one same_two same_three
+    laid room begins is =
     let front = drop s.bit (bits octets) in
-    let same =
-    laid_fields tree kept s.used front laid
-    (subst (λ (l : Layout). s.used + l.items ≤ most_items) same_one room) begins.1 in
-    let held = places_hold asked 0 kept.fields 1 front (omega arith) same.there in
     let list : kept.asked ≡ asked = ap (λ (l : Layout). l.asked) (sym same_two) ∙ is in
+    let later = laid.begins.later in
+    let same =
+    begun unrolled allowed tree s.used kept.fields later front (subset_at octets tree s)
+    laid.no_count laid.begins.first (omega (arith, room)) refl begins.1 in
+    let none = subst (λ ds. TellsNone (is_listed ds) later) list laid.begins.no_more in
+    let held = places_hold asked 0 kept.fields later 1 front none (omega arith) same.0 in
     let places : three.places ≡ placed_from asked 0 kept.fields =
     ap (λ (l : Layout). l.places) same_three ∙ laid.placed
     ∙ ap (λ ds. placed_from ds 0 kept.fields) list in
     subst (λ ps. ArePlaced asked ps front (subset_at octets tree s)) (sym places) (record {
       holds = held.holds;
-      are = held.are ∙ ap (chosen asked) same.are;
+      are = held.are ∙ ap (chosen asked) same.1;
     })
 
 -- ---- one place after another

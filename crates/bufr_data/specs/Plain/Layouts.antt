@@ -1,7 +1,7 @@
--- Layouts: the fields of every plain subset of a tree, if no count decides them (FM 94 BUFR,
--- regulations 94.5.4 and 94.5.5).
-use Rattle.std.specs.Prelude.{◌≡◌, ℕ, ◌+◌, ◌≤◌, false, List, [], ◌∷◌, map, Option, Some, None}
-use Rattle.std.specs.Prelude.{Ok}
+-- Layouts: the fields of every plain subset of a tree, up to the first that a count decides (FM 94
+-- BUFR, regulations 94.5.4 and 94.5.5).
+use Rattle.std.specs.Prelude.{◌≡◌, ℕ, ◌+◌, ◌≤◌, Bool, true, false, List, [], ◌∷◌, map, Option, Some}
+use Rattle.std.specs.Prelude.{None, Ok}
 use Rattle.std.specs.List.{AllByRecursion}
 use Rattle.bufr_tables.specs.declared.element.Kind.TheVariants as kinds
 use Rattle.bufr_tables.specs.Elements.{same_kind}
@@ -10,18 +10,23 @@ use Rattle.bufr_expand.specs.declared.walk.Walk.{Walk}
 use Rattle.bufr_expand.specs.Walks.{left, Goes}
 use Rattle.bufr_expand.specs.Courses.{Course, ends, asks, course}
 use Rattle.bufr_expand.specs.Trees.{Tree}
-use Rattle.bufr_expand.specs.Unrolling.{Told, Allows}
+use Rattle.bufr_expand.specs.Asked.{TellsNone}
+use Rattle.bufr_expand.specs.Unrolling.{Told, After, Allows}
 use Rattle.bufr_expand.specs.Limits.{most_items}
 use Rattle.bufr_data.specs.declared.plain.layout.LaidField.{LaidField}
 use Rattle.bufr_data.specs.declared.plain.layout.Layout.{Layout}
 use Rattle.bufr_data.specs.declared.plain.plan.FieldLayout.{FieldLayout}
-use Rattle.bufr_data.specs.Chosen.{placed_from}
+use Rattle.bufr_data.specs.Chosen.{is_listed, placed_from}
 use Rattle.bufr_data.specs.declared.plain.plan.FieldLayout.TheVariants.{Unserved, Served, Laid, Unlaid}
 
--- the course that asks for these fields, whatever their numbers are
-unfoldable pub laid_course : List LaidField → Course
-laid_course [] = ends 0
-laid_course (f ∷ fields) = asks 0 f.fxy f.spec (λ number. laid_course fields)
+-- the course that asks for these fields, whatever their numbers are, and then goes on
+unfoldable pub laid_then : List LaidField → Course → Course
+laid_then [] later = later
+laid_then (f ∷ fields) later = asks 0 f.fxy f.spec (λ number. laid_then fields later)
+
+-- the course that asks for these fields alone
+abbrev pub laid_course : List LaidField → Course
+laid_course fields = laid_then fields (ends 0)
 
 -- a field of a layout as unrollings have it, with 0 for its unknown number
 abbrev pub told_laid : LaidField → Told
@@ -31,17 +36,28 @@ told_laid f = record { fxy = f.fxy; spec = f.spec; number = 0 }
 abbrev pub HaveNoCount : List LaidField → Type 0
 HaveNoCount fields = AllByRecursion (λ f. same_kind f.spec.kind kinds.Count ≡ false) fields
 
--- every subset of this tree has these fields, none a count, and these items: its course asks for
--- exactly them, if the message has room; the chosen fields have their places
+-- a course asks for these fields first, and for none of the chosen ones after them
+pub record BeginsWithLaid (c : Course) (fields : List LaidField) (list : List ℕ) : Type 0 where
+  pub later : Course
+  pub first : After c (map told_laid fields) later
+  pub no_more : TellsNone (is_listed list) later
+
+-- every subset of this tree begins with these fields, none a count, and has no chosen field after
+-- them; the chosen fields have their places. If they are all fields, the course asks for exactly
+-- them, with these items, if the message has room
 pub record IsLaid (tree : Tree) (layout : Layout) : Type 0 where
   pub no_count : HaveNoCount layout.fields
-  pub asked : (used : ℕ) → used + layout.items ≤ most_items
+  pub begins : BeginsWithLaid (course tree 0) layout.fields layout.asked
+  pub whole : layout.is_whole ≡ true → (used : ℕ) → used + layout.items ≤ most_items
       → Allows (course tree used) (map told_laid layout.fields) (used + layout.items)
   pub placed : layout.places ≡ placed_from layout.asked 0 layout.fields
 
 -- the layout of these fields and items, with the places of the fields that were asked for
-pub record HasPlaces (fields : List LaidField) (items : ℕ) (layout : Layout) : Type 0 where
+pub record HasPlaces (asked : List ℕ) (fields : List LaidField) (whole : Bool) (items : ℕ)
+    (layout : Layout) : Type 0 where
+  pub same_asked : layout.asked ≡ asked
   pub same_fields : layout.fields ≡ fields
+  pub same_whole : layout.is_whole ≡ whole
   pub same_items : layout.items ≡ items
   pub placed : layout.places ≡ placed_from layout.asked 0 layout.fields
 

@@ -78,7 +78,9 @@ impl<'a> PlainSubsets<'a> {
         let start = self.starts.at(index);
         match &self.layout {
             Some(layout)
-                if self.octets.len() <= MOST_COUNTED_OCTETS && layout.has_room(start.used) => {
+                if layout.is_whole
+                    && self.octets.len() <= MOST_COUNTED_OCTETS
+                    && layout.has_room(start.used) => {
                 let reader = LaidReader::at(self.octets, start.bit as u64);
                 let fields = layout.fields.as_slice();
                 let laid = LaidFields { fields, reader };
@@ -114,6 +116,7 @@ impl<'a> PlainSubsets<'a> {
         ensures { IfSome result (λ fields. IfSome (slice_get self.now index) (λ s.
             fields ≡ chosen asked.now s.fields)) }
     {
+        courses_are_unrollings();
         let start = self.starts.at(index);
         match &self.layout {
             Some(layout)

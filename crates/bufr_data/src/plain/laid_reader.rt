@@ -1,6 +1,6 @@
 //! Reads the bits of fields with a layout.
 
-ghost use Rattle.std.specs.Prelude.{◌≡◌, ◌+◌, ◌*◌, ◌^◌, ◌<◌, ◌≤◌, drop, length, Bool, List, Ok};
+ghost use Rattle.std.specs.Prelude.{◌≡◌, ◌+◌, ◌-◌, ◌*◌, ◌^◌, ◌<◌, ◌≤◌, drop, length, Bool, List, Ok};
 ghost use Rattle.std.specs.Prelude.{IsOk, IfSome, IfNone, OnErr};
 ghost use Rattle.bufr_base.specs.Answers.{Gives};
 ghost use Rattle.bufr_bits.specs.Ends.{left};
@@ -13,7 +13,6 @@ ghost use Rattle.bufr_data.specs.Plain.Reads.{raw_or_ends};
 use crate::plain::read::read_raw;
 use bufr_base::Failure;
 use bufr_bits::BitReader;
-use bufr_bits::laws::number_taken_was_put;
 use bufr_expand::Spec;
 use bufr_fields::{DataFault, Raw};
 use bufr_tables::Kind;
@@ -117,21 +116,22 @@ impl<'a> LaidReader<'a> {
         }
     }
 
-    /// Takes a number of at most 16 bits that is there after `gap` bits.
+    /// Takes a number of at most 16 bits that is there after `gap` bits; `greatest` is the greatest of
+    /// as many bits.
     #[inline(always)]
-    pub(crate) fn short_after(&mut self, gap: u64, spec: Spec) -> u16
+    pub(crate) fn short_after(&mut self, gap: u64, spec: Spec, greatest: u16) -> u16
         requires within { gap ≤ length (left self.old) }
         requires there { IsOk (raw_or_ends 1 1 (raw_at spec (drop gap (left self.old)))) }
         requires other { spec.kind ≡ Text → ⊥ }
         requires narrow { spec.width ≤ 16 }
+        requires ones { greatest ≡ 2 ^ spec.width - 1 }
         ensures found { raw_or_ends 1 1
             (raw_at spec (drop gap (left self.old))) ≡ Ok (Number result, left self.new) }
     {
-        number_taken_was_put();
         self.move_on(gap);
-        let number = self.here().take_left(spec.width);
+        let number = self.here().take_short(spec.width, greatest);
         self.move_on(u64::from(spec.width));
-        number as u16
+        number
     }
 
     /// Takes a value that is there after `gap` bits.

@@ -1,4 +1,4 @@
-//! Lays out the fields of plain subsets: without counts, all have the same.
+//! Lays out the fields of plain subsets: up to the first count, all have the same.
 
 ghost use Rattle.std.specs.Prelude.{◌≡◌, ◌+◌, ◌≤◌, IfOk, IfSome};
 ghost use Rattle.std.specs.Bool.{OnTrue};
@@ -6,10 +6,11 @@ ghost use Rattle.bufr_expand.specs.Limits.{most_items};
 ghost use Rattle.bufr_data.specs.Plain.Layouts.{HasPlaces, IsLaid, TellsNext};
 ghost use Rattle.bufr_fields.specs.Steady.{IsReady};
 
+use crate::chosen::Listed;
 use crate::plain::places::{PlacedField, place_fields};
 use bufr_base::{Items, OutOfMemory};
 use bufr_expand::laws::courses_are_unrollings;
-use bufr_expand::{MOST_ITEMS, Spec, Step, Template, Walk};
+use bufr_expand::{Asks, MOST_ITEMS, Spec, Step, Template, Walk};
 use bufr_tables::Fxy;
 use std::alloc::Global;
 
@@ -23,19 +24,22 @@ pub(crate) struct LaidField {
     pub(crate) spec: Spec,
 }
 
-/// A layout: the fields of every subset in order, the number of its items, and the places of the
-/// fields of some descriptors.
+/// A layout: the first fields of every subset in order, the number of their items, and the places of
+/// the fields of some descriptors. No such field comes after these.
 #[derive(Drop)]
 pub(crate) struct Layout {
     pub(crate) fields: Items<LaidField>,
+    /// Whether these are all fields of a subset.
+    pub(crate) is_whole: bool,
     pub(crate) items: u64,
     pub(crate) asked: Items<u16>,
     pub(crate) places: Items<PlacedField>,
 }
 
 impl Layout {
-    /// Walks the template once, and places the fields of the descriptors asked for. `None` if there
-    /// is a count, a field without a spec, or too many fields or bits.
+    /// Walks the template, and places the fields of the descriptors asked for. A template with a
+    /// count is laid out up to the last of these fields. `None` if a count comes before it, or a field
+    /// without a spec, or too many fields or bits.
     pub(crate) fn of(
         alloc: Global,
         template: &Template,
@@ -51,11 +55,36 @@ impl Layout {
                 Ok(Some(field)) if fields.len() < MOST_LAID_FIELDS => fields.push(field)?,
                 Ok(None) => {
                     let items = walk.items();
-                    return laid_out(alloc, asked, fields, items);
+                    return laid_out(alloc, asked, fields, true, items);
                 }
-                _ => return Ok(None),
+                _ => return Layout::of_front(alloc, template, asked),
             }
         }
+    }
+
+    /// Lays out the fields up to the last that is asked for.
+    fn of_front(
+        alloc: Global,
+        template: &Template,
+        asked: &[u16],
+    ) -> Result<Option<Layout>, OutOfMemory>
+        ensures { IfOk result (λ found. IfSome found (IsLaid template.now)) }
+    {
+        let listed = Listed { list: asked };
+        let mut walk = Walk::start(alloc, template, 0)?;
+        let mut fields = Vec::new(alloc);
+        while let Ok(Some(field)) = next_laid(&mut walk) {
+            if fields.len() == MOST_LAID_FIELDS {
+                return Ok(None);
+            }
+            let fxy = field.fxy;
+            fields.push(field)?;
+            if listed.asks(fxy) && walk.tells_no_more(&listed) {
+                let items = walk.items();
+                return laid_out(alloc, asked, fields, false, items);
+            }
+        }
+        Ok(None)
     }
 
     /// Returns whether the message has room for one more subset.
@@ -71,9 +100,11 @@ fn laid_out(
     alloc: Global,
     asked: &[u16],
     fields: Vec<LaidField>,
+    is_whole: bool,
     items: u64,
 ) -> Result<Option<Layout>, OutOfMemory>
-    ensures { IfOk result (λ found. IfSome found (HasPlaces fields.items items)) }
+    ensures { IfOk result (λ found. IfSome found
+        (HasPlaces asked.now fields.items is_whole items)) }
 {
     let Some(places) = place_fields(alloc, asked, &fields)? else {
         return Ok(None);
@@ -81,6 +112,7 @@ fn laid_out(
     let asked = Vec::from_slice(alloc, asked)?;
     Ok(Some(Layout {
         fields: Items::from_vec(fields),
+        is_whole,
         items,
         asked: Items::from_vec(asked),
         places: Items::from_vec(places),

@@ -46,7 +46,9 @@ impl<'v> PlacedFields<'v> {
         };
         let place = *place;
         let greatest = place.greatest?;
-        let number = self.reader.short_after(place.gap, place.field.spec);
+        let number = self
+            .reader
+            .short_after(place.gap, place.field.spec, greatest);
         self.places = others;
         Some(ShortNumber::of_raw(place.field.fxy, number, greatest))
     }

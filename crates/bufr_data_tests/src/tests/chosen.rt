@@ -2,8 +2,8 @@
 
 use super::same;
 use super::samples::{
-    BETWEEN, BETWEEN_OCTETS, DELAYED, Descriptors, EIGHT_BLOCKS, MIXED, MIXED_COLUMNS, MIXED_PLAIN,
-    number_of, template, text_of,
+    BEFORE_A_COUNT, BEFORE_A_COUNT_OCTETS, BETWEEN, BETWEEN_OCTETS, DELAYED, Descriptors,
+    EIGHT_BLOCKS, MIXED, MIXED_COLUMNS, MIXED_PLAIN, number_of, same_subset, template, text_of,
 };
 use bufr_bits::BitReader;
 use bufr_data::{ChosenFields, DataTemplate, Field, SubsetIndex};
@@ -18,6 +18,9 @@ const TEMPERATURES: &[u16] = &[0x0C65];
 
 /// Blocks, station numbers, names and temperatures.
 const ALL: &[u16] = &[0x0101, 0x0102, 0x010B, 0x0C65];
+
+/// Blocks and station numbers.
+const STATIONS: &[u16] = &[0x0101, 0x0102];
 
 /// Station numbers, names and temperatures: 0 01 002, 0 01 011 and 0 12 101.
 const OTHERS: &[u16] = &[0x0C65, 0x010B, 0x0102];
@@ -234,6 +237,51 @@ fn each_subset_has_its_places(rt: HostRuntime) {
     }
     drop(index);
     drop(kept);
+}
+
+/// Fields before a count have places from the second message on, whatever the counts are. All fields
+/// still come, those after the count too.
+#[test]
+fn places_before_a_count(rt: HostRuntime) {
+    let alloc = rt.alloc();
+    let octets = BEFORE_A_COUNT_OCTETS;
+    let mut kept = DataTemplate::new(template(&rt, alloc, BEFORE_A_COUNT));
+    let first = indexed(&rt, alloc, &mut kept, STATIONS, false, octets, 2);
+    has_numbers(&rt, alloc, &first, STATIONS, 0, None);
+    for _ in 0..2 {
+        let index = indexed(&rt, alloc, &mut kept, STATIONS, false, octets, 2);
+        has_numbers(&rt, alloc, &index, STATIONS, 0, Some(&[10, 384]));
+        has_numbers(&rt, alloc, &index, STATIONS, 1, Some(&[11, 385]));
+        has_numbers(&rt, alloc, &index, BLOCKS, 0, None);
+        has_subset(&rt, alloc, &index, 0, &[10, 384, 2, 27315, 1]);
+        has_subset(&rt, alloc, &index, 1, &[11, 385, 0]);
+        drop(index);
+    }
+    drop(first);
+    drop(kept);
+}
+
+fn has_subset(rt: &impl Abort, alloc: Global, index: &SubsetIndex, at: usize, numbers: &[u64]) {
+    assert!(rt; at < index.count());
+    let subset = index.subset(alloc, at).expect(rt, "room");
+    same_subset(rt, &subset, numbers, &[]);
+    drop(subset);
+}
+
+/// Fields have no places if one of their descriptors comes after a count, or is the count's.
+#[test]
+fn no_places_before_a_count(rt: HostRuntime) {
+    let alloc = rt.alloc();
+    let octets = BEFORE_A_COUNT_OCTETS;
+    for asked in [ALL, &[0x0101, 0x1F01], &[0x1F01]] {
+        let mut kept = DataTemplate::new(template(&rt, alloc, BEFORE_A_COUNT));
+        let first = indexed(&rt, alloc, &mut kept, asked, false, octets, 2);
+        let index = indexed(&rt, alloc, &mut kept, asked, false, octets, 2);
+        has_numbers(&rt, alloc, &index, asked, 0, None);
+        drop(index);
+        drop(first);
+        drop(kept);
+    }
 }
 
 /// Without a list no field is chosen, and after a count no place is known.

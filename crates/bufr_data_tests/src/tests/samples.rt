@@ -42,6 +42,21 @@ pub(crate) const BETWEEN_OCTETS: &[u8] = &[
     0x80, 0x58, 0xC6, 0x03, 0xFB, 0x55, 0x98,
 ];
 
+/// A block and a station number before a count of temperatures.
+pub(crate) const BEFORE_A_COUNT: Descriptors = &[
+    (0, 1, 1),
+    (0, 1, 2),
+    (1, 1, 0),
+    (0, 31, 1),
+    (0, 12, 101),
+];
+
+/// Two subsets: 10 in seven bits, 384 in ten, a count of two in eight, 27315 and 1 in 16; 11, 385,
+/// and a count of none.
+pub(crate) const BEFORE_A_COUNT_OCTETS: &[u8] = &[
+    0x14, 0xC0, 0x01, 0x35, 0x59, 0x80, 0x00, 0x8B, 0x60, 0x40, 0x00,
+];
+
 pub(crate) const MIXED: Descriptors = &[
     (0, 2, 1),
     (0, 12, 101),

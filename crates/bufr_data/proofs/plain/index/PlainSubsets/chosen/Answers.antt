@@ -9,7 +9,8 @@ pub invariant_of-result : goal.invariant_of-result
 invariant_of-result c =
     let laid = rw c.in-Some.is at c.self.invariant.1 in
     rw (c.as_slice-places.ensures, c.at-reader.ensures)
-    (placed_here c.self.inside.octets.now c.self.inside.template c.at-start.result
+    (placed_here c.courses_are_unrollings.ensures.unrolled c.courses_are_unrollings.ensures.allowed
+    c.self.inside.octets.now c.self.inside.template c.at-start.result
     c.in-Some.layout.value c.deref.result.now c.deref-then-has_room.result.now
     c.deref-in-Some.result.now c.args.asked.now c.deref.ensures c.deref-then-has_room.ensures
     c.deref-in-Some.ensures laid c.if-has_room.ensures
@@ -25,7 +26,8 @@ returns-in-Some c =
       c.as_slice-places.ensures,
       c.at-reader.ensures,
     )
-    (placed_here c.self.inside.octets.now c.self.inside.template c.at-start.result
+    (placed_here c.courses_are_unrollings.ensures.unrolled c.courses_are_unrollings.ensures.allowed
+    c.self.inside.octets.now c.self.inside.template c.at-start.result
     c.in-Some.layout.value c.deref.result.now c.deref-then-has_room.result.now
     c.deref-in-Some.result.now c.args.asked.now c.deref.ensures c.deref-then-has_room.ensures
     c.deref-in-Some.ensures laid c.if-has_room.ensures

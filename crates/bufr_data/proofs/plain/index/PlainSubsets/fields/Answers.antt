@@ -17,8 +17,9 @@ invariant_of-laid c =
     let laid = rw c.in-Some.is at c.self.invariant.1 in
     rw (c.as_slice-fields.ensures, c.at-reader.ensures)
     (laid_here c.self.inside.octets.now c.self.inside.template c.at-start.result
-    c.in-Some.layout.value c.deref.result.now c.deref-in-Some.result.now c.deref.ensures
-    c.deref-in-Some.ensures laid c.if-has_room.ensures
+    c.in-Some.layout.value c.deref.result.now c.deref-then-self-le-MOST_COUNTED_OCTETS.result.now
+    c.deref-in-Some.result.now c.deref.ensures c.deref-then-self-le-MOST_COUNTED_OCTETS.ensures
+    c.deref-in-Some.ensures laid c.if-deref.true c.if-has_room.ensures
     (begins_there _ _ _ c.args.index _ c.self.invariant.0 c.at-start.ensures)).there
 
 pub returns-in-Some : goal.returns-in-Some
@@ -28,8 +29,9 @@ returns-in-Some c =
     ≡ fields_of (subset_at c.self.inside.octets.now c.self.inside.template c.at-start.result) =
     rw (c.as_slice-fields.ensures, c.at-reader.ensures)
     (laid_here c.self.inside.octets.now c.self.inside.template c.at-start.result
-    c.in-Some.layout.value c.deref.result.now c.deref-in-Some.result.now c.deref.ensures
-    c.deref-in-Some.ensures laid c.if-has_room.ensures
+    c.in-Some.layout.value c.deref.result.now c.deref-then-self-le-MOST_COUNTED_OCTETS.result.now
+    c.deref-in-Some.result.now c.deref.ensures c.deref-then-self-le-MOST_COUNTED_OCTETS.ensures
+    c.deref-in-Some.ensures laid c.if-deref.true c.if-has_room.ensures
     (begins_there _ _ _ c.args.index _ c.self.invariant.0 c.at-start.ensures)).are in
     fields_shown c.self.inside.octets.now c.self.inside.template c.self.inside.starts
     c.args.self.now c.args.index c.at-start.result

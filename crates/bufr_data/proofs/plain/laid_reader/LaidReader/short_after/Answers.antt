@@ -1,5 +1,4 @@
-use Rattle.std.proofs.Common.{◌^◌, ◌≤◌, sym, subst, arith}
-use Rattle.std.proofs.Math.Pow.{pow_mono}
+use Rattle.std.proofs.Common.{sym, subst}
 use Rattle.std.specs.Prelude.{IsOk}
 use Rattle.bufr_bits.specs.Ends.{left}
 use Rattle.bufr_data.specs.Handed.{moved_on}
@@ -9,8 +8,8 @@ use Rattle.bufr_data.proofs.PlainFacts.Layouts.{left_moved}
 use Rattle.bufr_data.proofs.PlainFacts.Passed.{number_has_bits}
 use Rattle.bufr_data.proofs.plain.laid_reader.LaidReader.short_after.Goals as goal
 
-pub take_left-number-requires-clause-enough : goal.take_left-number-requires-clause-enough
-take_left-number-requires-clause-enough c =
+pub take_short-number-requires-clause-enough : goal.take_short-number-requires-clause-enough
+take_short-number-requires-clause-enough c =
     let there =
     subst (λ bs. IsOk (raw_or_ends 1 1 (raw_at c.args.spec bs)))
     (sym (left_moved c.args.self.now c.args.gap)) c.requires.there in
@@ -26,9 +25,3 @@ move_on-requires-2 c =
     rw (c.from.ensures, c.move_on.ensures)
     (number_has_bits c.args.spec (left (moved_on c.args.self.now c.args.gap)) c.requires.other
     there).enough
-
-pub overflow_cast-result : goal.overflow_cast-result
-overflow_cast-result c =
-    let fits = (c.number_taken_was_put.ensures _ _ _ _ c.take_left-number.ensures.found).1 in
-    let most : 2 ^ c.args.spec.width ≤ 2 ^ 16 = pow_mono c.requires.narrow in
-    omega (arith, fits, most)

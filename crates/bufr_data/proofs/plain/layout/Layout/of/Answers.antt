@@ -38,6 +38,6 @@ returns-in-Ok-None c =
     IfOk-weaker c.laid_out.result _ _
     (λ found made. IfSome_then found made
     (λ layout has. all_laid c.args.template.now c.loop-field.walk c.next_laid.new.walk
-    c.loop-field.fields.items c.items-items.result layout law.unrolled law.allowed goes
+    c.args.asked.now c.loop-field.fields.items c.items-items.result layout law.unrolled law.allowed goes
     c.items-items.ensures c.loop-field.invariant.so_far has))
     c.laid_out.ensures
