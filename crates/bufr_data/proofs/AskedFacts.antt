@@ -1,6 +1,7 @@
 -- Skipping fields one by one up to the first chosen one; a walk ahead that finds no chosen field.
 use Rattle.std.proofs.Common.{◌≡◌, ℕ, ◌+◌, Bool, true, false, List, [], ◌∷◌, ◌++◌, sym, subst}
 use Rattle.std.proofs.Common.{Option, Some, None, Result, Ok, Err}
+use Rattle.std.specs.Bool.{OnTrue}
 use Rattle.std.specs.Prelude.{OnErr, IfSome, IfNone}
 use Rattle.std.proofs.Common.{ap, ◌∙◌, append_assoc, append-nil}
 use Rattle.bufr_bits.specs.Ends.{BitPlace, left}
@@ -119,3 +120,9 @@ none_ahead P Nothing w r fields e view h = absurd cc
 pub on_refusal : {T E P : Type 0} (answer : Result T E) → P → OnErr answer P
 on_refusal (Ok x) holds = tt
 on_refusal (Err e) holds = holds
+
+pub none_if_told : (P : ℕ → Bool) (due : Due) (w : Walk) (r : BitPlace) (fields : List Field)
+    (told : Bool) → due ≡ Step → fields_ahead due w r ≡ fields
+    → OnTrue told (TellsNone P (walks.left w)) → OnTrue told (NoneAsked P fields)
+none_if_told P due w r fields true e view h = none_ahead P due w r fields e view h
+none_if_told P due w r fields false e view h = tt

@@ -1,18 +1,21 @@
 //! A template with what is known of its subsets.
 
-ghost use Rattle.std.specs.Prelude.{◌≡◌, Bool, List, IfOk, OnErr};
+ghost use Rattle.std.specs.Prelude.{◌≡◌, Bool, List, Ok, IfOk, OnErr};
+ghost use Rattle.std.specs.Bool.{OnTrue, OnFalse};
 ghost use Rattle.bufr_bits.specs.Ends.{left};
 ghost use Rattle.bufr_base.specs.Answers.{Gives};
 ghost use Rattle.bufr_fields.specs.declared.field.Subset.{Subset as ASubset};
 ghost use Rattle.bufr_data.specs.Data.{subsets_in};
 
 use crate::plain::alike::FixedSize;
+use crate::plain::index::pass_all;
 use crate::plain::plan::FieldLayout;
 use crate::subset_index::{SubsetIndex, index_known};
 use crate::subsets::read_subsets;
 use bufr_base::{Failure, Items, OutOfMemory};
 use bufr_bits::BitReader;
 use bufr_expand::Template;
+use bufr_expand::laws::courses_are_unrollings;
 use bufr_fields::{DataFault, Subset};
 use std::alloc::Global;
 use std::marker::Model;
@@ -78,6 +81,35 @@ impl DataTemplate {
         read_subsets(alloc, &self.template, compressed, count, reader)
     }
 
+    /// Passes the subsets of a message if they are plain and have a known common size. Else returns
+    /// false.
+    #[inline(always)]
+    pub fn pass_alike(
+        &mut self,
+        alloc: Global,
+        compressed: bool,
+        reader: &mut BitReader,
+        count: u16,
+    ) -> Result<bool, OutOfMemory>
+        ensures passed { IfOk result (λ passed. OnTrue passed ((subsets : List ASubset)
+            × (subsets_in self.old compressed count (left reader.old)
+            ≡ Ok (subsets, left reader.new)))) }
+        ensures octets { reader.new.octets ≡ reader.old.octets }
+        ensures unmoved { IfOk result (λ passed. OnFalse passed (reader.new ≡ reader.old)) }
+        ensures err { OnErr result (reader.new ≡ reader.old) }
+        ensures same { self.new ≡ self.old }
+    {
+        courses_are_unrollings();
+        let _left = reader.left();
+        if compressed || count == 0 {
+            return Ok(false);
+        }
+        let Some(each) = self.likeness.ask(alloc, &self.template, reader)? else {
+            return Ok(false);
+        };
+        Ok(pass_all(each, reader, count))
+    }
+
     /// Indexes the subsets of a message like `SubsetIndex::index`, and keeps what it learns for the
     /// next one.
     pub fn index<'a>(
@@ -119,8 +151,8 @@ impl DataTemplate {
             self.likeness.ask(alloc, &self.template, reader)?
         };
         let template = self.template.share()?;
-        let has_places = !compressed && count > 0 && !asked.is_empty();
-        let layout = if alike.is_some() || has_places {
+        let wants_places = !compressed && count > 0 && !asked.is_empty();
+        let layout = if alike.is_some() || wants_places {
             self.plan.serve(alloc, &self.template, asked, count)?
         } else {
             None

@@ -2,7 +2,8 @@
 
 ghost use Rattle.std.specs.Prelude.{◌≡◌, Some, IfOk, IfErr, IfSome, IfNone, OnErr};
 ghost use Rattle.bufr_fields.specs.Values.{as_field};
-ghost use Rattle.bufr_data.specs.Handed.{HandsOut, HandsOutAsked, PassesUnasked};
+ghost use Rattle.std.specs.Bool.{OnTrue};
+ghost use Rattle.bufr_data.specs.Handed.{HandsOut, HandsOutAsked, NoneAsked, PassesUnasked};
 
 use crate::compressed::fields::ColumnFields;
 use crate::plain::fields::PlainFields;
@@ -85,6 +86,16 @@ impl<'v> Fields<'v> {
             FieldSource::Plain(fields) => fields.next_asked_number(asked),
             FieldSource::Laid(fields) => fields.next_asked_number(asked),
             FieldSource::Compressed(fields) => fields.next_asked_number(asked),
+        }
+    }
+
+    /// Returns true if the template shows that no chosen field is left.
+    pub fn tells_no_more<A: Asks>(&self, asked: &A) -> bool
+        ensures { OnTrue result (NoneAsked (A.is_asked asked.now) self.now) }
+    {
+        match &self.standing {
+            FieldSource::Plain(fields) => fields.tells_no_more(asked),
+            FieldSource::Laid(_) | FieldSource::Compressed(_) => false,
         }
     }
 

@@ -6,6 +6,7 @@ mod chosen;
 mod decimals;
 mod index;
 mod many;
+mod passed;
 mod refused;
 mod samples;
 

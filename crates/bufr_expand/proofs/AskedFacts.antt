@@ -1,24 +1,29 @@
 -- If no node ahead is a chosen field, the course has none.
 use Rattle.std.proofs.Common.{◌≡◌, ℕ, zero, suc, ◌+◌, ◌-◌, ◌&&◌, Bool, true, false, List, [], ◌∷◌}
-use Rattle.std.proofs.Common.{take, drop, Option, Some, None, not, sym, subst, refl, ltb}
+use Rattle.std.proofs.Common.{◌<◌, ◌∙◌, length, take, drop, Option, Some, None, not, sym, subst}
+use Rattle.std.proofs.Common.{refl, ltb}
 use Rattle.std.specs.Bool.{OnTrue}
 use Rattle.std.specs.List.{list_all}
+use Rattle.std.specs.Prelude.{slice_get}
 use Rattle.std.proofs.lemmas.Bool.{cond_both}
+use Rattle.std.proofs.lemmas.List.Folds.{list_all_more}
+use Rattle.std.proofs.lemmas.Option.{get_or_from_slice_get}
 use Rattle.bufr_expand.specs.declared.node.Node.{Node}
 use Rattle.bufr_expand.specs.declared.node.Node.TheVariants as nodes
 use Rattle.bufr_expand.specs.declared.operators.Operators.{Operators}
 use Rattle.bufr_expand.specs.declared.operators.Spec.{Spec}
+use Rattle.bufr_expand.specs.declared.standing.Open.{Open}
 use Rattle.bufr_expand.specs.declared.standing.State.TheVariants as states
 use Rattle.bufr_expand.specs.declared.walk.Walk.{Walk}
 use Rattle.bufr_expand.specs.declared.walk.WalkFault.TheVariants.{TooLarge}
 use Rattle.bufr_expand.specs.Limits.{most_items}
-use Rattle.bufr_expand.specs.Asked.{tells, TellsNone}
+use Rattle.bufr_expand.specs.Asked.{tells, none_between, TellsNone}
 use Rattle.bufr_expand.specs.OperatorsInForce.{in_force_after, effective, untouched}
 use Rattle.bufr_expand.specs.Trees as trees
 use Rattle.bufr_expand.specs.Trees.{tree_within, tree_of}
 use Rattle.bufr_expand.specs.Courses.{Course, ends, stops, Then, item, asks_if, turns}
 use Rattle.bufr_expand.specs.Courses.{course_then}
-use Rattle.bufr_expand.specs.Walks.{left, behind}
+use Rattle.bufr_expand.specs.Walks.{left, behind, behind_all, rest_then, turns_then}
 use Rattle.bufr_expand.proofs.PassFacts.{left_going}
 
 -- no node is a chosen field
@@ -32,6 +37,10 @@ HasNone P (trees.untouched d row rest) = (P d ≡ false) × HasNone P rest
 HasNone P (trees.operator d rest) = HasNone P rest
 HasNone P (trees.repeated times body rest) = HasNone P body × HasNone P rest
 HasNone P (trees.delayed d row body rest) = (P d ≡ false) × HasNone P body × HasNone P rest
+
+and_true : (b c : Bool) → (b && c) ≡ true → (b ≡ true) × (c ≡ true)
+and_true true c e = (refl, e)
+and_true false c e = absurd cc
 
 not_so : (b rest : Bool) → (not b && rest) ≡ true → (b ≡ false) × (rest ≡ true)
 not_so false rest e = (refl, e)
@@ -120,17 +129,60 @@ none_then P (trees.delayed d row body rest) q used after h s =
           q (used + 1) _ (λ q used. none_then P rest q used after h.2 s),
     )
 
-pub none_left : (P : ℕ → Bool) (w : Walk) → w.state ≡ states.Going → w.loops.items ≡ []
-    → none P (take (w.stop - w.place) (drop w.place w.nodes.now)) ≡ true → TellsNone P (left w)
-unfolding TellsNone behind
-none_left P w goes closed e =
-    let ahead = take (w.stop - w.place) (drop w.place w.nodes.now) in
-    subst (TellsNone P) (sym (left_going w [] goes closed))
-    (none_then P (tree_of ahead) w.operators w.items (λ q used. ends used)
-    (none_within P _ ahead e) (λ q used. tt))
+-- no node of an open replication, nor of its list after it, is a chosen field
+abbrev pub is_clear : (ℕ → Bool) → List Node → Open → Bool
+is_clear P nodes o = none_between P nodes o.from o.to && none_between P nodes o.to o.stop
 
-pub none_told : (P : ℕ → Bool) (w : Walk) (told : Bool) → w.state ≡ states.Going
-    → w.loops.items ≡ [] → told ≡ none P (take (w.stop - w.place) (drop w.place w.nodes.now))
-    → OnTrue told (TellsNone P (left w))
-none_told P w true goes closed e = none_left P w goes closed (sym e)
-none_told P w false goes closed e = tt
+-- no open replication has a chosen field
+abbrev pub are_clear : (ℕ → Bool) → List Node → List Open → Bool
+are_clear P nodes os = list_all (is_clear P nodes) os
+
+none_rest : (P : ℕ → Bool) (nodes : List Node) (from to : ℕ) (after : Then)
+    → none_between P nodes from to ≡ true → NoneThen P after
+    → NoneThen P (rest_then nodes from to after)
+none_rest P nodes from to after e s q used =
+    let ahead = take (to - from) (drop from nodes) in
+    none_then P (tree_of ahead) q used after (none_within P _ ahead e) s
+
+none_turning : (P : ℕ → Bool) (nodes : List Node) (o : Open) (after : Then)
+    → is_clear P nodes o ≡ true → NoneThen P after
+    → NoneThen P (turns_then nodes o.turns o.from o.to o.stop after)
+none_turning P nodes o after e s q used =
+    let both = and_true (none_between P nodes o.from o.to) (none_between P nodes o.to o.stop) e in
+    let body = take (o.to - o.from) (drop o.from nodes) in
+    none_turns P o.turns (course_then (tree_of body))
+    (λ q used after s. none_then P (tree_of body) q used after (none_within P _ body both.0) s)
+    q used (rest_then nodes o.to o.stop after)
+    (λ q used. none_rest P nodes o.to o.stop after both.1 s q used)
+
+none_outside : (P : ℕ → Bool) (nodes : List Node) (os : List Open) (after : Then)
+    → are_clear P nodes os ≡ true → NoneThen P after → NoneThen P (behind nodes os after)
+unfolding behind
+none_outside P nodes [] after e s = s
+none_outside P nodes (o ∷ os) after e s =
+    let both = and_true (is_clear P nodes o) (are_clear P nodes os) e in
+    none_outside P nodes os (turns_then nodes o.turns o.from o.to o.stop after) both.1
+    (none_turning P nodes o after both.0 s)
+
+pub none_left : (P : ℕ → Bool) (w : Walk) → w.state ≡ states.Going
+    → none_between P w.nodes.now w.place w.stop ≡ true
+    → are_clear P w.nodes.now w.loops.items ≡ true → TellsNone P (left w)
+unfolding TellsNone
+none_left P w goes ahead around =
+    subst (TellsNone P) (sym (left_going w w.loops.items goes refl))
+    (none_rest P w.nodes.now w.place w.stop (behind_all w.nodes.now w.loops.items) ahead
+    (none_outside P w.nodes.now w.loops.items (λ q used. ends used) around (λ q used. tt))
+    w.operators w.items)
+
+pub told_so : (told so : Bool) → told ≡ so → OnTrue told (so ≡ true)
+told_so true so e = sym e
+told_so false so e = tt
+
+-- one open replication more is clear
+pub one_more_clear : (P : ℕ → Bool) (nodes : List Node) (os : List Open) (i : ℕ) (o : Open)
+    → i < length os → slice_get os i ≡ Some o → are_clear P nodes (take i os) ≡ true
+    → none_between P nodes o.from o.to ≡ true → none_between P nodes o.to o.stop ≡ true
+    → are_clear P nodes (take (i + 1) os) ≡ true
+one_more_clear P nodes os i o below is so_far body rest =
+    list_all_more (is_clear P nodes) os i o below
+    ∙ rw (so_far, get_or_from_slice_get os i o o is, body, rest) refl

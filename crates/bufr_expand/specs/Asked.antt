@@ -1,5 +1,6 @@
 -- Chosen fields, by their descriptors, among nodes and in a course.
-use Rattle.std.specs.Prelude.{◌≡◌, ℕ, Bool, false}
+use Rattle.std.specs.Prelude.{◌≡◌, ℕ, ◌-◌, Bool, false, not, List, take, drop}
+use Rattle.std.specs.List.{list_all}
 use Rattle.bufr_expand.specs.declared.node.Node.{Node}
 use Rattle.bufr_expand.specs.declared.node.Node.TheVariants as nodes
 use Rattle.bufr_expand.specs.Courses.{Course, ends, stops, asks}
@@ -11,6 +12,11 @@ tells is_asked (nodes.Untouched d row) = is_asked d
 tells is_asked (nodes.Operator d) = false
 tells is_asked (nodes.Repeated times len) = false
 tells is_asked (nodes.Delayed d row len) = is_asked d
+
+-- no node from one index to another is a chosen field
+abbrev pub none_between : (ℕ → Bool) → List Node → ℕ → ℕ → Bool
+none_between is_asked nodes from to =
+    list_all (λ node. not (tells is_asked node)) (take (to - from) (drop from nodes))
 
 -- a course has no chosen field, whatever numbers its fields have
 unfoldable pub TellsNone : (ℕ → Bool) → Course → Type 0

@@ -5,6 +5,9 @@ ghost use Rattle.std.specs.Vec.{vec_capacity};
 ghost use Rattle.bufr_expand.specs.Places.{AreOpen, AreOpen-prop, in_front, replications, begins};
 ghost use Rattle.bufr_expand.specs.Places.{awaited};
 ghost use Rattle.bufr_expand.specs.OperatorsInForce.{factor_spec};
+ghost use Rattle.bufr_expand.specs.Asked.{none_between};
+ghost use Rattle.std.specs.Prelude.{true};
+ghost use Rattle.std.specs.Bool.{OnTrue};
 
 use crate::asks::Asks;
 use crate::limits::MOST_ITEMS;
@@ -59,14 +62,13 @@ pub struct Walk<'t> {
 }
 
 impl<'t> Walk<'t> {
-    ghost use Rattle.std.specs.Prelude.{◌<◌, ◌*◌, true, false, IfOk, IfSome, IfNone, option_map};
+    ghost use Rattle.std.specs.Prelude.{◌<◌, ◌*◌, false, IfOk, IfSome, IfNone, option_map};
     ghost use Rattle.bufr_expand.specs.OperatorsInForce.{in_force_after, untouched};
     ghost use Rattle.bufr_expand.specs.Limits.{most_items};
     ghost use Rattle.bufr_expand.specs.Trees.{tree_of};
     ghost use Rattle.bufr_expand.specs.Courses.{course, ends, stops, asks, asks_if};
     ghost use Rattle.bufr_expand.specs.Walks.{left, waits, items_met, steps_left, going, told};
     ghost use Rattle.bufr_expand.specs.Walks.{turns_then, behind_all, Goes, Counted, IsBelowCount};
-    ghost use Rattle.std.specs.Bool.{OnTrue};
     ghost use Rattle.bufr_expand.specs.Asked.{TellsNone};
     ghost use Rattle.bufr_expand.specs.Runs.{PassesRun};
     ghost use Rattle.bufr_expand.specs.declared.standing.State.TheVariants.{Going};
@@ -153,6 +155,26 @@ impl<'t> Walk<'t> {
         Some(run)
     }
 
+    /// Steps past the next field if an element comes next whose field is no count. Returns its
+    /// descriptor and its spec.
+    #[inline(always)]
+    pub fn pass_element(&mut self) -> Option<(Fxy, Spec)>
+        requires { waits self.old ≡ false }
+        ensures passed { IfSome result (λ field.
+            Goes (left self.old) (Ok (Field field.0 field.1)) self.new) }
+        ensures answered { waits self.new ≡ false }
+        ensures unmoved { IfNone result (self.new ≡ self.old) }
+    {
+        let (fxy, spec) = self.field_ahead()?;
+        match spec.kind {
+            Kind::Count => None,
+            _ => {
+                self.pass_node();
+                Some((fxy, spec))
+            }
+        }
+    }
+
     /// Steps past the next field if an element comes next whose field is no count and not chosen.
     /// Returns its descriptor and its spec.
     #[inline(always)]
@@ -230,22 +252,31 @@ impl<'t> Walk<'t> {
         met
     }
 
-    /// Returns true if the nodes ahead show that no chosen field is left.
+    /// Returns true if no replication is open and the nodes ahead show that no chosen field is left.
     pub fn tells_no_more<A: Asks>(&self, asked: &A) -> bool
         ensures { OnTrue result (TellsNone (A.is_asked asked.now) (left self.now)) }
     {
-        match self.state {
-            State::Going if self.loops.len() == 0 && self.place <= self.stop => {
-                let ahead = &self.nodes[self.place..self.stop];
-                ahead.iter().all(|node| match node {
-                    Node::Element(fxy, _) | Node::Untouched(fxy, _) | Node::Delayed(fxy, _, _) => {
-                        !asked.asks(*fxy)
-                    }
-                    Node::Operator(_) | Node::Repeated(_, _) => true,
-                })
-            }
-            _ => false,
+        self.loops.is_empty() && self.tells_no_more_inside(asked)
+    }
+
+    /// Returns true if the nodes ahead, with all those of open replications, show that no chosen
+    /// field is left.
+    pub fn tells_no_more_inside<A: Asks>(&self, asked: &A) -> bool
+        ensures { OnTrue result (TellsNone (A.is_asked asked.now) (left self.now)) }
+    {
+        if !matches!(self.state, State::Going)
+            || !has_none(self.nodes, self.place, self.stop, asked)
+        {
+            return false;
         }
+        for open in &self.loops {
+            if !has_none(self.nodes, open.from, open.to, asked)
+                || !has_none(self.nodes, open.to, open.stop, asked)
+            {
+                return false;
+            }
+        }
+        true
     }
 
     fn visit(&mut self) -> Option<Result<Step, WalkFault>>
@@ -419,4 +450,21 @@ fn body_end(from: usize, stop: usize, len: u64) -> usize
     } else {
         stop
     }
+}
+
+/// Returns whether no node from one index to another is a chosen field. False if there are no such
+/// nodes.
+fn has_none<A: Asks>(nodes: &[Node], from: usize, to: usize, asked: &A) -> bool
+    ensures { OnTrue result (none_between (A.is_asked asked.now) nodes.now from to ≡ true) }
+{
+    if from > to || to > nodes.len() {
+        return false;
+    }
+    let among = &nodes[from..to];
+    among.iter().all(|node| match node {
+        Node::Element(fxy, _) | Node::Untouched(fxy, _) | Node::Delayed(fxy, _, _) => {
+            !asked.asks(*fxy)
+        }
+        Node::Operator(_) | Node::Repeated(_, _) => true,
+    })
 }

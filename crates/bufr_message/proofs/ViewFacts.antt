@@ -1,9 +1,10 @@
 -- Subsets of a view that fit messages of their own, and its reports under the tables: for `view`,
 -- `View::report` and `reports`.
 use Rattle.std.proofs.Common.{◌≡◌, ℕ, ◌+◌, ◌*◌, ◌<◌, ◌≤◌, Bool, true, false, List, [], ◌∷◌, ◌++◌}
-use Rattle.std.proofs.Common.{length, take}
+use Rattle.std.proofs.Common.{◌/◌, length, take}
 use Rattle.std.proofs.Common.{Some, Result, Ok, Err, refl, sym, ap, subst, ◌∙◌, arith}
 use Rattle.std.specs.Prelude.{nat_le, slice_get, IfOk, option_map}
+use Rattle.std.specs.Bool.{OnTrue}
 use Rattle.std.proofs.lemmas.List.{take_more}
 use Rattle.std.proofs.lemmas.List.Elements.{All-from_recursion, All-get_or}
 use Rattle.std.proofs.lemmas.List.Folds.{list_all_at, list_all_more}
@@ -12,9 +13,13 @@ use Rattle.std.proofs.lemmas.Option.{get_or_from_slice_get, slice_get-map, slice
 use Rattle.bufr_bits.specs.Bits.{bits}
 use Rattle.bufr_expand.specs.Trees.{Tree}
 use Rattle.bufr_fields.specs.declared.field.Subset.{Subset}
-use Rattle.bufr_data.specs.Data.{ReadsExactly}
+use Rattle.bufr_base.specs.Answers.{result_map}
+use Rattle.bufr_data.specs.Data.{ReadsExactly, subsets_in}
 use Rattle.bufr_sections.specs.declared.message.Message.{Message}
+use Rattle.bufr_sections.specs.Sections.{Envelope}
 use Rattle.bufr_sections.specs.Spelt.{longest}
+use Rattle.bufr_message.specs.Judged.{judged}
+use Rattle.bufr_message.specs.Kept.{message_under}
 use Rattle.bufr_message.specs.declared.report.Report.{Report}
 use Rattle.bufr_tables.specs.Entries.{Entries}
 use Rattle.bufr_message.specs.Messages.{octets_alone, can_be_alone, Spells}
@@ -38,6 +43,21 @@ few_octets reads contents compressed descriptors subsets (tree, count, rest, is)
     let whole = contents_hold begins.0 rest contents begins.3 in
     (alone_is_tested descriptors subsets).1
     (all_short descriptors tree (length begins.0) subsets (omega arith) each)
+
+pub when_true : {P : Type 0} (b : Bool) → b ≡ true → OnTrue b P → P
+when_true {P} b is p = subst (λ x. OnTrue x P) is p
+
+pub judged_passed : ((tree : Tree) (compressed : Bool) (count : ℕ) (front : List Bool)
+    (found : List Subset × List Bool) → ReadsExactly tree compressed count front found)
+    → (tree : Tree) (e : Envelope) (subsets : List Subset) (rest : List Bool)
+    → subsets_in tree e.compressed e.count (bits e.contents) ≡ Ok (subsets, rest)
+    → can_be_alone e.descriptors subsets ≡ true
+    → result_map judged (message_under tree e)
+    ≡ Ok (record { subsets = e.count; slack_octets = length rest / 8 })
+judged_passed reads tree e subsets rest is few =
+    let many =
+    ((reads tree e.compressed e.count (bits e.contents) (subsets, rest)).0 is).2 in
+    rw (is, few) (λ t. Ok (record { subsets = many t; slack_octets = length rest / 8 }))
 
 pub one_more_short : (descriptors : List ℕ) (subsets : List Subset) (i : ℕ) (s : Subset)
     → i < length subsets → slice_get subsets i ≡ Some s

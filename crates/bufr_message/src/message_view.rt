@@ -314,7 +314,35 @@ pub(crate) fn judge_keeping(
     judge_in(alloc, &mut kept[0], &sections)
 }
 
+#[inline(always)]
 fn judge_in(
+    alloc: Global,
+    kept: &mut Kept,
+    sections: &Envelope<'_>,
+) -> Result<Judged, Failure<Refused>>
+    requires list { kept.old.descriptors.value ≡ descriptors_of sections.now.listed.now }
+    ensures exact { Gives (λ j. j) result
+        (result_map judged (message_under kept.old.template (envelope sections.now))) }
+    ensures same { kept.new ≡ kept.old }
+{
+    data_hold_subsets();
+    let count = sections.count;
+    let mut reader = BitReader::new(sections.contents);
+    let template = &mut kept.template;
+    let passed = template.pass_alike(alloc, sections.compressed, &mut reader, count)?;
+    if passed && are_few(kept.descriptors.as_slice(), sections.contents) {
+        let left = reader.left();
+        return Ok(Judged {
+            subsets: count as u64,
+            slack_octets: (left / 8) as u64,
+        });
+    }
+    judge_by_index(alloc, kept, sections)
+}
+
+/// Judges like `judge_in`, by an index of the subsets.
+#[inline(never)]
+fn judge_by_index(
     alloc: Global,
     kept: &mut Kept,
     sections: &Envelope<'_>,

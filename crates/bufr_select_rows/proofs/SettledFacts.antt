@@ -1,15 +1,16 @@
 -- Settled cells: no later field changes the row.
-use Rattle.std.proofs.Common.{◌≡◌, ◌==◌, ◌≤◌, ℕ, zero, suc, ◌&&◌, Bool, true, false, List, [], ◌∷◌, Some, None, length}
+use Rattle.std.proofs.Common.{◌≡◌, ◌==◌, ◌≤◌, ℕ, zero, suc, ◌&&◌, ◌||◌, not, Bool, true, false, List, [], ◌∷◌, Some, None, length}
 use Rattle.std.proofs.Common.{map, take, cond, refl, sym, ap, ◌∙◌, ◌+◌, subst, arith, length-append}
 use Rattle.std.specs.List.{list_all}
 use Rattle.std.proofs.lemmas.Bool.{eqb-true}
 use Rattle.std.proofs.lemmas.List.{take_all}
 use Rattle.bufr_fields.specs.declared.field.Field.{Field}
-use Rattle.bufr_data.specs.Handed.{HandsOutAsked, PassesUnasked}
+use Rattle.bufr_data.specs.Handed.{HandsOutAsked, NoneAsked, PassesUnasked}
 use Rattle.bufr_select_rows.specs.Asks.{Covers}
 use Rattle.bufr_select_rows.specs.CellLaws.{columns_after, rows_passed}
 use Rattle.bufr_select_rows.specs.Cells.{AreSettled, counted, counted_at, is_settled, noted, noted_by}
 use Rattle.bufr_select_rows.specs.Cells.{row_of, rows_left, settled_by}
+use Rattle.bufr_select_rows.specs.Cells.{asks_for, is_awaited, waits_for}
 use Rattle.bufr_select_rows.specs.declared.cell.Cell.{Cell}
 use Rattle.bufr_select_rows.specs.declared.column.Column.{Column}
 use Rattle.bufr_select_rows.specs.declared.column.Column.TheVariants as columns
@@ -19,6 +20,18 @@ use Rattle.bufr_select_rows.proofs.PickedFacts.{field_next}
 choice_same : {A : Type 0} (b : Bool) (x y : A) → x ≡ y → cond b x y ≡ y
 choice_same true x y is = is
 choice_same false x y is = refl
+
+-- a choice that is not made, or that changes nothing
+choice_unmoved : {A : Type 0} (settled is : Bool) (x y : A) → (settled ≡ true → x ≡ y)
+    → (not settled && is) ≡ false → cond is x y ≡ y
+choice_unmoved true is x y same unwanted = choice_same is x y (same refl)
+choice_unmoved false true x y same unwanted = absurd cc
+choice_unmoved false false x y same unwanted = refl
+
+-- neither holds
+both_false : (a b : Bool) → (a || b) ≡ false → (a ≡ false) × (b ≡ false)
+both_false true b is = absurd cc
+both_false false b is = (refl, is)
 
 -- a settled cell stays as it is, by its column
 stays_by : (column : Column) (f : Field) (c : Cell) → settled_by column c ≡ true
@@ -51,6 +64,33 @@ rows_settled cells [] settled = refl
 rows_settled cells (f ∷ fields) settled =
     ap (λ cs. rows_left None cs true fields) (all_stay f cells settled)
     ∙ rows_settled cells fields settled
+
+-- a cell that does not wait for a field stays as it is
+unmoved_by : (column : Column) (f : Field) (c : Cell)
+    → (not (settled_by column c) && asks_for f.fxy column) ≡ false → noted_by column true f c ≡ c
+unmoved_by (columns.Told fact) f c unwanted = refl
+unmoved_by (columns.First d) f c unwanted = choice_unmoved (c.ahead == 0) (f.fxy == d) _ c
+    (λ settled. ap (λ n. counted_at n f c) (eqb-true c.ahead 0 settled)) unwanted
+unmoved_by (columns.Nth d n) f c unwanted = choice_unmoved (c.ahead == 0) (f.fxy == d) _ c
+    (λ settled. ap (λ n. counted_at n f c) (eqb-true c.ahead 0 settled)) unwanted
+
+-- cells that do not wait for a field stay as they are
+all_unmoved : (f : Field) (cells : List Cell) → is_awaited cells f.fxy ≡ false
+    → map (noted true f) cells ≡ cells
+all_unmoved f [] unwanted = refl
+all_unmoved f (c ∷ cells) unwanted =
+    let both = both_false (waits_for f.fxy c) (is_awaited cells f.fxy) unwanted in
+    ap (λ x. x ∷ map (noted true f) cells) (unmoved_by c.column f c both.0)
+    ∙ ap (λ cs. c ∷ cs) (all_unmoved f cells both.1)
+
+-- so fields that no cell waits for do not change the row
+pub rows_unmoved : (cells : List Cell) (fields : List Field)
+    → NoneAsked (is_awaited cells) fields → rows_left None cells true fields ≡ row_of cells
+unfolding rows_left
+rows_unmoved cells [] none = refl
+rows_unmoved cells (f ∷ fields) none =
+    ap (λ cs. rows_left None cs true fields) (all_unmoved f cells none.0)
+    ∙ rows_unmoved cells fields none.1
 
 -- the first cells stay settled
 settled_kept : (n : ℕ) (f : Field) (cells : List Cell) → AreSettled n cells

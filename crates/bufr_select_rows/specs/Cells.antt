@@ -2,7 +2,8 @@
 -- of the rows that are due then. `CellLaws` ties them to `rows`.
 use Rattle.std.specs.Prelude.{ℕ, zero, suc, ◌==◌, Bool, true, false, List, [], ◌∷◌, ◌++◌, map}
 use Rattle.std.specs.Prelude.{◌≡◌, decimal, Option, Some, None, if◌then◌else◌, take}
-use Rattle.std.specs.List.{list_all}
+use Rattle.std.specs.Prelude.{not, ◌&&◌}
+use Rattle.std.specs.List.{list_all, list_any}
 use Rattle.std.specs.Option.{option_map_or}
 use Rattle.csv.specs.Writing.{default_writer, row_text}
 use Rattle.bufr_fields.specs.declared.field.Field.{Field}
@@ -113,6 +114,14 @@ abbrev pub asks_for : ℕ → Column → Bool
 asks_for d (columns.Told fact) = false
 asks_for d (columns.First e) = d == e
 asks_for d (columns.Nth e n) = d == e
+
+-- whether a cell waits for a field with a descriptor
+abbrev pub waits_for : ℕ → Cell → Bool
+waits_for d c = not (is_settled c) && asks_for d c.column
+
+-- whether one of the cells waits for a field with a descriptor
+abbrev pub is_awaited : List Cell → ℕ → Bool
+is_awaited cells d = list_any (waits_for d) cells
 
 -- the rows that are still due, given the cells, whether a span is open, and the fields that are left
 unfoldable pub rows_left : Option ℕ → List Cell → Bool → List Field → List ℕ

@@ -3,7 +3,7 @@
 ghost use Rattle.std.specs.Prelude.{◌≡◌, OnOk, if◌then◌else◌};
 ghost use Rattle.bufr_fields.specs.Values.{as_field};
 ghost use Rattle.bufr_select_rows.specs.Cells.{begun, counted, fresh, is_settled, noted, opened};
-ghost use Rattle.bufr_select_rows.specs.Cells.{put_before, shown};
+ghost use Rattle.bufr_select_rows.specs.Cells.{put_before, shown, waits_for};
 ghost use Rattle.bufr_select_rows.specs.Rows.{origin};
 ghost use Rattle.bufr_select_rows.specs.ShortCells.{counted_short, noted_short};
 
@@ -13,6 +13,7 @@ use crate::text::{Text, field_of};
 use bufr_base::OutOfMemory;
 use bufr_data::ShortNumber;
 use bufr_fields::{Field, NumberField};
+use bufr_tables::Fxy;
 use std::alloc::Global;
 
 /// A column, and what was picked for it of the fields so far.
@@ -225,6 +226,18 @@ impl Cell {
         match column {
             Column::Told(_) => true,
             Column::First(_) | Column::Nth(_, _) => self.ahead == 0,
+        }
+    }
+
+    /// Returns whether a field with a descriptor may change the text.
+    #[inline(always)]
+    pub(crate) fn waits_for(&self, fxy: Fxy) -> bool
+        ensures { result ≡ waits_for fxy self.now }
+    {
+        let column = self.column;
+        match column {
+            Column::Told(_) => false,
+            Column::First(asked) | Column::Nth(asked, _) => self.ahead > 0 && fxy == asked,
         }
     }
 

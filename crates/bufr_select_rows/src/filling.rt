@@ -5,13 +5,14 @@ ghost use Rattle.bufr_select_rows.specs.Asks.{IsSetOf};
 ghost use Rattle.bufr_select_rows.specs.Cells.{AreSettled, row_of, rows_left};
 
 use crate::asked::Asked;
+use crate::awaited::Awaited;
 use crate::cell::Cell;
 use crate::cells::{first_unsettled, note_field, note_number, note_short};
 use crate::picks::Picks;
 use bufr_base::OutOfMemory;
 use std::alloc::Global;
 
-/// Notes the fields that are left of a subset, and stops once all cells are settled.
+/// Notes the fields that are left of a subset, and stops once no cell waits for one of them.
 pub(crate) fn fill_cells<P: Picks>(
     alloc: Global,
     asked: &Asked,
@@ -24,13 +25,23 @@ pub(crate) fn fill_cells<P: Picks>(
     ensures columns { OnOk result (map (λ c. c.column) cells.new ≡ map (λ c. c.column) cells.old) }
 {
     // To settle all cells takes a field of each descriptor.
-    let mut due = fill_numbers(asked, fields, &mut *cells, asked.listed().len())?;
+    let most = asked.listed().len();
+    let mut due = fill_numbers(asked, fields, &mut *cells, most)?;
     let mut settled = 0;
+    let mut noted = most;
     'fields: loop {
         settled = first_unsettled(cells, settled);
         if settled >= cells.len() {
             return Ok(());
         }
+        // A look at the template costs as much as some fields.
+        if noted >= most {
+            if fields.tells_no_more(&Awaited { cells: &*cells }) {
+                return Ok(());
+            }
+            noted = 0;
+        }
+        noted += 1;
         if let Some(number) = fields.pick_number(asked) {
             note_number(&mut *cells, asked, true, number)?;
             continue 'fields;

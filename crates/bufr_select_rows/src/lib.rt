@@ -3,6 +3,7 @@
 #![tactic(auto)]
 
 mod asked;
+mod awaited;
 mod cell;
 mod cells;
 mod column;

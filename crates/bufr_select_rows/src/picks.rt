@@ -1,13 +1,16 @@
 //! Sources of the fields that are asked for.
 
 ghost use Rattle.std.specs.Prelude.{◌≡◌, List, Some, IfOk, IfSome, IfNone};
+ghost use Rattle.std.specs.Bool.{OnTrue};
 ghost use Rattle.bufr_fields.specs.declared.field.Field.{Field as AField};
 ghost use Rattle.bufr_fields.specs.Values.{as_field};
-ghost use Rattle.bufr_data.specs.Handed.{HandsOutAsked, PassesUnasked};
+ghost use Rattle.bufr_data.specs.Handed.{HandsOutAsked, NoneAsked, PassesUnasked};
 ghost use Rattle.bufr_data.specs.Short.{HandsOutShort};
 ghost use Rattle.bufr_select_rows.specs.Asks.{flagged};
+ghost use Rattle.bufr_select_rows.specs.Cells.{is_awaited};
 
 use crate::asked::Asked;
+use crate::awaited::Awaited;
 use bufr_base::OutOfMemory;
 use bufr_data::{ChosenFields, LaidFields, NumberField, ShortNumber};
 use bufr_expand::Asks;
@@ -37,6 +40,10 @@ pub(crate) trait Picks {
     fn pick(&mut self, alloc: Global, asked: &Asked) -> Result<Option<Field>, OutOfMemory>
         ensures { IfOk result (λ found.
             HandsOutAsked (flagged asked.now) (left self.old) found (left self.new)) };
+
+    /// Returns true if it is known that no cell waits for one of the fields.
+    fn tells_no_more(&self, awaited: &Awaited<'_>) -> bool
+        ensures { OnTrue result (NoneAsked (is_awaited awaited.now.cells.now) (left self.now)) };
 }
 
 impl<'v> Picks for Fields<'v> {
@@ -55,6 +62,10 @@ impl<'v> Picks for Fields<'v> {
     #[inline(always)]
     fn pick(&mut self, alloc: Global, asked: &Asked) -> Result<Option<Field>, OutOfMemory> {
         self.next_asked(alloc, asked)
+    }
+
+    fn tells_no_more(&self, awaited: &Awaited<'_>) -> bool {
+        Fields::tells_no_more(self, awaited)
     }
 }
 
@@ -85,6 +96,11 @@ impl<'v> Picks for ChosenFields<'v> {
         }
         Ok(None)
     }
+
+    #[inline(always)]
+    fn tells_no_more(&self, _awaited: &Awaited<'_>) -> bool {
+        false
+    }
 }
 
 impl<'v> Picks for LaidFields<'v> {
@@ -103,5 +119,10 @@ impl<'v> Picks for LaidFields<'v> {
     #[inline(always)]
     fn pick(&mut self, alloc: Global, asked: &Asked) -> Result<Option<Field>, OutOfMemory> {
         self.next_asked(alloc, asked)
+    }
+
+    #[inline(always)]
+    fn tells_no_more(&self, _awaited: &Awaited<'_>) -> bool {
+        false
     }
 }

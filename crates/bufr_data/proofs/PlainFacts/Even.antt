@@ -1,8 +1,9 @@
 -- The starts of subsets of one size can be computed, and a subset begins at each if all bits and
 -- items are there.
-use Rattle.std.proofs.Common.{◌≡◌, ℕ, zero, suc, ◌+◌, ◌-◌, ◌*◌, ◌<◌, ◌≤◌, Bool, List, [], ◌∷◌}
-use Rattle.std.proofs.Common.{length, map, drop, Some, Ok, refl, sym, ap, subst, ◌∙◌, arith}
+use Rattle.std.proofs.Common.{◌≡◌, ℕ, zero, suc, ◌+◌, ◌-◌, ◌*◌, ◌<◌, ◌≤◌, Bool, true, false, List, []}
+use Rattle.std.proofs.Common.{◌∷◌, length, map, drop, Some, Ok, refl, sym, ap, subst, ◌∙◌, arith}
 use Rattle.std.specs.Prelude.{◌^◌, slice_get, IsOk}
+use Rattle.std.specs.Bool.{OnTrue}
 use Rattle.std.proofs.lemmas.List.{drop-drop, length-drop}
 use Rattle.std.proofs.Math.Nat.{mul-le-mul_right}
 use Rattle.bufr_base.specs.Answers.{Fails}
@@ -15,10 +16,12 @@ use Rattle.bufr_expand.specs.Limits.{most_items}
 use Rattle.bufr_expand.specs.Trees.{Tree}
 use Rattle.bufr_expand.specs.Unrolling.{Told, Allows, Unrolls}
 use Rattle.bufr_data.specs.declared.plain.alike.Alike.{Alike}
+use Rattle.bufr_fields.specs.declared.field.Subset.{Subset}
 use Rattle.bufr_fields.specs.declared.fault.DataFault.{DataFault}
 use Rattle.bufr_data.specs.declared.plain.index.SubsetStart.{SubsetStart}
 use Rattle.bufr_data.specs.declared.plain.starts.Spacing.{Spacing}
 use Rattle.bufr_data.specs.declared.plain.starts.Spacing.TheVariants.{Even}
+use Rattle.bufr_data.specs.Data.{subsets_in}
 use Rattle.bufr_data.specs.Plain.{fields_at, subsets_at}
 use Rattle.bufr_data.specs.Plain.Alike.{IsAlike}
 use Rattle.bufr_data.specs.Plain.Even.{start_after, start_here, even_starts, starts_in, HasRoom}
@@ -188,6 +191,24 @@ alike_read octets tree each bit used j (suc n) front h =
       items = items t;
       rest = rest t;
     }))
+
+pub all_passed : (octets : List ℕ) (tree : Tree) (each : Alike) (place n : ℕ) (passed : Bool)
+    (rest : List Bool)
+    → ((tree : Tree) (used : ℕ) (fields : List Told) (met : ℕ)
+    → used ≤ most_items → Allows (course tree used) fields met → Unrolls tree used fields met)
+    → ((tree : Tree) (used : ℕ) (fields : List Told) (met : ℕ)
+    → Unrolls tree used fields met → Allows (course tree used) fields met)
+    → IsAlike tree each → place ≤ 8 * length octets → OnTrue passed (n * each.items ≤ most_items)
+    → OnTrue passed (n * each.bits ≤ length (drop place (bits octets)))
+    → OnTrue passed (rest ≡ drop (n * each.bits) (drop place (bits octets)))
+    → OnTrue passed ((subsets : List Subset)
+    × (subsets_in tree false n (drop place (bits octets)) ≡ Ok (subsets, rest)))
+all_passed octets tree each place n false rest unrolled allowed is inside few enough behind = tt
+all_passed octets tree each place n true rest unrolled allowed is inside few enough behind =
+    let stand = stand_alike octets tree each place place n unrolled allowed is refl inside few enough in (
+      map (subset_from octets tree) (even_starts place 0 each n),
+      rw (alike_read octets tree each place 0 1 n (drop place (bits octets)) stand, behind) refl,
+    )
 
 pub only_read : (octets : List ℕ) (tree : Tree) (s : SubsetStart) (front rest : List Bool)
     (items : ℕ) → front ≡ drop s.bit (bits octets)

@@ -3,7 +3,7 @@
 ghost use Rattle.std.specs.Prelude.{◌≡◌, false, Some, IfOk, IfErr, IfSome, IfNone, OnErr};
 ghost use Rattle.std.specs.Bool.{OnTrue};
 ghost use Rattle.bufr_fields.specs.Values.{as_field};
-ghost use Rattle.bufr_data.specs.Handed.{HandsOut, HandsOutAsked, PassesUnasked};
+ghost use Rattle.bufr_data.specs.Handed.{HandsOut, HandsOutAsked, NoneAsked, PassesUnasked};
 ghost use Rattle.bufr_data.specs.Handed.{PassesFirst, PassesOrStays, StandAhead, StepsTo, StepsToNone};
 ghost use Rattle.bufr_data.specs.declared.plain.fields.Due.TheVariants as dues;
 
@@ -92,6 +92,16 @@ impl<'v> PlainFields<'v> {
             if asked.asks(number.fxy) {
                 return Some(number);
             }
+        }
+    }
+
+    /// Returns true if the walk shows that no chosen field is left.
+    pub(crate) fn tells_no_more<A: Asks>(&self, asked: &A) -> bool
+        ensures { OnTrue result (NoneAsked (A.is_asked asked.now) self.now) }
+    {
+        match self.due {
+            Due::Step => self.walk.tells_no_more_inside(asked),
+            Due::Text(_) | Due::Nothing => false,
         }
     }
 
@@ -188,6 +198,23 @@ fn step(due: Due, walk: &mut Walk, reader: &mut BitReader) -> Result<NumberField
         Due::Step => {}
         _ => return Err(due),
     }
+    match walk.pass_element() {
+        None => step_to_any(walk, reader),
+        Some((fxy, spec)) => match read_number(spec, reader) {
+            Some(number) => Ok(NumberField { fxy, spec, number }),
+            None => Err(Due::Text(LaidField { fxy, spec })),
+        },
+    }
+}
+
+/// Steps to the next field, whatever nodes come before it.
+fn step_to_any(walk: &mut Walk, reader: &mut BitReader) -> Result<NumberField, Due>
+    requires { StandAhead dues.Step walk.old reader.old }
+    ensures found { IfOk result (λ number.
+        StepsTo (as_field number) dues.Step walk.old reader.old dues.Step walk.new reader.new) }
+    ensures others { IfErr result (λ later.
+        StepsToNone dues.Step walk.old reader.old later walk.new reader.new) }
+{
     let next = match walk.next() {
         Ok(next) => next,
         Err(_) => return Err(Due::Nothing),

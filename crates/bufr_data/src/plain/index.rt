@@ -1,10 +1,12 @@
 //! Finds the plain subsets of a message.
 
 ghost use Rattle.std.specs.Prelude.{◌≡◌, ◌+◌, ◌-◌, ◌*◌, ◌^◌, ◌<◌, ◌≤◌, map, length, slice_get, false, Bool, List};
-ghost use Rattle.std.specs.Prelude.{Some, IfOk, IfErr, IfSome, OnErr};
+ghost use Rattle.std.specs.Bool.{OnTrue, OnFalse};
+ghost use Rattle.std.specs.Prelude.{Some, IfOk, IfErr, IfSome, OnErr, drop};
 ghost use Rattle.bufr_bits.specs.Ends.{left};
 ghost use Rattle.bufr_base.specs.Answers.{Gives, Fails};
 ghost use Rattle.bufr_expand.specs.Courses.{course};
+ghost use Rattle.bufr_expand.specs.Limits.{most_items};
 ghost use Rattle.bufr_fields.specs.declared.field.Subset.{Subset};
 ghost use Rattle.bufr_data.specs.Plain.Alike.{IsAlike};
 ghost use Rattle.bufr_data.specs.Chosen.{chosen};
@@ -153,10 +155,7 @@ pub(crate) fn starts_of(
     let bit = bit_of(reader);
     let octets = reader.octets().len();
     match alike {
-        Some(each)
-            if octets <= MOST_COUNTED_OCTETS
-                && count as u128 * each.items as u128 <= MOST_ITEMS as u128
-                && reader.pass(count as u128 * each.bits as u128) => {
+        Some(each) if octets <= MOST_COUNTED_OCTETS && pass_all(each, reader, count) => {
             Ok(Starts {
                 spacing: Spacing::Even(bit as u64, each, count as usize),
             })
@@ -169,6 +168,20 @@ pub(crate) fn starts_of(
             answer
         }
     }
+}
+
+/// Passes `count` subsets of a common size, if all bits are there and the items within the limit.
+#[inline(always)]
+pub(crate) fn pass_all(each: Alike, reader: &mut BitReader, count: u16) -> bool
+    ensures few { OnTrue result (count * each.items ≤ most_items) }
+    ensures enough { OnTrue result (count * each.bits ≤ length (left reader.old)) }
+    ensures rest { OnTrue result
+        (left reader.new ≡ drop (count * each.bits) (left reader.old)) }
+    ensures octets { reader.new.octets ≡ reader.old.octets }
+    ensures unmoved { OnFalse result (reader.new ≡ reader.old) }
+{
+    count as u128 * each.items as u128 <= MOST_ITEMS as u128
+        && reader.pass(count as u128 * each.bits as u128)
 }
 
 /// Finds the start of a single subset; after an error the reader may have moved.

@@ -50,9 +50,32 @@ pub(crate) fn pass_subset(
     }
 }
 
-/// Passes all turns left of a replication if they have one size, else field `i`, and returns the
-/// number of the next field, or `None` at the end.
+/// Passes field `i`, or all turns left of a replication if they have one size. Returns the number of
+/// the next field, or `None` at the end.
 fn pass_next(walk: &mut Walk, reader: &mut BitReader, i: u64) -> Result<Option<u64>, DataFault>
+    requires ready { IsReady walk.old }
+    requires counted { i ≤ walks.items_met walk.old + 1 }
+    ensures ok { IfOk result (λ next. PassesOn i (walks.left walk.old) (left reader.old) next
+        (walks.left walk.new) (walks.items_met walk.new) (left reader.new)) }
+    ensures advances { IfOk result (λ next. OnSome next (WalkAdvances walk.old walk.new)) }
+    ensures counted { IfOk result (λ next. IfSome next (λ n.
+        n ≤ walks.items_met walk.new + 1)) }
+    ensures err { IfErr result (λ fault.
+        fields_at 1 i (walks.left walk.old) (left reader.old) ≡ Err fault) }
+    ensures octets { reader.new.octets ≡ reader.old.octets }
+    ensures onward { reader.old.place ≤ reader.new.place }
+{
+    match walk.pass_element() {
+        None => pass_other(walk, reader, i),
+        Some((_, spec)) => {
+            pass_raw(spec, reader, i)?;
+            Ok(Some(i + 1))
+        }
+    }
+}
+
+/// Passes what `pass_next` does if no element comes next.
+fn pass_other(walk: &mut Walk, reader: &mut BitReader, i: u64) -> Result<Option<u64>, DataFault>
     requires ready { IsReady walk.old }
     requires counted { i ≤ walks.items_met walk.old + 1 }
     ensures ok { IfOk result (λ next. PassesOn i (walks.left walk.old) (left reader.old) next

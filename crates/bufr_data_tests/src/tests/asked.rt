@@ -333,3 +333,31 @@ fn first_messages_of_many_subsets(rt: HostRuntime) {
     serves_first(&rt, rt.alloc(), 7, false, [27307, 70]);
     serves_first(&rt, rt.alloc(), 8, true, [27308, 80]);
 }
+
+/// A count of temperatures, and then a station number.
+const COUNTED: Descriptors = &[(1, 1, 0), (0, 31, 1), (0, 12, 101), (0, 1, 2)];
+
+/// A walk shows before each field whether a chosen one may be left, also inside a replication.
+#[test]
+fn none_left_along_a_walk(rt: HostRuntime) {
+    let alloc = rt.alloc();
+    // the count 2 in 8 bits, temperatures 1 and 2 in 16 bits, the number 3 in 10
+    let octets = [0x02, 0x00, 0x01, 0x00, 0x02, 0x00, 0xC0];
+    let mut template = DataTemplate::new(template(&rt, alloc, COUNTED));
+    let mut reader = BitReader::new(&octets);
+    let index = template
+        .index(alloc, false, &mut reader, 1)
+        .expect(&rt, "an index");
+    assert!(&rt; 0 < index.count());
+    let mut fields = index.fields(alloc, 0).expect(&rt, "room");
+    for none in [false, false, false, false, true] {
+        same(&rt, fields.tells_no_more(&BLOCKS), true);
+        same(&rt, fields.tells_no_more(&TEMPERATURES), none);
+        let found = fields.next(alloc).expect(&rt, "room");
+        same(&rt, found.is_none(), none);
+        drop(found);
+    }
+    drop(fields);
+    drop(index);
+    drop(template);
+}

@@ -45,7 +45,10 @@ fn assert_row(rt: &impl Abort, alloc: Global, tables: &Tables, row: &(&str, Resu
         list.push(fxy).expect(rt, "room");
     }
     match Template::build(alloc, tables, &list) {
-        Ok(template) => same(rt, Ok(template.nodes()), row.1),
+        Ok(template) => {
+            same(rt, Ok(template.nodes()), row.1);
+            drop(template);
+        }
         Err(failure) => {
             let found = format!(in alloc; "{failure}").expect(rt, "room");
             same(rt, Err(found.as_str()), row.1);
@@ -59,4 +62,5 @@ fn most_nodes_and_levels(rt: HostRuntime) {
     for row in ROWS {
         assert_row(&rt, rt.alloc(), &tables, row);
     }
+    drop(tables);
 }

@@ -48,6 +48,8 @@ fn assert_row(rt: &impl Abort, alloc: Global, row: &Row<'_>) {
     let template = template_of(rt, alloc, digits);
     let mut walk = Walk::start(alloc, &template, used).expect(rt, "room");
     assert_passes(rt, &mut walk, row);
+    drop(walk);
+    drop(template);
 }
 
 /// More bits than any row has.

@@ -56,7 +56,9 @@ pub(crate) fn template_of(rt: &impl Abort, alloc: Global, digits: &[u32]) -> Tem
         list.push(fxy(rt, *number)).expect(rt, "room");
     }
     let tables = tables_of(rt, alloc, TABLE_B, SEQUENCES);
-    Template::build(alloc, &tables, &list).expect(rt, "a template")
+    let built = Template::build(alloc, &tables, &list);
+    drop(tables);
+    built.expect(rt, "a template")
 }
 
 fn spec(kind: Kind, scale: i32, reference: i64, width: u32) -> Spec {

@@ -36,5 +36,7 @@ fn tables_that_differ(rt: HostRuntime) {
         let first = tables_of(&rt, rt.alloc(), one.0, one.1);
         let second = tables_of(&rt, rt.alloc(), other.0, other.1);
         same(&rt, first.same(&second), *wanted);
+        drop(second);
+        drop(first);
     }
 }

@@ -93,6 +93,8 @@ fn assert_row(rt: &impl Abort, alloc: Global, row: &Row<'_>) {
     let mut walk = Walk::start(alloc, &shared, 0).expect(rt, "room");
     assert_steps(rt, &mut walk, told, fields);
     assert_end(rt, &mut walk, items);
+    drop(walk);
+    drop(shared);
 }
 
 #[test]

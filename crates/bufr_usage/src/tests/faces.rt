@@ -398,8 +398,12 @@ fn frames_in_turn(rt: HostRuntime) {
     let bufr_frame::Taken { found, rest } = framer.take_next(BARE).expect(&rt, "room");
     assert!(rt; found.is_some() && rest.is_empty());
     drop(found);
-    assert!(rt; framer.finish().expect(&rt, "room").is_empty());
+    let last = framer.finish().expect(&rt, "room");
+    assert!(rt; last.is_empty());
+    drop(last);
     assert!(rt; framer.fed() == 0);
-    assert!(rt; framer.feed(BARE).expect(&rt, "room").len() == 1);
+    let again = framer.feed(BARE).expect(&rt, "room");
+    assert!(rt; again.len() == 1);
+    drop(again);
     drop(framer);
 }

@@ -1,11 +1,11 @@
--- Field by field, until all cells are settled or no field is left.
+-- Field by field, until no cell waits for a field that is left.
 use Rattle.std.proofs.Common.{◌≡◌, Some, None, true, ◌∙◌, sym, subst, arith}
 use Rattle.bufr_fields.specs.Values.{as_field}
 use Rattle.bufr_select_rows.specs.Asks.{IsSetOf, flagged}
 use Rattle.bufr_select_rows.proofs.PickFacts.{picked_after}
 use Rattle.bufr_select_rows.proofs.PickedFacts.{rows_last}
 use Rattle.bufr_select_rows.proofs.SettledFacts.{all_settled, columns_kept, row_next, rows_settled}
-use Rattle.bufr_select_rows.proofs.SettledFacts.{settled_next}
+use Rattle.bufr_select_rows.proofs.SettledFacts.{rows_unmoved, settled_next}
 use Rattle.bufr_select_rows.proofs.filling.fill_cells.Goals as goal
 
 -- all cells are settled
@@ -15,6 +15,12 @@ returns-then-settled-cells-clause-row g c =
     ∙ rows_settled c.fields.cells (g.P.Picks.left c.fields.fields)
     (all_settled c.first_unsettled-settled.result c.fields.cells
     (omega (arith, c.if-settled-cells.true)) c.first_unsettled-settled.ensures)
+
+-- no cell waits for a field that is left
+pub returns-then-tells_no_more-clause-row : goal.returns-then-tells_no_more-clause-row
+returns-then-tells_no_more-clause-row g c =
+    c.fields.invariant.row
+    ∙ rows_unmoved c.fields.cells (g.P.Picks.left c.fields.fields) c.if-tells_no_more.ensures
 
 -- one number more was taken
 pub fields-preserved-in-Some : goal.fields-preserved-in-Some

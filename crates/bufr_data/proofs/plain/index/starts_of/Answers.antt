@@ -12,10 +12,10 @@ invariant_of-result c =
         arith,
         size,
         c.bit_of-bit.ensures.all,
-        c.if-pass.ensures.enough,
+        c.if-pass_all.ensures.enough,
         c.if-octets-le-MOST_COUNTED_OCTETS.true,
       ),
-      omega (arith, c.if-count-each.true),
+      omega (arith, c.if-pass_all.ensures.few),
     )
 
 pub returns-in-Some-clause-exact : goal.returns-in-Some-clause-exact
@@ -27,10 +27,10 @@ returns-in-Some-clause-exact c =
     let stand =
     stand_alike octets tree c.in-Some.each bit _ c.args.count law.unrolled law.allowed
     (rw c.in-Some.is at c.requires) c.bit_of-bit.ensures.is c.bit_of-bit.ensures.inside
-    (omega (arith, c.if-count-each.true)) c.if-pass.ensures.enough in
+    c.if-pass_all.ensures.few c.if-pass_all.ensures.enough in
     rw (
       alike_read octets tree c.in-Some.each bit 0 1 c.args.count (left c.args.reader.now) stand,
-      c.if-pass.ensures.rest,
+      c.if-pass_all.ensures.rest,
     ) refl
 
 pub returns-in-Some-clause-stand : goal.returns-in-Some-clause-stand
@@ -42,5 +42,5 @@ returns-in-Some-clause-stand c =
     let stand =
     stand_alike octets tree c.in-Some.each bit _ c.args.count law.unrolled law.allowed
     (rw c.in-Some.is at c.requires) c.bit_of-bit.ensures.is c.bit_of-bit.ensures.inside
-    (omega (arith, c.if-count-each.true)) c.if-pass.ensures.enough in
+    c.if-pass_all.ensures.few c.if-pass_all.ensures.enough in
     alike_begin octets tree c.in-Some.each bit 0 c.args.count (left c.args.reader.now) stand
