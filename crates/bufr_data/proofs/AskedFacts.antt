@@ -51,6 +51,29 @@ asked_handed P all old new None so_far first handed =
     so_far.2 ∙ ap (λ fields. so_far.0 ++ fields) handed.0 ∙ append-nil so_far.0 in
     (subst (NoneAsked P) (sym none) so_far.1, handed.1)
 
+-- a chosen field after those skipped
+pub found_asked : (P : ℕ → Bool) (all old new : List Field) (f : Field) → PassesUnasked P all old
+    → P f.fxy ≡ true → old ≡ f ∷ new → HandsOutAsked P all (Some f) new
+found_asked P all old new f so_far asked is =
+    (so_far.0, so_far.1, asked, so_far.2 ∙ ap (λ fields. so_far.0 ++ fields) is)
+
+-- the same where a step is due
+pub found_due : (P : ℕ → Bool) (due : Due) (walk after : Walk) (reader rest : BitPlace)
+    (all : List Field) (f : Field) → due ≡ Step → fields_ahead due walk reader ≡ all
+    → HandsOutAsked P (fields_ahead Step walk reader) (Some f) (fields_ahead Step after rest)
+    → HandsOutAsked P all (Some f) (fields_ahead due after rest)
+found_due P due walk after reader rest all f is seen handed =
+    subst (λ (old : List Field). HandsOutAsked P old (Some f) (fields_ahead due after rest)) seen
+    (subst (λ (d : Due). HandsOutAsked P (fields_ahead d walk reader) (Some f)
+    (fields_ahead d after rest)) (sym is) handed)
+
+pub passed_due : (P : ℕ → Bool) (due : Due) (walk : Walk) (reader : BitPlace)
+    (all new : List Field) → due ≡ Step → fields_ahead due walk reader ≡ all
+    → PassesUnasked P (fields_ahead Step walk reader) new → PassesUnasked P all new
+passed_due P due walk reader all new is seen passed =
+    subst (λ (old : List Field). PassesUnasked P old new) seen
+    (subst (λ (d : Due). PassesUnasked P (fields_ahead d walk reader) new) (sym is) passed)
+
 -- a number that comes next
 pub number_handed : (P : ℕ → Bool) (all old new : List Field) (found : Option NumberField)
     → PassesUnasked P all old → FirstIsAsked P old

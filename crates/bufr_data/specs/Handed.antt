@@ -66,12 +66,6 @@ StandAhead (Text f) walk reader =
     IsReady walk × IsOk (fields_at 1 1 (text_first f walk) (left reader))
 StandAhead Nothing walk reader = Unit {0}
 
--- a walk and a reader pass the next field, which is not chosen, or they stay
-abbrev pub PassesOrStays : (ℕ → Bool) → Walk → BitPlace → Walk → BitPlace → Bool → Type 0
-PassesOrStays asks walk reader after rest true = StandAhead Step after rest
-    × PassesFirst asks (fields_ahead Step walk reader) (fields_ahead Step after rest)
-PassesOrStays asks walk reader after rest false = (after ≡ walk) × (rest ≡ reader)
-
 -- a step hands out the next field
 pub record StepsTo (field : Field) (due : Due) (walk : Walk) (reader : BitPlace) (later : Due)
     (after : Walk) (rest : BitPlace) : Type 0 where

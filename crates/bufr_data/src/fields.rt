@@ -83,7 +83,10 @@ impl<'v> Fields<'v> {
         ensures others { IfNone result (PassesUnasked (A.is_asked asked.now) self.old self.new) }
     {
         match &mut self.standing {
-            FieldSource::Plain(fields) => fields.next_asked_number(asked),
+            FieldSource::Plain(fields) => match fields.next_asked_number(asked) {
+                None => None,
+                Some(number) => Some(number_by_parts(number)),
+            },
             FieldSource::Laid(fields) => fields.next_asked_number(asked),
             FieldSource::Compressed(fields) => fields.next_asked_number(asked),
         }
@@ -143,4 +146,14 @@ pub(crate) fn by_parts(spec: Spec) -> Spec
         reference,
         width,
     }
+}
+
+/// Copies a field with a number part by part, as `by_parts` does.
+#[inline(always)]
+fn number_by_parts(field: NumberField) -> NumberField
+    ensures { result ≡ field }
+{
+    let NumberField { fxy, spec, number } = field;
+    let spec = by_parts(spec);
+    NumberField { fxy, spec, number }
 }

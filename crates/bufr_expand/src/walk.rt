@@ -175,30 +175,6 @@ impl<'t> Walk<'t> {
         }
     }
 
-    /// Steps past the next field if an element comes next whose field is no count and not chosen.
-    /// Returns its descriptor and its spec.
-    #[inline(always)]
-    pub fn pass_unasked<A: Asks>(&mut self, asked: &A) -> Option<(Fxy, Spec)>
-        requires { waits self.old ≡ false }
-        ensures passed { IfSome result (λ field.
-            Goes (left self.old) (Ok (Field field.0 field.1)) self.new) }
-        ensures unasked { IfSome result (λ field. A.is_asked asked.now field.0 ≡ false) }
-        ensures answered { waits self.new ≡ false }
-        ensures unmoved { IfNone result (self.new ≡ self.old) }
-    {
-        let (fxy, spec) = self.field_ahead()?;
-        if asked.asks(fxy) {
-            return None;
-        }
-        match spec.kind {
-            Kind::Count => None,
-            _ => {
-                self.pass_node();
-                Some((fxy, spec))
-            }
-        }
-    }
-
     /// Returns the field of the next node, if that is an element with a spec.
     #[inline(always)]
     fn field_ahead(&self) -> Option<(Fxy, Spec)>
@@ -214,15 +190,14 @@ impl<'t> Walk<'t> {
             State::Going if self.place < self.stop && self.items < MOST_ITEMS => {}
             _ => return None,
         }
-        let node = self.nodes[self.place];
-        match node {
+        match &self.nodes[self.place] {
             Node::Element(fxy, element) => {
-                let spec = self.operators.effective(&element, fxy).ok()?;
-                Some((fxy, spec))
+                let spec = self.operators.effective(element, *fxy).ok()?;
+                Some((*fxy, spec))
             }
             Node::Untouched(fxy, element) => {
-                let spec = untouched(&element)?;
-                Some((fxy, spec))
+                let spec = untouched(element)?;
+                Some((*fxy, spec))
             }
             Node::Operator(_) | Node::Repeated(_, _) | Node::Delayed(_, _, _) => None,
         }

@@ -47,7 +47,7 @@ few_octets reads contents compressed descriptors subsets (tree, count, rest, is)
 pub when_true : {P : Type 0} (b : Bool) → b ≡ true → OnTrue b P → P
 when_true {P} b is p = subst (λ x. OnTrue x P) is p
 
-pub judged_passed : ((tree : Tree) (compressed : Bool) (count : ℕ) (front : List Bool)
+judged_passed : ((tree : Tree) (compressed : Bool) (count : ℕ) (front : List Bool)
     (found : List Subset × List Bool) → ReadsExactly tree compressed count front found)
     → (tree : Tree) (e : Envelope) (subsets : List Subset) (rest : List Bool)
     → subsets_in tree e.compressed e.count (bits e.contents) ≡ Ok (subsets, rest)
@@ -58,6 +58,20 @@ judged_passed reads tree e subsets rest is few =
     let many =
     ((reads tree e.compressed e.count (bits e.contents) (subsets, rest)).0 is).2 in
     rw (is, few) (λ t. Ok (record { subsets = many t; slack_octets = length rest / 8 }))
+
+-- the sections are seen as `s`
+pub judged_seen : ((tree : Tree) (compressed : Bool) (count : ℕ) (front : List Bool)
+    (found : List Subset × List Bool) → ReadsExactly tree compressed count front found)
+    → (tree : Tree) (e s : Envelope) (subsets : List Subset) (rest : List Bool) → e ≡ s
+    → subsets_in tree e.compressed e.count (bits e.contents) ≡ Ok (subsets, rest)
+    → can_be_alone s.descriptors subsets ≡ true
+    → result_map judged (message_under tree s)
+    ≡ Ok (record { subsets = e.count; slack_octets = length rest / 8 })
+judged_seen reads tree e s subsets rest same is few =
+    subst (λ (x : Envelope). result_map judged (message_under tree x)
+    ≡ Ok (record { subsets = e.count; slack_octets = length rest / 8 })) same
+    (judged_passed reads tree e subsets rest is
+    (subst (λ (x : Envelope). can_be_alone x.descriptors subsets ≡ true) (sym same) few))
 
 pub one_more_short : (descriptors : List ℕ) (subsets : List Subset) (i : ℕ) (s : Subset)
     → i < length subsets → slice_get subsets i ≡ Some s

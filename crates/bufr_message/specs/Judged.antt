@@ -1,9 +1,18 @@
 -- What `MessageReader::check` returns (this project's own).
-use Rattle.std.specs.Prelude.{length}
+use Rattle.std.specs.Prelude.{length, Result}
+use Rattle.bufr_base.specs.Answers.{◌>>=◌, result_map}
+use Rattle.bufr_expand.specs.Trees.{Tree}
 use Rattle.bufr_sections.specs.declared.message.Decoded.{Decoded}
+use Rattle.bufr_sections.specs.declared.fault.Refused.{Refused}
+use Rattle.bufr_sections.specs.Sections.{Envelope}
 use Rattle.bufr_message.specs.declared.judged.Judged.{Judged}
+use Rattle.bufr_message.specs.Kept.{message_under}
 
 -- the summary of a message as read: its number of subsets, and the number of octets of section 4
 -- after its data
 abbrev pub judged : Decoded → Judged
 judged d = record { subsets = length d.message.subsets; slack_octets = d.slack_octets }
+
+-- the summary of the message of sections whose descriptors have this tree, or the first fault
+abbrev pub judged_under : Tree → Result Envelope Refused → Result Judged Refused
+judged_under tree sections = result_map judged (sections >>= message_under tree)

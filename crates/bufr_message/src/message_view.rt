@@ -12,7 +12,7 @@ ghost use Rattle.bufr_data.specs.Kept.{AreKept};
 ghost use Rattle.bufr_sections.specs.declared.message.Decoded.{Decoded};
 ghost use Rattle.bufr_sections.specs.Sections.{descriptors_of, envelope_of};
 ghost use Rattle.bufr_sections.specs.SectionsRead.{envelope, message_lent};
-ghost use Rattle.bufr_message.specs.Judged.{judged};
+ghost use Rattle.bufr_message.specs.Judged.{judged, judged_under};
 ghost use Rattle.bufr_message.specs.Kept.{message_under};
 ghost use Rattle.bufr_message.specs.Messages.{Spells, data_or, message_of, message_with};
 ghost use Rattle.bufr_message.specs.OwnBits.{HaveRoom, spelt_alone, AddsOwn};
@@ -30,7 +30,8 @@ use bufr_bits::{BitReader, BitSink};
 use bufr_data::laws::data_hold_subsets;
 use bufr_data::{ChosenFields, DataFault, DataTemplate, Fields, Kept, Subset, SubsetIndex};
 use bufr_sections::{
-    Decoded, Envelope, Head, LentSections, Message, Refused, are_bare, read_sections,
+    Decoded, Envelope, Head, LentSections, Message, Refused, SectionsInPlace, are_bare,
+    find_sections, read_sections,
 };
 use bufr_tables::{Fxy, Tables};
 use std::alloc::Global;
@@ -309,20 +310,26 @@ pub(crate) fn judge_keeping(
     ensures are { AreKept tables.now kept.new.items }
     ensures exact { Gives (λ j. j) result (result_map judged (message_of tables.now octets.now)) }
 {
-    let sections = read_sections(alloc, octets)?;
+    let sections = match find_sections(octets) {
+        Ok(sections) => sections,
+        Err(why) => return Err(Failure::Fault(why)),
+    };
     bring_to_front(alloc, tables, kept, sections.listed)?;
-    judge_in(alloc, &mut kept[0], &sections)
+    judge_in(alloc, &mut kept[0], octets, &sections)
 }
 
+/// Judges the message of octets with these sections.
 #[inline(always)]
 fn judge_in(
     alloc: Global,
     kept: &mut Kept,
-    sections: &Envelope<'_>,
+    octets: &[u8],
+    sections: &SectionsInPlace<'_>,
 ) -> Result<Judged, Failure<Refused>>
-    requires list { kept.old.descriptors.value ≡ descriptors_of sections.now.listed.now }
+    requires list { kept.old.descriptors.value ≡ sections.now.descriptors }
+    requires found { envelope_of octets.now ≡ Ok sections.now }
     ensures exact { Gives (λ j. j) result
-        (result_map judged (message_under kept.old.template (envelope sections.now))) }
+        (result_map judged (message_under kept.old.template sections.now)) }
     ensures same { kept.new ≡ kept.old }
 {
     data_hold_subsets();
@@ -337,22 +344,19 @@ fn judge_in(
             slack_octets: (left / 8) as u64,
         });
     }
-    judge_by_index(alloc, kept, sections)
+    judge_by_index(alloc, kept, octets)
 }
 
-/// Judges like `judge_in`, by an index of the subsets.
+/// Judges the message of octets by an index of its subsets.
 #[inline(never)]
-fn judge_by_index(
-    alloc: Global,
-    kept: &mut Kept,
-    sections: &Envelope<'_>,
-) -> Result<Judged, Failure<Refused>>
-    requires list { kept.old.descriptors.value ≡ descriptors_of sections.now.listed.now }
+fn judge_by_index(alloc: Global, kept: &mut Kept, octets: &[u8]) -> Result<Judged, Failure<Refused>>
+    requires list { IfOk (envelope_of octets.now) (λ e. kept.old.descriptors.value ≡ e.descriptors) }
     ensures exact { Gives (λ j. j) result
-        (result_map judged (message_under kept.old.template (envelope sections.now))) }
+        (judged_under kept.old.template (envelope_of octets.now)) }
     ensures same { kept.new ≡ kept.old }
 {
-    let (subsets, slack_octets) = subsets_of(alloc, &[], kept, sections)?;
+    let sections = read_sections(alloc, octets)?;
+    let (subsets, slack_octets) = subsets_of(alloc, &[], kept, &sections)?;
     Ok(Judged {
         subsets: subsets.count() as u64,
         slack_octets,

@@ -1,6 +1,6 @@
 -- Fields handed out one at a time.
 use Rattle.std.proofs.Common.{◌≡◌, ℕ, ◌+◌, Bool, List, [], ◌∷◌, Option, Some, None, Result, Ok, Err}
-use Rattle.std.proofs.Common.{◌≤◌, true, false, drop, length, refl, sym, ap, subst, ◌∙◌}
+use Rattle.std.proofs.Common.{◌≤◌, false, drop, length, refl, sym, ap, subst, ◌∙◌}
 use Rattle.std.specs.Prelude.{IsOk}
 use Rattle.std.proofs.lemmas.List.{drop-drop}
 use Rattle.bufr_base.specs.Answers.{◌>>=◌}
@@ -26,7 +26,7 @@ use Rattle.bufr_data.specs.declared.plain.layout.LaidField.{LaidField}
 use Rattle.bufr_data.specs.declared.plain.fields.Due.{Due}
 use Rattle.bufr_data.specs.declared.plain.fields.Due.TheVariants.{Step, Text, Nothing}
 use Rattle.bufr_data.specs.Handed.{fields_ahead, text_first, StandAhead, StepsTo, StepsToNone}
-use Rattle.bufr_data.specs.Handed.{PassesOrStays, moved_on}
+use Rattle.bufr_data.specs.Handed.{PassesFirst, moved_on}
 use Rattle.bufr_data.specs.Plain.Starts.{PassesRaw}
 use Rattle.bufr_fields.specs.Steady.{WalkAdvances}
 use Rattle.bufr_fields.specs.StepLaws.{asks_field, steady_step, field_goes, field_goes_on, stops_there}
@@ -224,7 +224,8 @@ pub field_passed : (P : ℕ → Bool) (walk after : Walk) (reader : BitPlace) (d
     → P d ≡ false
     → ((front : List Bool) → IsOk (raw_or_ends 1 1 (raw_at spec front))
     → (size ≤ length front) × PassesRaw 1 spec front (drop size front))
-    → PassesOrStays P walk reader after (moved_on reader size) true
+    → StandAhead Step after (moved_on reader size)
+    × PassesFirst P (fields_ahead Step walk reader) (fields_ahead Step after (moved_on reader size))
 field_passed P walk after reader d spec size stand goes unasked takes =
     let taken = takes (left reader) (value_there walk after reader d spec stand goes) in
     let behind : left (moved_on reader size) ≡ drop size (left reader) =

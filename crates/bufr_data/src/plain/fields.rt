@@ -1,10 +1,10 @@
 //! Hands out the fields of a plain subset along a walk.
 
-ghost use Rattle.std.specs.Prelude.{◌≡◌, false, Some, IfOk, IfErr, IfSome, IfNone, OnErr};
+ghost use Rattle.std.specs.Prelude.{◌≡◌, Some, IfOk, IfErr, IfSome, IfNone, OnErr};
 ghost use Rattle.std.specs.Bool.{OnTrue};
 ghost use Rattle.bufr_fields.specs.Values.{as_field};
 ghost use Rattle.bufr_data.specs.Handed.{HandsOut, HandsOutAsked, NoneAsked, PassesUnasked};
-ghost use Rattle.bufr_data.specs.Handed.{PassesFirst, PassesOrStays, StandAhead, StepsTo, StepsToNone};
+ghost use Rattle.bufr_data.specs.Handed.{StandAhead, StepsTo, StepsToNone, fields_ahead};
 ghost use Rattle.bufr_data.specs.declared.plain.fields.Due.TheVariants as dues;
 
 use crate::plain::layout::LaidField;
@@ -74,23 +74,25 @@ impl<'v> PlainFields<'v> {
 
     /// Hands out the next chosen field if no text comes before it. Else returns `None`, for
     /// `next_asked` to take it.
+    // Inlined, its code would slow loops over other fields.
+    #[inline(never)]
     pub(crate) fn next_asked_number<A: Asks>(&mut self, asked: &A) -> Option<NumberField>
         ensures found { IfSome result (λ number.
             HandsOutAsked (A.is_asked asked.now) self.old (Some (as_field number)) self.new) }
         ensures others { IfNone result (PassesUnasked (A.is_asked asked.now) self.old self.new) }
     {
-        if let Due::Step = self.due {
-            if self.walk.tells_no_more(asked) {
-                return None;
-            }
+        match self.due {
+            Due::Step => {}
+            Due::Text(_) | Due::Nothing => return None,
         }
-        loop {
-            if self.pass_unasked(asked) {
-                continue;
-            }
-            let number = self.next_number()?;
-            if asked.asks(number.fxy) {
-                return Some(number);
+        if self.walk.tells_no_more(asked) {
+            return None;
+        }
+        match next_chosen(asked, &mut self.walk, &mut self.reader) {
+            Ok(number) => Some(number),
+            Err(due) => {
+                self.due = due;
+                None
             }
         }
     }
@@ -102,34 +104,6 @@ impl<'v> PlainFields<'v> {
         match self.due {
             Due::Step => self.walk.tells_no_more_inside(asked),
             Due::Text(_) | Due::Nothing => false,
-        }
-    }
-
-    /// Skips the next field if the walk shows that it is not chosen. Returns whether it did.
-    #[inline(always)]
-    fn pass_unasked<A: Asks>(&mut self, asked: &A) -> bool
-        ensures passed { OnTrue result (PassesFirst (A.is_asked asked.now) self.old self.new) }
-        ensures stays { result ≡ false → self.new ≡ self.old }
-    {
-        match self.due {
-            Due::Step => pass_unasked(asked, &mut self.walk, &mut self.reader),
-            Due::Text(_) | Due::Nothing => false,
-        }
-    }
-
-    /// Hands out the next field if it is a number. `None` at a text and at the end.
-    #[inline(always)]
-    fn next_number(&mut self) -> Option<NumberField>
-        ensures found { IfSome result (λ number.
-            HandsOut self.old (Some (as_field number)) self.new) }
-        ensures others { IfNone result (self.new ≡ self.old) }
-    {
-        match step(self.due, &mut self.walk, &mut self.reader) {
-            Ok(number) => Some(number),
-            Err(due) => {
-                self.due = due;
-                None
-            }
         }
     }
 
@@ -159,17 +133,42 @@ impl<'v> PlainFields<'v> {
     }
 }
 
-/// Passes the bits of the next field if the walk passes it. Returns whether it did.
+/// Steps to the next chosen field if no text comes before it, and reads it. Passes elements that are
+/// not chosen unread. At a text and at the end it returns what comes next then.
 #[inline(always)]
-fn pass_unasked<A: Asks>(asked: &A, walk: &mut Walk, reader: &mut BitReader) -> bool
+fn next_chosen<A: Asks>(
+    asked: &A,
+    walk: &mut Walk,
+    reader: &mut BitReader,
+) -> Result<NumberField, Due>
     requires { StandAhead dues.Step walk.old reader.old }
-    ensures { PassesOrStays (A.is_asked asked.now) walk.old reader.old walk.new reader.new result }
+    ensures ahead { IfOk result (λ number. StandAhead dues.Step walk.new reader.new) }
+    ensures found { IfOk result (λ number.
+        HandsOutAsked (A.is_asked asked.now) (fields_ahead dues.Step walk.old reader.old)
+        (Some (as_field number)) (fields_ahead dues.Step walk.new reader.new)) }
+    ensures later { IfErr result (λ later. StandAhead later walk.new reader.new) }
+    ensures others { IfErr result (λ later. PassesUnasked (A.is_asked asked.now)
+        (fields_ahead dues.Step walk.old reader.old) (fields_ahead later walk.new reader.new)) }
 {
-    match walk.pass_unasked(asked) {
-        None => false,
-        Some((_, spec)) => {
-            pass_bits(reader, standing_bits(spec));
-            true
+    'elements: loop {
+        match walk.pass_element() {
+            None => match step_to_any(walk, reader) {
+                Err(due) => return Err(due),
+                Ok(number) => {
+                    if asked.asks(number.fxy) {
+                        return Ok(number);
+                    }
+                }
+            },
+            Some((fxy, spec)) => {
+                if asked.asks(fxy) {
+                    return match read_number(spec, reader) {
+                        Some(number) => Ok(NumberField { fxy, spec, number }),
+                        None => Err(Due::Text(LaidField { fxy, spec })),
+                    };
+                }
+                pass_bits(reader, standing_bits(spec));
+            }
         }
     }
 }

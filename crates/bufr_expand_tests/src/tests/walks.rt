@@ -77,29 +77,6 @@ fn no_more_that_are_asked_for(rt: HostRuntime) {
     }
 }
 
-/// Takes the widths of fields that the walk passes, and then passes none.
-fn assert_passes(rt: &impl Abort, walk: &mut Walk<'_>, widths: &[u32])
-    requires { waits walk.old ≡ false }
-{
-    for width in widths {
-        let (_, spec) = walk.pass_unasked(&Temperatures).expect(rt, "a field");
-        same(rt, spec.width, *width);
-    }
-    assert!(rt; walk.pass_unasked(&Temperatures).is_none());
-}
-
-/// Descriptors, and the widths of the fields that are passed.
-const PASSED: &[(&[u32], &[u32])] = &[
-    (&[1001, 1011, 2001, 12101, 1002], &[7, 72, 2]),
-    (&[12101, 1001], &[]),
-    (&[1001, 1002], &[7, 10]),
-    (&[1001, 31001, 1002], &[7, 8, 10]),
-    (&[1001, 201130, 1002], &[7]),
-    (&[1001, 12102, 1002], &[7]),
-    (&[1001, 101000, 31001, 1002], &[7]),
-    (&[101002, 1001], &[]),
-];
-
 /// Takes the widths of elements that the walk passes, and then passes none.
 fn assert_passes_elements(rt: &impl Abort, walk: &mut Walk<'_>, widths: &[u32])
     requires { waits walk.old ≡ false }
@@ -114,6 +91,8 @@ fn assert_passes_elements(rt: &impl Abort, walk: &mut Walk<'_>, widths: &[u32])
 /// Descriptors, and the widths of the elements that are passed.
 const ELEMENTS: &[(&[u32], &[u32])] = &[
     (&[1001, 12101, 1011], &[7, 16, 72]),
+    (&[1001, 1011, 2001, 12101, 1002], &[7, 72, 2, 16, 10]),
+    (&[1001, 31001, 1002], &[7, 8, 10]),
     (&[1001, 201130, 1002], &[7]),
     (&[1001, 12102, 1002], &[7]),
     (&[1001, 101000, 31001, 1002], &[7]),
@@ -128,19 +107,6 @@ fn elements_passed(rt: HostRuntime) {
         let template = template_of(&rt, rt.alloc(), digits);
         let mut walk = Walk::start(rt.alloc(), &template, 0).expect(&rt, "room");
         assert_passes_elements(&rt, &mut walk, widths);
-        drop(walk);
-        drop(template);
-    }
-}
-
-/// The walk passes elements up to a temperature, an operator, a field with too many bits, a
-/// replication or the end.
-#[test]
-fn fields_passed_unasked(rt: HostRuntime) {
-    for (digits, widths) in PASSED {
-        let template = template_of(&rt, rt.alloc(), digits);
-        let mut walk = Walk::start(rt.alloc(), &template, 0).expect(&rt, "room");
-        assert_passes(&rt, &mut walk, widths);
         drop(walk);
         drop(template);
     }

@@ -1,5 +1,4 @@
 -- The walk's answer, in fields.
-use Rattle.std.proofs.Common.{Bool, true, false, ◌≡◌, ℕ, List}
 use Rattle.bufr_data.proofs.AskedFacts.{none_if_told}
 use Rattle.bufr_data.proofs.plain.fields.PlainFields.tells_no_more.Goals as goal
 
