@@ -10,3 +10,4 @@ mod OnLiterals
 mod FieldFacts
 mod NumberFacts
 mod LineFacts
+mod FieldTexts

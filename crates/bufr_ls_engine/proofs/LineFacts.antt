@@ -1,7 +1,9 @@
 -- Lines of fields, from the first field on: the contracts of `push_said`, `push_refused` and `push_all`.
 use Rattle.std.proofs.Common.{◌≡◌, ◌∙◌, ℕ, ◌<◌, List, [], ◌∷◌, ◌++◌, length, refl, sym, ap, append_assoc, arith}
+use Rattle.std.proofs.Common.{◌-◌, drop, take, map}
 use Rattle.std.specs.List.{join_by, flat_map}
-use Rattle.std.proofs.lemmas.List.{append-nil}
+use Rattle.std.proofs.lemmas.List.{append-nil, length-drop, take_all}
+use Rattle.bufr_ls_engine.specs.RowSteps.{texts_before}
 
 -- a first field and others, each with a comma after it, and the last with the end of the line
 abbrev pub line : {X : Type 0} → (X → List ℕ) → X → List X → List ℕ
@@ -45,34 +47,16 @@ parted f x (z ∷ xs) y ys =
     ∙ append_assoc (f x) (44 ∷ []) (flat_map (λ c. f c ++ 44 ∷ []) (z ∷ xs) ++ line f y ys)
     ∙ ap (λ (t : List ℕ). f x ++ 44 ∷ t) (parted f z xs y ys)
 
--- a text that grew by the last of some fields
-pub grown_by_last : {X : Type 0} (f : X → List ℕ) (x : X) (old text : List ℕ)
-    → text ≡ old ++ f x ++ 44 ∷ [] → text ≡ old ++ flat_map (λ c. f c ++ 44 ∷ []) (x ∷ [])
-grown_by_last f x old text is =
-    is ∙ append_assoc old (f x) (44 ∷ []) ∙ ap (λ (t : List ℕ). old ++ t) (sym (append-nil (f x ++ 44 ∷ [])))
+-- the first fields, each with a comma after it, and nothing after them
+pub ended_by_commas : {X : Type 0} (f : X → List ℕ) (xs : List X)
+    → texts_before (map f xs) [] ≡ flat_map (λ c. f c ++ 44 ∷ []) xs
+ended_by_commas f [] = refl
+ended_by_commas f (x ∷ xs) =
+    ap (λ (t : List ℕ). f x ++ 44 ∷ t) (ended_by_commas f xs)
+    ∙ sym (append_assoc (f x) (44 ∷ []) (flat_map (λ c. f c ++ 44 ∷ []) xs))
 
--- a text that grew by a field, and then by others
-pub grown_by_one : {X : Type 0} (f : X → List ℕ) (x : X) (xs : List X) (old mid text : List ℕ)
-    → mid ≡ old ++ f x ++ 44 ∷ [] → text ≡ mid ++ flat_map (λ c. f c ++ 44 ∷ []) xs
-    → text ≡ old ++ flat_map (λ c. f c ++ 44 ∷ []) (x ∷ xs)
-grown_by_one f x xs old mid text first then =
-    then
-    ∙ ap (λ (t : List ℕ). t ++ flat_map (λ c. f c ++ 44 ∷ []) xs)
-    (first ∙ append_assoc old (f x) (44 ∷ []))
-    ∙ append_assoc old (f x ++ 44 ∷ []) (flat_map (λ c. f c ++ 44 ∷ []) xs)
-
--- the fields of some columns and of others
-fields_of_both : {X : Type 0} (f : X → List ℕ) (xs ys : List X)
-    → flat_map f (xs ++ ys) ≡ flat_map f xs ++ flat_map f ys
-fields_of_both f [] ys = refl
-fields_of_both f (x ∷ xs) ys =
-    ap (λ (t : List ℕ). f x ++ t) (fields_of_both f xs ys)
-    ∙ sym (append_assoc (f x) (flat_map f xs) (flat_map f ys))
-
--- a text that grew by the fields of some columns, and then of others
-pub grown_by_both : {X : Type 0} (f : X → List ℕ) (xs ys : List X) (old mid text : List ℕ)
-    → mid ≡ old ++ flat_map f xs → text ≡ mid ++ flat_map f ys → text ≡ old ++ flat_map f (xs ++ ys)
-grown_by_both f xs ys old mid text first then =
-    then ∙ ap (λ (t : List ℕ). t ++ flat_map f ys) first
-    ∙ append_assoc old (flat_map f xs) (flat_map f ys)
-    ∙ ap (λ (t : List ℕ). old ++ t) (sym (fields_of_both f xs ys))
+-- the end of a row is all of it from an index on
+pub rest_of_row : (row fields : List ℕ) (first : ℕ) → length row ≡ 168 → drop first row ≡ fields
+    → take (168 - first) (drop first row) ≡ fields
+rest_of_row row fields first long is =
+    take_all (168 - first) (drop first row) (omega (arith, long, length-drop first row)) ∙ is

@@ -23,6 +23,7 @@ impl<'c, W: Sink> TakesFrames<W> for Lister<'c> {
         StopsListing first.columns.now first.input first.rows.written frames (W.writing begin)
         (W.writing writer) fault };
 
+    #[inline(always)]
     fn take_frame(
         &mut self,
         alloc: Global,

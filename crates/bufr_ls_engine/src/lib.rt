@@ -10,7 +10,9 @@ pub mod laws;
 mod lister;
 mod ls;
 mod numbers;
+mod placed;
 mod row;
+mod texts;
 mod whole_row;
 mod worked_values;
 

@@ -6,7 +6,8 @@ ghost use Rattle.bufr_io.specs.Taking.{frame_at};
 ghost use Rattle.bufr_ls_engine.specs.Listers.{HoldsRow, IsUnchanged, Keeps, Stops, WritesHeader};
 
 use crate::column::Column;
-use crate::row::{Numbered, hold_row, push_header};
+use crate::numbers::push_octet_line;
+use crate::row::{Numbered, hold_row, push_header, version_alone};
 use bufr_base::OutOfMemory;
 use bufr_bits::Sink;
 use bufr_io::{HeldRows, ToolFault, write_out};
@@ -68,7 +69,29 @@ impl<'c> Lister<'c> {
     }
 
     /// Holds the row of the frame of octets at a place, and counts the frame.
+    #[inline(always)]
     pub(crate) fn hold_frame(
+        &mut self,
+        alloc: Global,
+        place: u64,
+        octets: &[u8],
+    ) -> Result<(), OutOfMemory>
+        requires frames { self.old.frames + 1 < 2 ^ 128 }
+        requires refused { self.old.refused + 1 < 2 ^ 128 }
+        ensures ok { OnOk result (HoldsRow self.old self.new (frame_at place octets.now)) }
+        ensures err { OnErr result (IsUnchanged self.old self.new) }
+    {
+        if let Some(version) = version_alone(self.columns, octets) {
+            push_octet_line(&mut self.rows.held, version)?;
+            self.frames += 1;
+            return Ok(());
+        }
+        self.hold_any_frame(alloc, place, octets)
+    }
+
+    /// Does what `hold_frame` does, for any frame and any columns.
+    #[inline(never)]
+    fn hold_any_frame(
         &mut self,
         alloc: Global,
         place: u64,

@@ -1,12 +1,59 @@
 //! Numbers in a text that has room for them, each with the octet after it.
 
 ghost use Rattle.std.specs.Prelude.{◌≡◌, ◌++◌, ◌∷◌, ◌<◌, ◌≤◌, ◌+◌, [], decimal, length, vec_len};
+ghost use Rattle.std.specs.Prelude.{OnOk, OnErr};
 ghost use Rattle.std.specs.Vec.{vec_capacity};
+ghost use Rattle.bufr_ls_engine.specs.RowSteps.{number_text};
 
+use crate::texts::{LENGTHS, LINES};
+use bufr_base::OutOfMemory;
 use itoa::{Buffer, Integer};
 
 /// The most octets that a number of 128 bits and the octet after it take.
 pub(crate) const LONGEST: usize = 41;
+
+/// A number of a row, by its longest text.
+#[derive(Clone, Copy, Drop)]
+pub(crate) enum Number {
+    /// No number.
+    Empty,
+    /// A number of one octet.
+    Octet(u8),
+    /// A number of two octets.
+    Count(u16),
+    /// A number of 64 bits.
+    Long(u64),
+    /// A number that seldom needs more than 64 bits.
+    Wide(u128),
+}
+
+/// Adds the line of a number of one octet, or nothing if memory runs out.
+#[inline(always)]
+pub(crate) fn push_octet_line(text: &mut Vec<u8>, number: u8) -> Result<(), OutOfMemory>
+    ensures ok { OnOk result (text.new.items ≡ text.old.items ++ decimal number ++ 10 ∷ []) }
+    ensures err { OnErr result (text.new.items ≡ text.old.items) }
+{
+    let held = text.len();
+    let at = 4 * usize::from(number);
+    text.extend_from_slice(&LINES[at..at + 4])?;
+    text.truncate(held + usize::from(LENGTHS[usize::from(number)]));
+    Ok(())
+}
+
+/// Adds a number.
+#[inline(always)]
+pub(crate) fn push_sized(text: &mut Vec<u8>, number: Number, end: u8)
+    requires room { vec_len text.old + 41 ≤ vec_capacity text.old }
+    ensures items { text.new.items ≡ text.old.items ++ number_text number ++ end ∷ [] }
+{
+    match number {
+        Number::Empty => text.push_reserved(end),
+        Number::Octet(number) => push_count(text, u16::from(number), end),
+        Number::Count(number) => push_count(text, number, end),
+        Number::Long(number) => push_number(text, number, end),
+        Number::Wide(number) => push_wide(text, number, end),
+    }
+}
 
 /// Adds a number that seldom needs more than 64 bits.
 #[inline(always)]

@@ -1,7 +1,7 @@
 //! The row of a frame.
 
 ghost use Rattle.std.specs.Prelude.{◌≡◌, ◌++◌, ◌∷◌, ◌≤◌, ◌+◌, [], true, length, take, vec_len, Ok, Err};
-ghost use Rattle.std.specs.Prelude.{IfOk, OnOk, OnErr};
+ghost use Rattle.std.specs.Prelude.{ℕ, decimal, IfOk, IfSome, OnOk, OnErr};
 ghost use Rattle.std.specs.Int.{from_bool};
 ghost use Rattle.std.specs.List.{join_by};
 ghost use Rattle.std.specs.Vec.{vec_capacity};
@@ -9,12 +9,15 @@ ghost use Rattle.bufr_tables.specs.Descriptors.{six_digits};
 ghost use Rattle.bufr_sections.specs.Sections.{descriptors_of, two};
 ghost use Rattle.bufr_io.specs.Taking.{frame_at};
 ghost use Rattle.bufr_ls_engine.specs.Columns.{word};
+ghost use Rattle.bufr_ls_engine.specs.RowSteps.{number_text};
 ghost use Rattle.bufr_ls_engine.specs.Rows.{edition_of, field_as, fields_as, frame_refused, is_short};
 ghost use Rattle.bufr_ls_engine.specs.Rows.{header, row, row_as};
 
 use crate::column::Column;
-use crate::numbers::{LONGEST, push_count, push_number, push_octets, push_wide};
-use crate::whole_row::{are_all, push_all};
+use crate::numbers::{
+    LONGEST, Number, push_count, push_number, push_octet_line, push_octets, push_sized, push_wide,
+};
+use crate::whole_row::{Counts, are_all, hold_all};
 use bufr_base::OutOfMemory;
 use bufr_sections::{Refused, SectionsInPlace, find_sections};
 use bufr_tables::Fxy;
@@ -33,6 +36,25 @@ pub(crate) struct Numbered<'a> {
     pub(crate) octets: &'a [u8],
 }
 
+/// Returns the version of the master tables, if it is the only column, and the frame has no refusal.
+// The launcher asks for this column.
+#[inline(always)]
+#[tactic(auto, unfolding(crate::specs::Rows::field_as, crate::specs::Rows::said_in))]
+pub(crate) fn version_alone(columns: &[Column], octets: &[u8]) -> Option<u8>
+    ensures row { IfSome result (λ version. (input message place : ℕ)
+        → row columns.now input message (frame_at place octets.now) ≡ decimal version ++ 10 ∷ []) }
+    ensures read { IfSome result (λ version. (place : ℕ)
+        → frame_refused (frame_at place octets.now) ≡ 0) }
+{
+    let [Column::MasterVersion] = columns else {
+        return None;
+    };
+    match find_sections(octets) {
+        Ok(said) => Some(said.master_version()),
+        Err(_) => None,
+    }
+}
+
 /// Adds the row of a frame, and returns whether it has a refusal. If memory runs out, the text stays.
 #[inline(always)]
 pub(crate) fn hold_row(
@@ -47,17 +69,24 @@ pub(crate) fn hold_row(
         ≡ frame_refused (frame_at frame.now.place frame.now.octets.now)) }
     ensures err { OnErr result (text.new.items ≡ text.old.items) }
 {
-    // Takes a short way for one column, which the launcher asks for.
+    // One column and all columns have short ways.
     if let [column] = columns {
         if column.is_short() {
             if let Ok(said) = find_sections(frame.octets) {
-                text.reserve(LONGEST)?;
-                push_short(text, *column, frame, &said, b'\n');
+                push_line(text, *column, frame, &said)?;
                 return Ok(false);
             }
         }
     }
-    hold_any_row(alloc, text, columns, *frame)
+    if are_all(columns) {
+        if let Some(counts) = Counts::new(frame) {
+            if let Ok(said) = find_sections(frame.octets) {
+                hold_all(text, &counts, &said)?;
+                return Ok(false);
+            }
+        }
+    }
+    hold_any_row(alloc, text, columns, frame)
 }
 
 /// Does what `hold_row` does, for any columns.
@@ -66,17 +95,17 @@ fn hold_any_row(
     alloc: Global,
     text: &mut Vec<u8>,
     columns: &[Column],
-    frame: Numbered<'_>,
+    frame: &Numbered<'_>,
 ) -> Result<bool, OutOfMemory>
-    ensures ok { OnOk result (text.new.items ≡ text.old.items ++ row columns.now frame.entry.input
-        frame.entry.message (frame_at frame.entry.place frame.entry.octets.now)) }
+    ensures ok { OnOk result (text.new.items ≡ text.old.items ++ row columns.now frame.now.input
+        frame.now.message (frame_at frame.now.place frame.now.octets.now)) }
     ensures told { IfOk result (λ refused. from_bool refused
-        ≡ frame_refused (frame_at frame.entry.place frame.entry.octets.now)) }
+        ≡ frame_refused (frame_at frame.now.place frame.now.octets.now)) }
     ensures err { OnErr result (text.new.items ≡ text.old.items) }
 {
     let said = find_sections(frame.octets);
     let held = text.len();
-    if push_row(alloc, text, columns, &frame, &said).is_err() {
+    if push_row(alloc, text, columns, frame, &said).is_err() {
         text.truncate(held);
         return Err(OutOfMemory);
     }
@@ -130,9 +159,6 @@ fn push_row(
         Ok(said) => said,
         Err(why) => return push_refused(alloc, text, *first, others, frame, why),
     };
-    if are_all(columns) {
-        return push_all(text, frame, said);
-    }
     push_said(text, *first, others, frame, said)
 }
 
@@ -207,7 +233,7 @@ fn push_field(
     Ok(())
 }
 
-fn edition_of(octets: &[u8]) -> u8
+pub(crate) fn edition_of(octets: &[u8]) -> u8
     ensures { result ≡ edition_of octets.now }
 {
     match octets {
@@ -216,9 +242,68 @@ fn edition_of(octets: &[u8]) -> u8
     }
 }
 
-/// Adds a short field of sections, and the octet after it.
+/// Returns the number of a column of sections.
 #[inline(always)]
 #[tactic(auto, unfolding(crate::specs::Rows::field_as, crate::specs::Rows::said_in))]
+fn number_of(column: Column, frame: &Numbered<'_>, said: &SectionsInPlace<'_>) -> Number
+    requires { is_short column ≡ true }
+    ensures { number_text result ≡ field_as column frame.now.input frame.now.message
+        (frame_at frame.now.place frame.now.octets.now) (Ok said.now) }
+{
+    match column {
+        Column::Input => Number::Wide(frame.input),
+        Column::Message => Number::Wide(frame.message),
+        Column::Place => Number::Long(frame.place),
+        Column::Length => Number::Long(frame.octets.len() as u64),
+        Column::Edition => Number::Octet(edition_of(frame.octets)),
+        Column::Centre => Number::Count(said.centre()),
+        Column::SubCentre => Number::Count(said.sub_centre()),
+        Column::Update => Number::Octet(said.update()),
+        Column::Category => Number::Octet(said.category()),
+        Column::International => Number::Octet(said.international()),
+        Column::LocalCategory => Number::Octet(said.local_category()),
+        Column::MasterTable => Number::Octet(0),
+        Column::MasterVersion => Number::Octet(said.master_version()),
+        Column::LocalVersion => Number::Octet(said.local_version()),
+        Column::Year => Number::Count(said.year()),
+        Column::Month => Number::Octet(said.month()),
+        Column::Day => Number::Octet(said.day()),
+        Column::Hour => Number::Octet(said.hour()),
+        Column::Minute => Number::Octet(said.minute()),
+        Column::Second => Number::Octet(said.second()),
+        Column::Subsets => Number::Count(said.count),
+        Column::Observed => Number::Octet(u8::from(said.observed)),
+        Column::Compressed => Number::Octet(u8::from(said.compressed)),
+        Column::Descriptors | Column::Reason => Number::Empty,
+    }
+}
+
+/// Adds the row of one short field of sections, or nothing if memory runs out.
+#[inline(always)]
+fn push_line(
+    text: &mut Vec<u8>,
+    column: Column,
+    frame: &Numbered<'_>,
+    said: &SectionsInPlace<'_>,
+) -> Result<(), OutOfMemory>
+    requires { is_short column ≡ true }
+    ensures ok { OnOk result (text.new.items ≡ text.old.items
+        ++ field_as column frame.now.input frame.now.message
+        (frame_at frame.now.place frame.now.octets.now) (Ok said.now) ++ 10 ∷ []) }
+    ensures err { OnErr result (text.new.items ≡ text.old.items) }
+{
+    match number_of(column, frame, said) {
+        Number::Octet(number) => push_octet_line(text, number),
+        number => {
+            text.reserve(LONGEST)?;
+            push_sized(text, number, b'\n');
+            Ok(())
+        }
+    }
+}
+
+/// Adds a short field of sections, and the octet after it.
+#[inline(always)]
 pub(crate) fn push_short(
     text: &mut Vec<u8>,
     column: Column,
@@ -231,36 +316,8 @@ pub(crate) fn push_short(
     ensures items { text.new.items ≡ text.old.items
         ++ field_as column frame.now.input frame.now.message
         (frame_at frame.now.place frame.now.octets.now) (Ok said.now) ++ end ∷ [] }
-    ensures len { vec_len text.new ≤ vec_len text.old + 41 }
-    ensures capacity { vec_capacity text.old ≤ vec_capacity text.new }
 {
-    let number = match column {
-        Column::Input => return push_wide(text, frame.input, end),
-        Column::Message => return push_wide(text, frame.message, end),
-        Column::Place => return push_number(text, frame.place, end),
-        Column::Length => return push_number(text, frame.octets.len() as u64, end),
-        Column::Edition => u16::from(edition_of(frame.octets)),
-        Column::Centre => said.centre(),
-        Column::SubCentre => said.sub_centre(),
-        Column::Update => u16::from(said.update()),
-        Column::Category => u16::from(said.category()),
-        Column::International => u16::from(said.international()),
-        Column::LocalCategory => u16::from(said.local_category()),
-        Column::MasterTable => 0,
-        Column::MasterVersion => u16::from(said.master_version()),
-        Column::LocalVersion => u16::from(said.local_version()),
-        Column::Year => said.year(),
-        Column::Month => u16::from(said.month()),
-        Column::Day => u16::from(said.day()),
-        Column::Hour => u16::from(said.hour()),
-        Column::Minute => u16::from(said.minute()),
-        Column::Second => u16::from(said.second()),
-        Column::Subsets => said.count,
-        Column::Observed => u16::from(said.observed),
-        Column::Compressed => u16::from(said.compressed),
-        Column::Descriptors | Column::Reason => return text.push_reserved(end),
-    };
-    push_count(text, number, end);
+    push_sized(text, number_of(column, frame, said), end);
 }
 
 /// Adds the field of a column of a refused frame, and the octet after it.

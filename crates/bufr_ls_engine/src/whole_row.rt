@@ -1,12 +1,12 @@
 //! The row of a message with all columns, which needs no choice for each column.
 
-ghost use Rattle.std.specs.Prelude.{◌≡◌, ◌++◌, ◌∷◌, ◌≤◌, ◌+◌, true, [], length, take, vec_len, Ok};
+ghost use Rattle.std.specs.Prelude.{◌≡◌, ◌++◌, ◌∷◌, ◌≤◌, ◌+◌, true, [], length, take, drop, decimal, Ok};
 ghost use Rattle.std.specs.Prelude.{IfSome, OnOk, OnErr};
-ghost use Rattle.std.specs.Vec.{vec_capacity};
+ghost use Rattle.std.specs.Int.{from_bool};
 ghost use Rattle.bufr_io.specs.Taking.{frame_at};
 ghost use Rattle.bufr_ls_engine.specs.Columns.{all_columns};
-ghost use Rattle.bufr_ls_engine.specs.RowSteps.{fields_ended};
-ghost use Rattle.bufr_ls_engine.specs.Rows.{row_as};
+ghost use Rattle.bufr_ls_engine.specs.RowSteps.{fields_ended, texts_before};
+ghost use Rattle.bufr_ls_engine.specs.Rows.{edition_of, row_as};
 ghost use Rattle.bufr_ls_engine.specs.declared.column.Column.TheVariants.{Input, Message, Place, Length};
 ghost use Rattle.bufr_ls_engine.specs.declared.column.Column.TheVariants.{Edition, Centre, SubCentre};
 ghost use Rattle.bufr_ls_engine.specs.declared.column.Column.TheVariants.{Update, Category, International};
@@ -17,15 +17,17 @@ ghost use Rattle.bufr_ls_engine.specs.declared.column.Column.TheVariants.{Second
 ghost use Rattle.bufr_ls_engine.specs.declared.column.Column.TheVariants.{Compressed, Descriptors, Reason};
 
 use crate::column::Column;
-use crate::row::{Numbered, push_listed, push_short};
+use crate::placed::{put_count, put_number, put_octet};
+use crate::row::{Numbered, edition_of, push_listed};
 use bufr_base::OutOfMemory;
 use bufr_sections::SectionsInPlace;
 
-/// The most octets that the fields before the descriptors take, with a comma after each.
-const ROOM: usize = 943;
+/// The most octets that the fields before the descriptors take, with a comma after each, if no number has
+/// more than 64 bits.
+const ROOM: usize = 168;
 
 /// Returns whether columns are all, in their order.
-#[inline(always)]
+#[inline(never)]
 #[tactic(auto, unfolding(crate::specs::Columns::all_columns))]
 pub(crate) fn are_all(columns: &[Column]) -> bool
     ensures { result ≡ true → columns.now ≡ all_columns }
@@ -140,10 +142,61 @@ fn are_contents(columns: &[Column]) -> bool
     )
 }
 
-/// Adds the row of a frame with these sections. If memory runs out, it adds only a part.
-pub(crate) fn push_all(
+/// A frame with its numbers, none of more than 64 bits.
+#[derive(Clone, Copy, Drop)]
+pub(crate) struct Counts<'a> {
+    input: u64,
+    message: u64,
+    place: u64,
+    octets: &'a [u8],
+}
+
+impl<'a> Counts<'a> {
+    /// Returns these numbers of a frame if they fit.
+    #[inline(always)]
+    pub(crate) fn new(frame: &Numbered<'a>) -> Option<Counts<'a>>
+        ensures { IfSome result (λ c. (c.input ≡ frame.now.input) × (c.message ≡ frame.now.message)
+            × (c.place ≡ frame.now.place) × (c.octets.now ≡ frame.now.octets.now)) }
+    {
+        let (Ok(input), Ok(message)) = (u64::try_from(frame.input), u64::try_from(frame.message))
+        else {
+            return None;
+        };
+        Some(Counts {
+            input,
+            message,
+            place: frame.place,
+            octets: frame.octets,
+        })
+    }
+}
+
+/// Adds the row of a frame with these sections. If memory runs out, the text stays.
+#[inline(always)]
+pub(crate) fn hold_all(
     text: &mut Vec<u8>,
-    frame: &Numbered<'_>,
+    frame: &Counts<'_>,
+    said: &SectionsInPlace<'_>,
+) -> Result<(), OutOfMemory>
+    ensures ok { OnOk result (text.new.items ≡ text.old.items
+        ++ row_as all_columns frame.now.input frame.now.message
+        (frame_at frame.now.place frame.now.octets.now) (Ok said.now)) }
+    ensures err { OnErr result (text.new.items ≡ text.old.items) }
+{
+    let held = text.len();
+    let added = push_all(text, frame, said);
+    if added.is_err() {
+        text.truncate(held);
+    }
+    added
+}
+
+/// Adds the row of a frame with these sections. If memory runs out, it adds only a part.
+/// Fills the fields before the descriptors from their end, and adds them at once.
+#[inline(always)]
+fn push_all(
+    text: &mut Vec<u8>,
+    frame: &Counts<'_>,
     said: &SectionsInPlace<'_>,
 ) -> Result<(), OutOfMemory>
     ensures ok { OnOk result (text.new.items ≡ text.old.items
@@ -151,102 +204,107 @@ pub(crate) fn push_all(
         (frame_at frame.now.place frame.now.octets.now) (Ok said.now)) }
     ensures kept { OnErr result (take (length text.old.items) text.new.items ≡ text.old.items) }
 {
-    text.reserve(ROOM)?;
-    push_numbers(text, frame, said);
+    let mut row = [0; ROOM];
+    let first = put_numbers(&mut row, frame, said);
+    text.extend_from_slice(&row[first..])?;
     push_listed(text, said)?;
-    text.extend_from_slice(b",\n")?;
+    text.push(b',')?;
+    text.push(b'\n')?;
     Ok(())
 }
 
-/// Adds the fields before the descriptors, each with a comma after it.
+/// Puts the fields before the descriptors, each with a comma after it, at the end of a row.
 #[inline(always)]
-fn push_numbers(text: &mut Vec<u8>, frame: &Numbered<'_>, said: &SectionsInPlace<'_>)
-    requires room { vec_len text.old + 943 ≤ vec_capacity text.old }
-    ensures { text.new.items ≡ text.old.items
-        ++ fields_ended (take 23 all_columns) frame.now.input frame.now.message
-        (frame_at frame.now.place frame.now.octets.now) said.now }
+fn put_numbers(row: &mut [u8], frame: &Counts<'_>, said: &SectionsInPlace<'_>) -> usize
+    requires room { length row.old ≡ 168 }
+    ensures put { drop result row.new ≡ fields_ended (take 23 all_columns) frame.now.input
+        frame.now.message (frame_at frame.now.place frame.now.octets.now) said.now }
+    ensures within { result ≤ 168 }
+    ensures long { length row.new ≡ 168 }
 {
-    push_place(text, frame, said);
-    push_origin(text, frame, said);
-    push_tables(text, frame, said);
-    push_time(text, frame, said);
-    push_contents(text, frame, said);
+    let end = put_contents(row, ROOM, said);
+    let end = put_time(row, end, said);
+    let end = put_tables(row, end, said);
+    let end = put_origin(row, end, said);
+    put_place(row, end, frame)
+}
+
+// Each of the next functions puts some of these fields before the octet at `end`, and returns the index
+// of the first.
+
+#[inline(always)]
+fn put_place(row: &mut [u8], end: usize, frame: &Counts<'_>) -> usize
+    requires room { 88 ≤ end }
+    requires within { end ≤ length row.old }
+    ensures put { drop result row.new ≡ texts_before (decimal frame.now.input ∷ decimal frame.now.message ∷ decimal frame.now.place ∷ decimal (length frame.now.octets.now) ∷ decimal (edition_of frame.now.octets.now) ∷ []) (drop end row.old) }
+    ensures before { result ≤ end }
+    ensures long { length row.new ≡ length row.old }
+{
+    let end = put_octet(row, end, edition_of(frame.octets));
+    let end = put_number(row, end, frame.octets.len() as u64);
+    let end = put_number(row, end, frame.place);
+    let end = put_number(row, end, frame.message);
+    put_number(row, end, frame.input)
 }
 
 #[inline(always)]
-fn push_place(text: &mut Vec<u8>, frame: &Numbered<'_>, said: &SectionsInPlace<'_>)
-    requires room { vec_len text.old + 205 ≤ vec_capacity text.old }
-    ensures items { text.new.items ≡ text.old.items
-        ++ fields_ended (Input ∷ Message ∷ Place ∷ Length ∷ Edition ∷ [])
-        frame.now.input frame.now.message (frame_at frame.now.place frame.now.octets.now) said.now }
-    ensures len { vec_len text.new ≤ vec_len text.old + 205 }
-    ensures capacity { vec_capacity text.old ≤ vec_capacity text.new }
+fn put_origin(row: &mut [u8], end: usize, said: &SectionsInPlace<'_>) -> usize
+    requires room { 49 ≤ end }
+    requires within { end ≤ length row.old }
+    ensures put { drop result row.new ≡ texts_before (decimal said.now.head.centre ∷ decimal said.now.head.sub_centre ∷ decimal said.now.head.update ∷ decimal said.now.head.category ∷ decimal said.now.head.international ∷ decimal said.now.head.local_category ∷ []) (drop end row.old) }
+    ensures near { end ≤ result + 28 }
+    ensures before { result ≤ end }
+    ensures long { length row.new ≡ length row.old }
 {
-    push_short(text, Column::Input, frame, said, b',');
-    push_short(text, Column::Message, frame, said, b',');
-    push_short(text, Column::Place, frame, said, b',');
-    push_short(text, Column::Length, frame, said, b',');
-    push_short(text, Column::Edition, frame, said, b',');
+    let end = put_octet(row, end, said.local_category());
+    let end = put_octet(row, end, said.international());
+    let end = put_octet(row, end, said.category());
+    let end = put_octet(row, end, said.update());
+    let end = put_count(row, end, said.sub_centre());
+    put_count(row, end, said.centre())
 }
 
 #[inline(always)]
-fn push_origin(text: &mut Vec<u8>, frame: &Numbered<'_>, said: &SectionsInPlace<'_>)
-    requires room { vec_len text.old + 246 ≤ vec_capacity text.old }
-    ensures items { text.new.items ≡ text.old.items
-        ++ fields_ended (Centre ∷ SubCentre ∷ Update ∷ Category ∷ International ∷ LocalCategory ∷ [])
-        frame.now.input frame.now.message (frame_at frame.now.place frame.now.octets.now) said.now }
-    ensures len { vec_len text.new ≤ vec_len text.old + 246 }
-    ensures capacity { vec_capacity text.old ≤ vec_capacity text.new }
+fn put_tables(row: &mut [u8], end: usize, said: &SectionsInPlace<'_>) -> usize
+    requires room { 12 ≤ end }
+    requires within { end ≤ length row.old }
+    ensures put { drop result row.new ≡ texts_before (decimal 0 ∷ decimal said.now.head.master_version ∷ decimal said.now.head.local_version ∷ []) (drop end row.old) }
+    ensures near { end ≤ result + 12 }
+    ensures before { result ≤ end }
+    ensures long { length row.new ≡ length row.old }
 {
-    push_short(text, Column::Centre, frame, said, b',');
-    push_short(text, Column::SubCentre, frame, said, b',');
-    push_short(text, Column::Update, frame, said, b',');
-    push_short(text, Column::Category, frame, said, b',');
-    push_short(text, Column::International, frame, said, b',');
-    push_short(text, Column::LocalCategory, frame, said, b',');
+    let end = put_octet(row, end, said.local_version());
+    let end = put_octet(row, end, said.master_version());
+    put_octet(row, end, 0)
 }
 
 #[inline(always)]
-fn push_tables(text: &mut Vec<u8>, frame: &Numbered<'_>, said: &SectionsInPlace<'_>)
-    requires room { vec_len text.old + 123 ≤ vec_capacity text.old }
-    ensures items { text.new.items ≡ text.old.items
-        ++ fields_ended (MasterTable ∷ MasterVersion ∷ LocalVersion ∷ [])
-        frame.now.input frame.now.message (frame_at frame.now.place frame.now.octets.now) said.now }
-    ensures len { vec_len text.new ≤ vec_len text.old + 123 }
-    ensures capacity { vec_capacity text.old ≤ vec_capacity text.new }
+fn put_time(row: &mut [u8], end: usize, said: &SectionsInPlace<'_>) -> usize
+    requires room { 41 ≤ end }
+    requires within { end ≤ length row.old }
+    ensures put { drop result row.new ≡ texts_before (decimal said.now.head.year ∷ decimal said.now.head.month ∷ decimal said.now.head.day ∷ decimal said.now.head.hour ∷ decimal said.now.head.minute ∷ decimal said.now.head.second ∷ []) (drop end row.old) }
+    ensures near { end ≤ result + 26 }
+    ensures before { result ≤ end }
+    ensures long { length row.new ≡ length row.old }
 {
-    push_short(text, Column::MasterTable, frame, said, b',');
-    push_short(text, Column::MasterVersion, frame, said, b',');
-    push_short(text, Column::LocalVersion, frame, said, b',');
+    let end = put_octet(row, end, said.second());
+    let end = put_octet(row, end, said.minute());
+    let end = put_octet(row, end, said.hour());
+    let end = put_octet(row, end, said.day());
+    let end = put_octet(row, end, said.month());
+    put_count(row, end, said.year())
 }
 
 #[inline(always)]
-fn push_time(text: &mut Vec<u8>, frame: &Numbered<'_>, said: &SectionsInPlace<'_>)
-    requires room { vec_len text.old + 246 ≤ vec_capacity text.old }
-    ensures items { text.new.items ≡ text.old.items
-        ++ fields_ended (Year ∷ Month ∷ Day ∷ Hour ∷ Minute ∷ Second ∷ [])
-        frame.now.input frame.now.message (frame_at frame.now.place frame.now.octets.now) said.now }
-    ensures len { vec_len text.new ≤ vec_len text.old + 246 }
-    ensures capacity { vec_capacity text.old ≤ vec_capacity text.new }
+fn put_contents(row: &mut [u8], end: usize, said: &SectionsInPlace<'_>) -> usize
+    requires room { 29 ≤ end }
+    requires within { end ≤ length row.old }
+    ensures put { drop result row.new ≡ texts_before (decimal said.now.count ∷ decimal (from_bool said.now.observed) ∷ decimal (from_bool said.now.compressed) ∷ []) (drop end row.old) }
+    ensures near { end ≤ result + 14 }
+    ensures before { result ≤ end }
+    ensures long { length row.new ≡ length row.old }
 {
-    push_short(text, Column::Year, frame, said, b',');
-    push_short(text, Column::Month, frame, said, b',');
-    push_short(text, Column::Day, frame, said, b',');
-    push_short(text, Column::Hour, frame, said, b',');
-    push_short(text, Column::Minute, frame, said, b',');
-    push_short(text, Column::Second, frame, said, b',');
-}
-
-#[inline(always)]
-fn push_contents(text: &mut Vec<u8>, frame: &Numbered<'_>, said: &SectionsInPlace<'_>)
-    requires room { vec_len text.old + 123 ≤ vec_capacity text.old }
-    ensures items { text.new.items ≡ text.old.items
-        ++ fields_ended (Subsets ∷ Observed ∷ Compressed ∷ [])
-        frame.now.input frame.now.message (frame_at frame.now.place frame.now.octets.now) said.now }
-    ensures len { vec_len text.new ≤ vec_len text.old + 123 }
-    ensures capacity { vec_capacity text.old ≤ vec_capacity text.new }
-{
-    push_short(text, Column::Subsets, frame, said, b',');
-    push_short(text, Column::Observed, frame, said, b',');
-    push_short(text, Column::Compressed, frame, said, b',');
+    let end = put_octet(row, end, u8::from(said.compressed));
+    let end = put_octet(row, end, u8::from(said.observed));
+    put_count(row, end, said.count)
 }

@@ -1,5 +1,5 @@
 -- The clause `ok` of `push_field`: the descriptors.
-use Rattle.std.proofs.Common.{◌≡◌, ◌∙◌, ℕ, List, [], ◌∷◌, ◌++◌, Bool, false, Ok, refl, sym, ap}
+use Rattle.std.proofs.Common.{◌≡◌, ◌∙◌, ℕ, List, [], ◌∷◌, ◌++◌, false, Ok, refl, sym, ap}
 use Rattle.std.specs.List.{join_by}
 use Rattle.bufr_tables.specs.Descriptors.{six_digits}
 use Rattle.bufr_sections.specs.Sections.{Envelope}

@@ -10,7 +10,7 @@ use Rattle.bufr_ls_engine.specs.RowSteps.{fields_ended}
 use Rattle.bufr_ls_engine.specs.Rows.{field_as, row_as, said_in}
 use Rattle.bufr_ls_engine.specs.declared.column.Column.{Column}
 use Rattle.bufr_ls_engine.specs.declared.column.Column.TheVariants as columns
-use Rattle.bufr_ls_engine.proofs.LineFacts.{line_is, parted}
+use Rattle.bufr_ls_engine.proofs.LineFacts.{line_is, parted, rest_of_row}
 use Rattle.bufr_ls_engine.proofs.TextFacts.{kept_front}
 use Rattle.bufr_ls_engine.proofs.whole_row.push_all.Goals as goal
 
@@ -43,10 +43,14 @@ returns-clause-ok c =
     let fields = fields_ended (take 23 all_columns) c.args.frame.now.input c.args.frame.now.message frame
     c.args.said.now in
     let listed = join_by six_digits (32 ∷ []) c.args.said.now.descriptors in
-    grown_whole c.args.text.now.items c.push_numbers.new.text.items c.extend_from_slice.new.self.items
+    let put = c.put_numbers-first.ensures in
+    grown_whole c.args.text.now.items c.extend_from_slice.new.self.items c.push-2.new.self.items
     fields listed (44 ∷ 10 ∷ [])
-    (c.push_numbers.ensures ∙ ap (λ (t : List ℕ). t ++ fields) c.in_ok-reserve.ensures.items)
     (c.in_ok-extend_from_slice.ensures.items
+    ∙ ap (λ (t : List ℕ). c.args.text.now.items ++ t)
+    (rest_of_row c.put_numbers-first.new.row fields c.put_numbers-first.result put.long put.put))
+    (c.in_ok-push-2.ensures.items ∙ ap (λ (t : List ℕ). t ++ 10 ∷ []) c.in_ok-push.ensures.items
+    ∙ append_assoc c.push_listed.new.text.items (44 ∷ []) (10 ∷ [])
     ∙ ap (λ (t : List ℕ). t ++ 44 ∷ 10 ∷ []) c.in_ok-push_listed.ensures.ok)
     ∙ ap (λ (t : List ℕ). c.args.text.now.items ++ t)
     (whole c.args.frame.now.input c.args.frame.now.message frame c.args.said.now)
@@ -55,7 +59,10 @@ pub returns-in_err-push_listed-clause-kept : goal.returns-in_err-push_listed-cla
 returns-in_err-push_listed-clause-kept c =
     let fields = fields_ended (take 23 all_columns) c.args.frame.now.input c.args.frame.now.message
     (frame_at c.args.frame.now.place c.args.frame.now.octets.now) c.args.said.now in
+    let put = c.put_numbers-first.ensures in
     kept_front c.from_residual-in_err-push_listed.result c.args.text.now.items
-    c.push_numbers.new.text.items c.push_listed.new.text.items fields
-    (c.push_numbers.ensures ∙ ap (λ (t : List ℕ). t ++ fields) c.in_ok-reserve.ensures.items)
+    c.extend_from_slice.new.self.items c.push_listed.new.text.items fields
+    (c.in_ok-extend_from_slice.ensures.items
+    ∙ ap (λ (t : List ℕ). c.args.text.now.items ++ t)
+    (rest_of_row c.put_numbers-first.new.row fields c.put_numbers-first.result put.long put.put))
     c.in_err-push_listed.ensures.kept
