@@ -1,6 +1,6 @@
--- The time of a report, part by part: for `laws::moments_are_dates`.
+-- The time of a report, part by part: for `laws::moments_are_dates` and `day_of`.
 use Rattle.std.proofs.Common.{◌≡◌, ℕ, ◌≤◌, Bool, true, false, cond, Option, Some, None, List, ℤ}
-use Rattle.std.proofs.Common.{pos, negsuc, ◌≤ℤ◌, refl, ap, ◌∙◌, subst, arith}
+use Rattle.std.proofs.Common.{pos, negsuc, ◌≤ℤ◌, refl, ap, sym, ◌∙◌, subst, arith}
 use Rattle.std.specs.Prelude.{◌&&◌, int_le, unsigned_abs}
 use Rattle.jiff.specs.Words.{days_in_month}
 use Rattle.jiff.proofs.SpanFacts.{signed_arith}
@@ -71,6 +71,21 @@ unsigned a b h = omega (arith, signed_arith)
 
 low_year : (n : ℕ) → negsuc 9998 ≤ℤ pos n
 low_year n = omega (arith, signed_arith)
+
+-- ---- days that each month has
+
+pub in_short_month : (y : ℤ) (m : ℕ) → 28 ≤ days_in_month y m
+in_short_month y m = grind arith
+
+-- a day up to the 28th is one of any month
+pub early_day : (y : ℤ) (m : ℕ) (z : ℤ) (n : ℕ) → from_to 1 28 z ≡ Some n
+    → Some n ≡ from_to 1 (days_in_month y m) z
+early_day y m z n h =
+    let w = within 1 28 z n h in
+    let days = in_short_month y m in
+    let last = w.2 in
+    sym (ap (from_to 1 (days_in_month y m)) w.0
+    ∙ in_range 1 (days_in_month y m) n w.1 (omega (arith, days, last)))
 
 -- ---- the time
 

@@ -3,6 +3,7 @@ use Rattle.std.specs.Prelude.{ℕ, ◌==◌, Bool, true, false, List, [], ◌∷
 use Rattle.std.specs.Option.{option_map, option_or, option_flatten}
 use Rattle.jiff.specs.Words.{days_in_month}
 use Rattle.bufr_fields.specs.declared.field.Field.{Field}
+use Rattle.bufr_data.specs.declared.short.ShortNumber.{ShortNumber}
 use Rattle.bufr_entries.specs.declared.key.Station.{Station}
 use Rattle.bufr_entries.specs.declared.key.Station.TheVariants.{Wmo, Wigos, Mobile}
 use Rattle.bufr_entries.specs.declared.key.Moment.{Moment}
@@ -100,6 +101,11 @@ short_noted d number values = record (numbered d (Some number) values) {
   mobile = known (d == MOBILE_IDENTIFIER) values.mobile (Some None);
   local = known (d == WIGOS_LOCAL_IDENTIFIER) values.local (Some None);
 }
+
+-- all values after one more field with a short number, if there is one
+abbrev pub other_noted : Option ShortNumber → FirstValues → FirstValues
+other_noted None values = values
+other_noted (Some short) values = short_noted short.fxy (option_map pos short.number) values
 
 -- ---- all fields
 

@@ -1,16 +1,16 @@
 //! The elements of keys, and the first values of their fields.
-ghost use Rattle.std.specs.Prelude.{◌≡◌, IfOk, OnOk};
+ghost use Rattle.std.specs.Prelude.{◌≡◌, IfErr, IfOk, OnOk};
 ghost use Rattle.bufr_report_keys.specs.Asked.{is_asked};
-ghost use Rattle.bufr_report_keys.specs.FirstValues.{all_noted};
+ghost use Rattle.bufr_report_keys.specs.FirstValues.{all_noted, other_noted};
 
 use crate::elements::{
-    BLOCK_NUMBER, MOBILE_IDENTIFIER, SECOND, STATION_NUMBER, WIGOS_LOCAL_IDENTIFIER, WIGOS_SERIES,
-    YEAR,
+    BLOCK_NUMBER, DAY, HOUR, MINUTE, MOBILE_IDENTIFIER, MONTH, SECOND, STATION_NUMBER,
+    WIGOS_LOCAL_IDENTIFIER, WIGOS_SERIES, YEAR,
 };
 use crate::first_values::FirstValues;
 use crate::short_values::ShortValues;
 use bufr_base::{Items, OutOfMemory};
-use bufr_data::{Asks, ChosenFields, Field, Fields, Raw};
+use bufr_data::{Asks, ChosenFields, Field, Fields, Raw, ShortNumber};
 use bufr_tables::Fxy;
 use std::alloc::Global;
 
@@ -79,6 +79,66 @@ pub(crate) fn note_short(fields: &mut ChosenFields<'_>, values: &mut ShortValues
     ensures { all_noted fields.new values.new ≡ all_noted fields.old values.old }
 {
     while let Some(field) = fields.next_short() {
+        values.note(field);
+    }
+}
+
+/// Notes the next field if it has a short number of this element. The error is another field with a
+/// short number or a missing one, not noted, or none.
+#[inline(always)]
+fn note_next(
+    fields: &mut ChosenFields<'_>,
+    element: u16,
+    values: &mut ShortValues,
+) -> Result<(), Option<ShortNumber>>
+    ensures ok { OnOk result (all_noted fields.new values.new ≡ all_noted fields.old values.old) }
+    ensures err { IfErr result (λ other. all_noted fields.new (other_noted other values.new)
+        ≡ all_noted fields.old values.old) }
+{
+    let Some(field) = fields.next_short() else {
+        return Err(None);
+    };
+    if field.fxy.bits() != element {
+        return Err(Some(field));
+    }
+    if field.number.is_none() {
+        return Err(Some(field));
+    }
+    values.note(field);
+    Ok(())
+}
+
+/// Notes the fields of a WMO station's report in their usual order: station, date, hour and minute.
+/// The error is like that of `note_next`.
+// The order says at each place which value is noted, so none needs a place in memory.
+#[inline(always)]
+pub(crate) fn note_usual(
+    fields: &mut ChosenFields<'_>,
+    values: &mut ShortValues,
+) -> Result<(), Option<ShortNumber>>
+    ensures ok { OnOk result (all_noted fields.new values.new ≡ all_noted fields.old values.old) }
+    ensures err { IfErr result (λ other. all_noted fields.new (other_noted other values.new)
+        ≡ all_noted fields.old values.old) }
+{
+    note_next(fields, BLOCK_NUMBER, values)?;
+    note_next(fields, STATION_NUMBER, values)?;
+    note_next(fields, YEAR, values)?;
+    note_next(fields, MONTH, values)?;
+    note_next(fields, DAY, values)?;
+    note_next(fields, HOUR, values)?;
+    note_next(fields, MINUTE, values)?;
+    match fields.next_short() {
+        Some(other) => Err(Some(other)),
+        None => Ok(()),
+    }
+}
+
+/// Notes a field with a short number, if there is one.
+#[inline(always)]
+pub(crate) fn note_other(other: Option<ShortNumber>, values: &mut ShortValues)
+    ensures { values.new ≡ other_noted other values.old }
+{
+    if let Some(field) = other {
         values.note(field);
     }
 }

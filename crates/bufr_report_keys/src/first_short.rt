@@ -37,6 +37,13 @@ impl FirstShort {
         }
     }
 
+    #[inline(always)]
+    pub(crate) fn copied(&self) -> FirstShort
+        ensures { result ≡ self.now }
+    {
+        FirstShort { said: self.said }
+    }
+
     /// Notes the number of a field, if it is the first of its element; none if it is unusable.
     #[inline(always)]
     pub(crate) fn note(&mut self, number: Option<u16>)

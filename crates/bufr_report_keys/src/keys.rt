@@ -5,16 +5,16 @@ ghost use Rattle.bufr_fields.specs.declared.field.Subset.{Subset};
 ghost use Rattle.bufr_data.specs.Chosen.{chosen};
 ghost use Rattle.bufr_report_keys.specs.Asked.{elements};
 ghost use Rattle.bufr_report_keys.specs.Keys.{key};
-ghost use Rattle.bufr_report_keys.specs.FirstValues.{all_noted, key_of, noted, wmo_key};
+ghost use Rattle.bufr_report_keys.specs.FirstValues.{all_noted, key_of, noted, other_noted, wmo_key};
 
-use crate::asked::{note_chosen, note_handed, note_listed, note_short};
+use crate::asked::{note_chosen, note_handed, note_listed, note_other, note_short, note_usual};
 use crate::elements::key_elements;
 use crate::first_values::FirstValues;
 use crate::moments::moment_of;
 use crate::short_values::ShortValues;
 use crate::stations::station_of;
 use bufr_base::OutOfMemory;
-use bufr_data::{ChosenFields, Field, Fields};
+use bufr_data::{ChosenFields, Field, Fields, ShortNumber};
 use bufr_entries::{FrontHead, Key, Moment, PackedSlot};
 use bufr_message::{ReportHead, View};
 use std::alloc::Global;
@@ -77,6 +77,23 @@ pub fn slot_in(
     if let Some(fields) = view.chosen(key_elements(), index) {
         return slot_of_chosen(alloc, head, fields);
     }
+    slot_of_walk(alloc, head, view, index)
+}
+
+/// Makes the slot by the fields that a walk over the subset hands out.
+// Not inline, since the walk takes much room, and most reports need none of it.
+#[inline(never)]
+fn slot_of_walk(
+    alloc: Global,
+    head: &ReportHead,
+    view: &View<'_>,
+    index: usize,
+) -> Result<PackedSlot, OutOfMemory>
+    requires { index < length view.now.message.subsets }
+    ensures { IfOk result (λ slot. (s : Subset)
+        → slice_get view.now.message.subsets index ≡ Some s
+        → slot ≡ record { key = key head.now s.fields; update = head.now.update }) }
+{
     let fields = view.fields(alloc, index)?;
     slot_of_fields(alloc, head, fields)
 }
@@ -92,10 +109,37 @@ fn slot_of_chosen(
         → slot ≡ record { key = key head.now all; update = head.now.update }) }
 {
     let mut values = ShortValues::none();
+    if let Err(other) = note_usual(&mut fields, &mut values) {
+        return slot_of_unusual(alloc, head, &values.copied(), other, fields);
+    }
+    match fields.next(alloc)? {
+        None => slot_of_short(alloc, head, &values),
+        Some(field) => slot_of_rest(alloc, head, &values.copied(), field, fields),
+    }
+}
+
+/// Makes the slot by first values, one more field with a short number, if there is one, and the
+/// fields left after it.
+// Not inline, so that the values of usual fields need no place in memory.
+#[inline(never)]
+fn slot_of_unusual(
+    alloc: Global,
+    head: &ReportHead,
+    values: &ShortValues,
+    other: Option<ShortNumber>,
+    mut fields: ChosenFields<'_>,
+) -> Result<PackedSlot, OutOfMemory>
+    ensures { IfOk result (λ slot. slot ≡ record {
+      key = key_of head.now (all_noted fields.entry (other_noted other values.now));
+      update = head.now.update;
+    }) }
+{
+    let mut values = values.copied();
+    note_other(other, &mut values);
     note_short(&mut fields, &mut values);
     match fields.next(alloc)? {
         None => slot_of_short(alloc, head, &values),
-        Some(field) => slot_of_rest(alloc, head, &values, field, fields),
+        Some(field) => slot_of_rest(alloc, head, &values.copied(), field, fields),
     }
 }
 
@@ -131,7 +175,7 @@ fn slot_of_short(
         slot ≡ record { key = key_of head.now values.now; update = head.now.update }) }
 {
     let (Some(block), Some(number)) = (values.block.usable(), values.station.usable()) else {
-        return slot_of_others(alloc, head, values);
+        return slot_of_others(alloc, head, &values.copied());
     };
     slot_of_wmo(alloc, head, block, number, values.moment())
 }

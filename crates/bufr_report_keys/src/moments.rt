@@ -33,9 +33,24 @@ fn from_to(low: u8, high: u8, number: i128) -> Option<u8>
     }
 }
 
-/// Converts a day of this month in the civil calendar.
+/// The days that each month has.
+const SHORTEST_MONTH: u8 = 28;
+
+/// Converts a day of this month in the civil calendar. It asks the calendar only for late days.
 #[inline(always)]
 fn day_of(year: u16, month: u8, number: i128) -> Option<u8>
+    requires year { year ≤ greatest_year }
+    requires month { (1 ≤ month) × (month ≤ 12) }
+    ensures { result ≡ from_to 1 (days_in_month (pos year) month) number }
+{
+    match from_to(1, SHORTEST_MONTH, number) {
+        Some(day) => Some(day),
+        None => day_by_calendar(year, month, number),
+    }
+}
+
+#[inline(never)]
+fn day_by_calendar(year: u16, month: u8, number: i128) -> Option<u8>
     requires year { year ≤ greatest_year }
     requires month { (1 ≤ month) × (month ≤ 12) }
     ensures { result ≡ from_to 1 (days_in_month (pos year) month) number }

@@ -122,6 +122,28 @@ impl ShortValues {
         numbers.moment()
     }
 
+    /// Copies the values. A caller that lends only copies keeps the values themselves in registers.
+    #[inline(always)]
+    pub(crate) fn copied(&self) -> ShortValues
+        ensures { result ≡ self.now }
+    {
+        ShortValues {
+            block: self.block.copied(),
+            station: self.station.copied(),
+            mobile: self.mobile,
+            series: self.series.copied(),
+            issuer: self.issuer.copied(),
+            issue: self.issue.copied(),
+            local: self.local,
+            year: self.year.copied(),
+            month: self.month.copied(),
+            day: self.day.copied(),
+            hour: self.hour.copied(),
+            minute: self.minute.copied(),
+            second: self.second.copied(),
+        }
+    }
+
     /// Makes the same values in the room that all need.
     pub(crate) fn widened(&self) -> FirstValues
         ensures { result ≡ self.now }

@@ -1,4 +1,4 @@
--- By the fields at known places, or by all.
+-- By the fields at known places.
 use Rattle.std.proofs.Common.{◌≡◌, ℕ, List, Option, Some, None, ap, sym, ◌∙◌}
 use Rattle.std.specs.Prelude.{IfSome}
 use Rattle.std.proofs.lemmas.Option.{same_Some}
@@ -6,13 +6,7 @@ use Rattle.std.proofs.lemmas.Result.{IfOk-weaker}
 use Rattle.bufr_fields.specs.declared.field.Field.{Field}
 use Rattle.bufr_fields.specs.declared.field.Subset.{Subset}
 use Rattle.bufr_data.specs.Chosen.{chosen}
-use Rattle.bufr_entries.specs.declared.key.Key.{Key}
-use Rattle.bufr_entries.specs.Marks.{SlotView}
-use Rattle.bufr_report_keys.specs.Keys.{key}
 use Rattle.bufr_report_keys.proofs.keys.slot_in.Goals as goal
-
-abbrev slot : ℕ → Option Key → SlotView
-slot update key = record { key = key; update = update }
 
 -- the chosen fields of the report at an index
 chosen_of : (fields : List Field) (list all : List ℕ) (o : Option Subset) (s : Subset)
@@ -29,11 +23,3 @@ returns-in-Some c =
     (λ found is s at. is s.fields
     (chosen_of c.in-Some.fields _ _ _ s c.in-Some.ensures at c.key_elements.ensures))
     c.slot_of_chosen.ensures
-
-pub returns : goal.returns
-returns c =
-    IfOk-weaker c.slot_of_fields.result _ _
-    (λ found is s at. is
-    ∙ ap (λ (t : Subset). slot c.args.head.now.update (key c.args.head.now t.fields))
-    (same_Some _ _ (sym c.in_ok-fields.ensures ∙ at)))
-    c.slot_of_fields.ensures
