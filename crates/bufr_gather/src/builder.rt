@@ -85,7 +85,7 @@ impl<'t> ArchiveBuilder<'t> {
         self.entries.put_marked(slot, &ReportOctets { view, index })
     }
 
-    /// Gives the templates, and the entries of all reports.
+    /// Returns the reader of messages, and the entries of all reports.
     pub fn into_parts(self) -> (MessageReader<'t>, ShelfBuilder)
         ensures tables { result.0 ≡ self.entry.tables }
         ensures entries { kept result.1 ≡ self.entry.entries }

@@ -50,7 +50,7 @@ pub fn texts_from_before()
     sorted_are_kept();
 }
 
-/// A stream tells exactly the reports of the messages that its frames spell.
+/// The reports of a stream are exactly those of the messages that its frames spell.
 pub fn told_are_of_messages()
     ensures are { ToldAreTold }
     ensures only { OnlyToldAreTold }
@@ -59,12 +59,12 @@ pub fn told_are_of_messages()
     messages_are_spelt();
 }
 
-/// Streams with the same messages tell reports of which the same is kept.
+/// Of two streams with the same messages an archive keeps the same reports.
 pub fn same_messages_same_kept()
     ensures { SameMessagesSameKept }
 {}
 
-/// A stream tells reports under the tables: each has its canonical message.
+/// The reports of a stream are reports under the tables: each has its canonical message.
 pub fn reports_told_are_under()
     ensures { ReportsToldAreUnder }
 {

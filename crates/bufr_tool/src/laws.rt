@@ -6,7 +6,7 @@ ghost use Rattle.bufr_tool.specs.CommandLines.{collecting_words, commands, compr
 ghost use Rattle.bufr_tool.specs.CommandLines.{line_words, command_of, value_of, values_of};
 ghost use Rattle.bufr_tool.specs.declared.lines.Command.TheVariants.{Show, Check, Encode, Add, Merge};
 
-/// `clap` takes a line of `show`, and it has its command and its paths.
+/// States that `clap` takes a line of `show`, and finds its command and its paths.
 pub fn lines_of_show()
     ensures taken { takes commands (line_words (codes "show")) ≡ true }
     ensures command { command_of (line_words (codes "show")) ≡ Show }
@@ -16,7 +16,7 @@ pub fn lines_of_show()
         ≡ codes "bulletin" ∷ [] }
 {}
 
-/// The same for `check`.
+/// States that `clap` takes a line of `check`, and finds its command and its paths.
 pub fn lines_of_check()
     ensures taken { takes commands (line_words (codes "check")) ≡ true }
     ensures command { command_of (line_words (codes "check")) ≡ Check }
@@ -26,7 +26,7 @@ pub fn lines_of_check()
         ≡ codes "bulletin" ∷ [] }
 {}
 
-/// The same for `encode`: its flag is not up.
+/// States that `clap` takes a line of `encode` without the flag.
 pub fn lines_of_encode()
     ensures taken { takes commands (line_words (codes "encode")) ≡ true }
     ensures command { command_of (line_words (codes "encode")) ≡ Encode }
@@ -37,7 +37,7 @@ pub fn lines_of_encode()
         ≡ codes "bulletin" ∷ [] }
 {}
 
-/// The same for `encode` with its flag, which is up.
+/// States that `clap` takes a line of `encode` with the flag.
 pub fn lines_of_compressed_encode()
     ensures taken { takes commands compressed_words ≡ true }
     ensures command { command_of compressed_words ≡ Encode }
@@ -48,7 +48,7 @@ pub fn lines_of_compressed_encode()
         ≡ codes "bulletin" ∷ [] }
 {}
 
-/// The same for `add`, with its archive and two inputs.
+/// States that `clap` takes a line of `add`, and finds its archive and two inputs.
 pub fn lines_of_add()
     ensures taken { takes commands (collecting_words (codes "add")) ≡ true }
     ensures command { command_of (collecting_words (codes "add")) ≡ Add }
@@ -59,7 +59,7 @@ pub fn lines_of_add()
         ≡ codes "first" ∷ codes "second" ∷ [] }
 {}
 
-/// The same for `merge`.
+/// States that `clap` takes a line of `merge`, and finds its archive and two inputs.
 pub fn lines_of_merge()
     ensures taken { takes commands (collecting_words (codes "merge")) ≡ true }
     ensures command { command_of (collecting_words (codes "merge")) ≡ Merge }

@@ -1,6 +1,7 @@
 //! The faults of the faces, each by its path and with what it carries.
 
 use super::tables;
+use bufr_archive::{AddFault, JoinFault, WriteFault};
 use bufr_data::{DataFault, MisfitFault};
 use bufr_expand::TemplateFault;
 use bufr_message::listing::{Cause, ListingFault, ListingWriteFault};
@@ -114,6 +115,20 @@ fn octets_written(fault: ListingWriteFault) -> Option<u128> {
     }
 }
 
+/// Returns the number of reports joined before memory ran out.
+fn reports_joined(fault: &AddFault) -> Option<u128> {
+    match fault {
+        AddFault::OutOfMemory { done } => Some(*done),
+        AddFault::Refused(_) => None,
+    }
+}
+
+fn is_out_of_memory(fault: JoinFault) -> bool {
+    match fault {
+        JoinFault::OutOfMemory => true,
+    }
+}
+
 #[test]
 fn faults_of_tables_and_data(rt: HostRuntime) {
     let fxy = Fxy::new(0, 1, 250).expect(&rt, "a descriptor");
@@ -146,4 +161,12 @@ fn faults_of_messages(rt: HostRuntime) {
     assert!(rt; lacks_descriptors(EncodeFault::NoDescriptors));
     assert!(rt; listing_line(ListingFault::BadValue(14)) == 14);
     assert!(rt; octets_written(ListingWriteFault::WriteFailed { written: 3 }) == Some(3));
+}
+
+#[test]
+fn faults_of_archives(rt: HostRuntime) {
+    assert!(rt; reports_joined(&AddFault::OutOfMemory { done: 2 }) == Some(2));
+    assert!(rt; is_out_of_memory(JoinFault::OutOfMemory));
+    let WriteFault { written } = WriteFault { written: 5 };
+    assert!(rt; written == 5);
 }
