@@ -15,7 +15,7 @@ use bufr_message::Refused;
 use bufr_shelves::Shelf;
 use std::alloc::Global;
 
-/// The reports of a message, counted.
+/// A count of the reports of a message.
 #[derive(Clone, Copy, Debug, Drop, PartialEq, Eq)]
 pub struct Added {
     /// The reports of the message.

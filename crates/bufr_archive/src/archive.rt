@@ -37,7 +37,7 @@ impl<'t, S: Shelf> Model for Archive<'t, S> {
     ghost invariant = { λ a. kept (S.entries a.shelf) ≡ S.entries a.shelf };
 }
 
-/// A failed sink took the first `written` octets of the text.
+/// A fault of a sink that took only the first `written` octets of the text.
 #[derive(Clone, Copy, Debug, Drop, Error, PartialEq, Eq)]
 #[error("write failed after {written} octets")]
 pub struct WriteFault {

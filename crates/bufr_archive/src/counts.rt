@@ -12,7 +12,7 @@ use bufr_gather::{AddFault, RanOut};
 use bufr_message::laws::messages_are_spelt;
 use bufr_shelves::Shelf;
 
-/// The frames that spell a message, the frames that spell none, and the reports that changed the
+/// A count of the frames with a message, the frames without one, and the reports that changed the
 /// archive.
 #[derive(Clone, Copy, Drop)]
 pub(crate) struct Counts {
@@ -54,7 +54,7 @@ fn add_octets<S: Shelf>(archive: &mut Archive<S>, octets: &[u8]) -> Result<Added
     archive.add_message(octets)
 }
 
-/// Adds the messages of frames; on want of memory the first `done` reports.
+/// Adds the messages of frames; if memory runs out, the first `done` reports.
 pub(crate) fn add_frames<S: Shelf>(
     archive: &mut Archive<S>,
     frames: &[Found],

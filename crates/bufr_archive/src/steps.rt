@@ -19,7 +19,7 @@ pub enum Step {
 /// An answer: what a step did.
 #[derive(Clone, Copy, Debug, Drop, PartialEq, Eq)]
 pub enum Answer {
-    /// What the frames that a piece made sure brought.
+    /// The counts of the frames that a piece made sure.
     Fed {
         /// The frames that spell a message.
         messages: u128,
@@ -28,7 +28,7 @@ pub enum Answer {
         /// The reports that changed the archive.
         changed: u128,
     },
-    /// What the last frames of a stream brought.
+    /// The counts of the last frames of a stream.
     Ended {
         /// The frames that spell a message.
         messages: u128,
@@ -41,7 +41,7 @@ pub enum Answer {
     Joined,
 }
 
-/// Why a step was not done.
+/// A fault of a step that was not done.
 #[derive(Clone, Copy, Debug, Drop, Error, PartialEq, Eq)]
 pub enum StepFault {
     /// The first slot of the step that is not there.

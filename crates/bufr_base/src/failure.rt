@@ -9,7 +9,7 @@ use std::alloc::AllocFailed;
 use std::fmt::Display;
 use thiserror::Error;
 
-/// Why a call that takes memory failed.
+/// A failure of a call that takes memory.
 #[derive(Clone, Copy, Debug, Drop, PartialEq, Eq, Error)]
 #[error_bound(F: Display)]
 pub enum Failure<F> {

@@ -1,4 +1,5 @@
--- Chosen fields: those of the descriptors in a list, which a reader of messages gets beforehand.
+-- Chosen fields: the fields with a descriptor in a list, which a reader of messages gets
+-- beforehand.
 use Rattle.std.specs.Prelude.{◌≡◌, ℕ, ◌+◌, ◌*◌, ◌/◌, ◌==◌, ◌≤◌, Bool, List, [], ◌∷◌, drop, length, cond}
 use Rattle.std.specs.Prelude.{Option, Some, None, nat_le, if◌then◌else◌}
 use Rattle.std.specs.List.{filter, list_any}

@@ -10,7 +10,7 @@ use Rattle.bufr_data.specs.declared.kept_templates.TheConstants.{MOST_KEPT}
 abbrev pub IsOf : Entries → Kept → Type 0
 IsOf tables k = template tables k.descriptors.value ≡ Ok k.template
 
--- so is each, and there are four at most
+-- each is the template of its list, and there are four at most
 pub record AreKept (tables : Entries) (ks : List Kept) : Type 0 where
   pub each : AllByRecursion (IsOf tables) ks
   pub few : length ks ≤ MOST_KEPT

@@ -87,7 +87,7 @@ ReadRefusedIsFirst = (tree : Tree) (j used : ℕ) (front : List Bool) (fault : D
     → used ≤ most_items → fields_at j 1 (course tree used) front ≡ Err fault
     → FirstRefused tree j used front fault
 
--- the first field that can't be read gives the fault
+-- the first field that can't be read determines the fault
 abbrev pub FirstReadIsRefused : Type 0
 FirstReadIsRefused = (tree : Tree) (j used : ℕ) (front : List Bool) (fault : DataFault)
     → used ≤ most_items → FirstRefused tree j used front fault
@@ -98,7 +98,7 @@ abbrev pub SubsetsReadRefusedIsFirst : Type 0
 SubsetsReadRefusedIsFirst = (tree : Tree) (n : ℕ) (front : List Bool) (fault : DataFault)
     → subsets_at (course tree) 1 n 0 front ≡ Err fault → FirstSubsetRefused tree n front fault
 
--- the first subset that can't be read gives the fault
+-- the first subset that can't be read determines the fault
 abbrev pub FirstSubsetsReadIsRefused : Type 0
 FirstSubsetsReadIsRefused = (tree : Tree) (n : ℕ) (front : List Bool) (fault : DataFault)
     → FirstSubsetRefused tree n front fault → subsets_at (course tree) 1 n 0 front ≡ Err fault
@@ -109,7 +109,7 @@ WriteRefusedIsFirst = (tree : Tree) (j used : ℕ) (fields : List Field) (fault 
     → used ≤ most_items → items_of j 1 (course tree used) fields ≡ Err fault
     → FirstMisfit tree j used fields fault
 
--- the first misfit gives the fault
+-- the first misfit determines the fault
 abbrev pub FirstWriteIsRefused : Type 0
 FirstWriteIsRefused = (tree : Tree) (j used : ℕ) (fields : List Field) (fault : MisfitFault)
     → used ≤ most_items → FirstMisfit tree j used fields fault
@@ -120,7 +120,7 @@ abbrev pub WrittenRefusedIsFirst : Type 0
 WrittenRefusedIsFirst = (tree : Tree) (subsets : List Subset) (fault : MisfitFault)
     → written_bits tree false subsets ≡ Err fault → FirstSubsetMisfit tree subsets fault
 
--- the first subset that does not fit gives the fault
+-- the first subset that does not fit determines the fault
 abbrev pub FirstWrittenIsRefused : Type 0
 FirstWrittenIsRefused = (tree : Tree) (subsets : List Subset) (fault : MisfitFault)
     → FirstSubsetMisfit tree subsets fault → written_bits tree false subsets ≡ Err fault

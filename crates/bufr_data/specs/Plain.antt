@@ -49,13 +49,13 @@ plain_subsets subsets = flat_map (λ s. plain s.fields) subsets
 
 -- ---- fields of bits
 
--- what is read: the fields of a subset, the items of the message after it, and the bits left
+-- what is read: the fields of a subset, the items of the message up to its end, and the bits left
 pub record SubsetRead : Type 0 where
   pub fields : List Field
   pub items : ℕ
   pub rest : List Bool
 
--- what is read: several subsets, the items of the message after them, and the bits left
+-- what is read: several subsets, the items of the message up to their end, and the bits left
 pub record SubsetsRead : Type 0 where
   pub subsets : List Subset
   pub items : ℕ

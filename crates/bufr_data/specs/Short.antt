@@ -22,7 +22,7 @@ greatest_by kinds.Text spec = None
 greatest_by kinds.Count spec = None
 greatest_by kind spec = if is_short spec then Some (2 ^ spec.width - 1) else None
 
--- the same by the kind of its spec
+-- the greatest number of a field by its spec, if its numbers are short
 abbrev pub greatest_short : Spec → Option ℕ
 greatest_short spec = greatest_by spec.kind spec
 

@@ -1,4 +1,4 @@
-//! Hands out the chosen fields of a subset: those of the descriptors in a list.
+//! Hands out the fields of a subset that have a descriptor in a list.
 
 ghost use Rattle.std.specs.Prelude.{◌≡◌, Some, IfOk, IfSome, IfNone, OnErr};
 ghost use Rattle.bufr_data.specs.Chosen as chosen;
@@ -23,8 +23,8 @@ pub(crate) enum ChosenSource<'v> {
     Compressed(ColumnFields<'v>),
 }
 
-/// A reader of the chosen fields left in a subset. It does not come to other fields. Contracts see
-/// the list of fields.
+/// A reader of the chosen fields left in a subset. It never visits other fields. Contracts see the
+/// list of fields.
 #[derive(Drop)]
 pub struct ChosenFields<'v> {
     pub(crate) source: ChosenSource<'v>,
@@ -42,7 +42,7 @@ impl<'v> Model for ChosenFields<'v> {
 
 impl<'v> ChosenFields<'v> {
     /// Hands out the next field if it has a short number. It may return `None` at any other field,
-    /// for `next_number` or `next` to take.
+    /// which `next_number` or `next` takes.
     #[inline(always)]
     pub fn next_short(&mut self) -> Option<ShortNumber>
         ensures found { IfSome result (λ short. HandsOutShort self.old short self.new) }
@@ -54,8 +54,8 @@ impl<'v> ChosenFields<'v> {
         }
     }
 
-    /// Hands out the next field if it is a number. `None` at a text, for `next` to take, and at the
-    /// end.
+    /// Hands out the next field if it is a number. `None` at the end, and at a text, which `next`
+    /// takes.
     #[inline(always)]
     pub fn next_number(&mut self) -> Option<NumberField>
         ensures found { IfSome result (λ number.
@@ -68,8 +68,7 @@ impl<'v> ChosenFields<'v> {
         }
     }
 
-    /// Hands out the next field, or `None` at the end. After `OutOfMemory` it is still left, so the
-    /// caller may ask again.
+    /// Hands out the next field, or `None` at the end.
     pub fn next(&mut self, alloc: Global) -> Result<Option<Field>, OutOfMemory>
         ensures found { IfOk result (λ found. HandsOut self.old found self.new) }
         ensures err { OnErr result (self.new ≡ self.old) }

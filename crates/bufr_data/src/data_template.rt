@@ -56,8 +56,8 @@ impl DataTemplate {
         }
     }
 
-    /// Shares the template itself: its nodes are not copied. `OutOfMemory` if it is shared more often
-    /// than can be counted.
+    /// Shares the template without a copy of its nodes. `OutOfMemory` if the shares are too many to
+    /// count.
     pub(crate) fn shared(&self) -> Result<Template, OutOfMemory>
         ensures { IfOk result (λ t. t ≡ self.now) }
     {

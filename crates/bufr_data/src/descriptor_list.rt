@@ -1,4 +1,4 @@
-//! Lists of descriptors, in the form in which a caller has them.
+//! Lists of descriptors, in the caller's form.
 
 ghost use Rattle.std.specs.Prelude.{◌≡◌, ℕ, List, IfOk};
 ghost use Rattle.std.specs.Bool.{OnTrue};

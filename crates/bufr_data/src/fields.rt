@@ -41,8 +41,7 @@ impl<'v> Model for Fields<'v> {
 }
 
 impl<'v> Fields<'v> {
-    /// Hands out the next field, or `None` at the end. After `OutOfMemory` it is still left, so the
-    /// caller may ask again.
+    /// Hands out the next field, or `None` at the end.
     // A call would move each field through memory.
     #[inline(always)]
     pub fn next(&mut self, alloc: Global) -> Result<Option<Field>, OutOfMemory>
@@ -57,7 +56,7 @@ impl<'v> Fields<'v> {
     }
 
     /// Hands out the next chosen field, or `None` if none is left. It skips the others unread if it
-    /// can. After `OutOfMemory` the chosen field is still left, so the caller may ask again.
+    /// can.
     pub fn next_asked<A: Asks>(
         &mut self,
         alloc: Global,
@@ -74,8 +73,8 @@ impl<'v> Fields<'v> {
         }
     }
 
-    /// Hands out the next chosen field if it is a number. Else returns `None`, for `next_asked` to
-    /// take it.
+    /// Hands out the next chosen field if it is a number. Else returns `None`, and `next_asked`
+    /// takes the field.
     #[inline(always)]
     pub fn next_asked_number<A: Asks>(&mut self, asked: &A) -> Option<NumberField>
         ensures found { IfSome result (λ number.

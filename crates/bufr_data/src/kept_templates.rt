@@ -45,7 +45,7 @@ impl<'t> Model for KeptTemplates<'t> {
 }
 
 impl<'t> KeptTemplates<'t> {
-    /// Makes an empty cache, without memory.
+    /// Makes an empty cache.
     pub fn new(alloc: Global, tables: &'t Tables) -> KeptTemplates<'t>
         ensures { result ≡ tables.now }
     {

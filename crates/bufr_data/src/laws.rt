@@ -22,14 +22,14 @@ ghost use Rattle.bufr_fields.specs.declared.fault.MisfitFault.{MisfitFault};
 
 use bufr_expand::laws::{courses_are_unrollings, courses_begin_unrollings};
 
-/// Plain data are read exactly as subsets that fit their course and whose bits come first.
+/// Reading plain data returns exactly the subsets that fit their course and have the first bits.
 pub fn plain_data_spell_subsets()
     ensures read_stand { ReadAreHeld }
     ensures standing_are_read { HeldAreRead }
 {}
 
 /// Plain data are read exactly as subsets that fit the template's tree, and subsets are written
-/// exactly if they fit. At most 16,777,216 items come before, also in the next two laws.
+/// exactly if they fit. Here and in the next two laws at most 16,777,216 items come before.
 pub fn fitting_subsets_are_read_and_written()
     ensures subset_stands { SubsetReadIsHeld }
     ensures subset_is_read { SubsetHeldIsRead }
@@ -41,7 +41,7 @@ pub fn fitting_subsets_are_read_and_written()
     courses_are_unrollings();
 }
 
-/// The fault of reading plain data is that of the first field that can't be read, by the template's
+/// Reading plain data fails with the fault of the first field that can't be read, by the template's
 /// tree.
 pub fn read_refusals_follow_the_tree()
     ensures refused { ReadRefusedIsFirst }
@@ -55,7 +55,7 @@ pub fn read_refusals_follow_the_tree()
     courses_begin_unrollings();
 }
 
-/// The fault of writing plain data is that of the first misfit, by the template's tree.
+/// Writing plain data fails with the fault of the first misfit, by the template's tree.
 pub fn write_refusals_follow_the_tree()
     ensures refused { WriteRefusedIsFirst }
     ensures misfit { FirstWriteIsRefused }
@@ -66,8 +66,8 @@ pub fn write_refusals_follow_the_tree()
     courses_begin_unrollings();
 }
 
-/// A column is read exactly as the values that it holds. The best column holds its values, and no
-/// column of the same numbers is shorter.
+/// Reading a column returns exactly the values that it holds. The best column holds its values, and
+/// no column of the same numbers is shorter.
 pub fn columns_hold_values()
     ensures stand { ColumnReadIsHeld }
     ensures is_read { HeldColumnIsRead }
@@ -75,8 +75,8 @@ pub fn columns_hold_values()
     ensures shortest { BestIsShortest }
 {}
 
-/// Data are read exactly as the subsets that they hold, and written as exactly their bare data;
-/// else both are refused with the first fault.
+/// Reading data returns exactly the subsets that they hold, and writing subsets exactly their bare
+/// data. Else both fail with the first fault.
 pub fn data_hold_subsets()
     ensures read { (tree : Tree) (compressed : Bool) (count : ℕ) (front : List Bool)
         (found : List Subset × List Bool) → ReadsExactly tree compressed count front found }

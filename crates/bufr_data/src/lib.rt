@@ -1,5 +1,6 @@
 //! Reads and writes the data bits of subsets, plain and compressed. A refused call leaves readers
-//! and sinks unchanged. Every call that allocates can return `OutOfMemory`.
+//! and sinks unchanged. Every call that allocates can return `OutOfMemory`; a reader of fields then
+//! still has the field.
 #![tactic(auto)]
 
 mod chosen;

@@ -9,7 +9,7 @@ use bufr_tables::{Fxy, Kind};
 /// The most bits of a short number.
 const MOST_SHORT_BITS: u32 = 16;
 
-/// The descriptor and value of a field with a short number; no value if it is missing.
+/// A field with a short number: its descriptor, and its value unless it is missing.
 #[derive(Clone, Copy, Debug, PartialEq)]
 pub struct ShortNumber {
     /// The descriptor of its element.
@@ -29,8 +29,8 @@ impl ShortNumber {
     }
 }
 
-/// Returns the greatest number of a field, if its numbers are short. Fields of one bit have none
-/// that is missing, so they are not short.
+/// Returns the greatest number of a field, if its numbers are short. A field of one bit has no
+/// missing number, so it is not short.
 #[inline(always)]
 pub(crate) fn greatest_short(spec: Spec) -> Option<u16>
     ensures { result ≡ short.greatest_short spec }

@@ -113,9 +113,9 @@ impl<'a> SubsetIndex<'a> {
         }
     }
 
-    /// Returns the chosen fields of the subset at an index, from 0: those of the descriptors in the
-    /// list, given by their 16 bits. `None` unless the list is that of the index, and its fields
-    /// have known places. Takes no memory.
+    /// Returns the fields with these descriptors, given by their 16 bits, of the subset at an
+    /// index, from 0. `None` if the index was made for another list, or has no places of the
+    /// fields.
     #[inline(always)]
     pub fn chosen(&self, asked: &[u16], index: usize) -> Option<ChosenFields<'_>>
         requires { index < length self.now }

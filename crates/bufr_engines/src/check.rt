@@ -11,10 +11,10 @@ use bufr_io::{Tally, ToolFault};
 use bufr_tables::Tables;
 use std::alloc::Global;
 
-/// Writes a line for each frame of a stream: its place, its length and whether it spells a message. A
-/// last line counts the frames, the refused ones, and the octets outside frames. Before the next read
-/// it writes the lines of all frames that are sure. If memory runs out, it writes the lines until then; if
-/// the writer fails then, that is the fault.
+/// Writes a line for each frame of a stream: its place, its length and whether it spells a message.
+/// A last line counts the frames, the refused ones, and the octets outside frames. Before the next
+/// read it writes the lines of all frames that are sure. If memory runs out, it still writes the
+/// lines that it has. If the writer then fails, that is the fault.
 pub fn run_check<S: Source, W: Sink>(
     alloc: Global,
     reads: u64,

@@ -13,7 +13,7 @@ use bufr_message::{EncodeFault, KeptTemplates, Message, keep_and_encode};
 use bufr_tables::Tables;
 use std::alloc::Global;
 
-/// The octets of messages, joined, and the number of the messages.
+/// A number of messages, and their octets joined.
 #[derive(Drop)]
 struct Encoded {
     octets: Vec<u8>,
@@ -100,7 +100,7 @@ fn next_of(alloc: Global, messages: &mut Messages<'_>) -> Result<Option<Message>
     }
 }
 
-/// Returns the fault of the rest of a listing, or else that of a message without encoding.
+/// Returns the fault of the rest of a listing, or else the fault of a message without encoding.
 fn fault_of(
     alloc: Global,
     messages: Messages<'_>,
@@ -145,7 +145,7 @@ fn add_octets(
     Ok(())
 }
 
-/// Encodes a message, compressed if it is so or `compressed`.
+/// Encodes a message, compressed if it has that flag or `compressed` is set.
 fn octets_as_asked(
     alloc: Global,
     templates: &mut KeptTemplates<'_>,

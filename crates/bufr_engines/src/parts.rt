@@ -9,7 +9,7 @@ use bufr_bits::Sink;
 use bufr_gather::MergedOctets;
 use bufr_io::{ToolFault, write_after, write_out};
 
-/// Octets to write, and the number of octets before them.
+/// A part of the output: octets to write, and the number of octets before them.
 #[derive(Drop)]
 pub(crate) struct Part {
     pub(crate) octets: Vec<u8>,

@@ -28,7 +28,7 @@ use bufr_message::{Fields, MessageReader, Refused, View};
 use bufr_tables::Tables;
 use std::alloc::Global;
 
-/// The length of the lines at which the printer writes them.
+/// The number of held octets at which the printer writes them.
 const PART: usize = 65_536;
 
 /// A printer of the frames of a stream.
@@ -133,8 +133,8 @@ impl<'t> Printer<'t> {
         Ok(())
     }
 
-    /// Prints the listing of a message. It builds one field at a time, and holds the lines before the
-    /// first subset, or `PART` octets, and the line of one field.
+    /// Prints the listing of a message. It builds one field at a time. It holds at most the lines
+    /// before the first subset, or `PART` octets, and the line of one field.
     fn print_listing<W: Sink>(
         &mut self,
         alloc: Global,

@@ -28,7 +28,7 @@ const MOST_DIGITS: usize = 20;
 /// The index of the line's end in a row, after four numbers and the words between them.
 const ROW_END: usize = 4 * MOST_DIGITS + 6;
 
-/// What a command prints of a stream.
+/// A form in which a command prints a stream.
 #[derive(Clone, Copy, Drop, PartialEq, Eq)]
 pub(crate) enum Printing {
     /// The listing of each message.
@@ -37,7 +37,7 @@ pub(crate) enum Printing {
     Checked,
 }
 
-/// All descriptors.
+/// A choice of all descriptors.
 struct EachField;
 
 impl Asks for EachField {

@@ -11,9 +11,9 @@ use bufr_io::{Tally, ToolFault};
 use bufr_tables::Tables;
 use std::alloc::Global;
 
-/// Writes the listing of each message of a stream, or why a frame is refused. Before the next read it
-/// writes the lines of all frames that are sure. If memory runs out, it writes the lines until then; if
-/// the writer fails then, that is the fault.
+/// Writes the listing of each message of a stream, or why a frame is refused. Before the next read
+/// it writes the lines of all frames that are sure. If memory runs out, it still writes the lines
+/// that it has. If the writer then fails, that is the fault.
 pub fn run_show<S: Source, W: Sink>(
     alloc: Global,
     reads: u64,

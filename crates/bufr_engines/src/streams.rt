@@ -12,7 +12,7 @@ use bufr_gather::{AddFault, ArchiveBuilder};
 use bufr_io::{Input, TakesFrames, ToolFault, take_stream};
 use std::alloc::Global;
 
-/// Counts of frames.
+/// A count of frames.
 #[derive(Clone, Copy, Drop, PartialEq, Eq)]
 pub(crate) struct Counts {
     /// All frames.

@@ -1,5 +1,5 @@
-//! Archives as a stack of texts. Each text has at least a third more reports than the text above it,
-//! so `merge` merges each report a few times, however many archives come.
+//! Archives as a stack of texts. Each text has at least 4/3 as many reports as the text above it.
+//! So `merge` moves each report a few times, however many archives come.
 
 ghost use Rattle.std.specs.Prelude.{◌≡◌, ◌++◌, IfOk, OnOk};
 ghost use Rattle.std.specs.Option.{option_to_list};
@@ -11,7 +11,7 @@ use bufr_gather::ArchiveText;
 use bufr_tables::Tables;
 use std::alloc::Global;
 
-/// Takes the top text, if it has at most a third more reports than another.
+/// Takes the top one of `texts`, if it has at most a third more reports than `top`.
 fn pop_alike<'t>(texts: &mut Vec<ArchiveText<'t>>, top: &ArchiveText) -> Option<ArchiveText<'t>>
     ensures { texts.old.items ≡ texts.new.items ++ option_to_list result }
 {
@@ -45,8 +45,8 @@ pub(crate) fn settle<'t>(
     Ok(())
 }
 
-/// Merges all texts but the lowest, from the top down, and returns the lowest and that text. A text
-/// that is not there has no reports.
+/// Merges all texts but the lowest, from the top down, and returns the lowest and the merged one. A
+/// missing text counts as one without reports.
 pub(crate) fn merge_upper<'t>(
     alloc: Global,
     tables: &'t Tables,

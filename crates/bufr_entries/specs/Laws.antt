@@ -12,7 +12,7 @@ use Rattle.bufr_entries.specs.declared.entry.Entry.{Entry}
 abbrev pub KeptIsTheBest : Type 0
 KeptIsTheBest = (es : List Entry) → AreKept slot_cmp rank_cmp es (kept es)
 
--- only `kept` has it
+-- no other list has the best entries in this order
 abbrev pub OnlyKeptIsTheBest : Type 0
 OnlyKeptIsTheBest = (es ks : List Entry) → AreKept slot_cmp rank_cmp es ks → ks ≡ kept es
 
@@ -54,7 +54,8 @@ SortedAreKept = (es : List Entry) → IsStrictlySortedBy slot_cmp es → kept es
 abbrev pub CoarselyKeptAreKept : Type 0
 CoarselyKeptAreKept = (es : List Entry) → kept (coarsely_kept es) ≡ coarsely_kept es
 
--- it was the best entry of each slot, by keys without the sub-centre, if octets tell entries apart
+-- what they kept was the best entry of each slot, by keys without the sub-centre, if different
+-- entries have different octets
 abbrev pub CoarselyKeptIsTheBest : Type 0
 CoarselyKeptIsTheBest = (es : List Entry)
     → ((e f : Entry) → Has es e → Has es f → e.bytes ≡ f.bytes → e ≡ f)

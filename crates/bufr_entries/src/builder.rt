@@ -17,8 +17,8 @@ use std::alloc::Global;
 use std::marker::Model;
 
 /// A builder that gathers entries, without look-ups, and keeps the one of greatest rank of each
-/// slot. It sorts in batches: at most 64 entries wait, and two for each sorted entry, with little
-/// more than 32 MiB, and 64 octets for each sorted entry.
+/// slot. It sorts in batches: while n entries are sorted, at most 64 + 2n wait, with little more
+/// than 32 MiB + 64n octets.
 #[derive(Drop)]
 pub struct ShelfBuilder {
     alloc: Global,
@@ -114,7 +114,7 @@ impl ShelfBuilder {
         Ok(())
     }
 
-    /// Gives what is kept of the entries, in order.
+    /// Returns the kept entries, in order.
     pub fn into_left(self) -> Result<PagesLeft, OutOfMemory>
         ensures { IfOk result (λ left. left ≡ kept self) }
     {
@@ -146,7 +146,7 @@ impl ShelfBuilder {
     }
 }
 
-/// Moves all entries into `left`, in order; some if memory runs out.
+/// Moves all entries into `left`, in order. If memory runs out, it moves some.
 fn take_all(
     alloc: Global,
     settled: &mut Vec<Page>,

@@ -5,7 +5,7 @@ ghost use Rattle.bufr_entries.specs.Fronts.{front_cmp, place_cmp, front_of_key, 
 use crate::key::{Key, Station};
 use std::cmp::Ordering;
 
-/// The centre and categories of a key.
+/// A head of a key: its centre and categories.
 #[derive(Clone, Copy, Drop, PartialEq, Eq, PartialOrd, Ord)]
 pub struct FrontHead {
     /// The originating centre.
@@ -18,7 +18,7 @@ pub struct FrontHead {
     pub local_category: u8,
 }
 
-/// The station of a key, as a front has it.
+/// A station of a key, as a front has it.
 #[derive(Clone, Copy, Drop)]
 pub(crate) enum FrontPlace {
     /// A WMO station; the front has no number.
@@ -29,7 +29,7 @@ pub(crate) enum FrontPlace {
     Open,
 }
 
-/// The front of a key: a mark holds it beside the boxed key.
+/// A front of a key, which a mark holds beside the boxed key.
 #[derive(Clone, Copy, Drop)]
 pub(crate) struct Front {
     pub(crate) head: FrontHead,

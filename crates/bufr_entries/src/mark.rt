@@ -41,7 +41,7 @@ pub(crate) enum PackedForm {
     },
 }
 
-/// The key of an entry, if it has one, and its update number, in 24 octets; longer keys take more.
+/// A key of an entry, or none, with an update number, in 24 octets; longer keys take more.
 #[derive(Drop)]
 pub struct PackedSlot {
     form: PackedForm,
@@ -106,7 +106,7 @@ impl PackedSlot {
         Ok(PackedSlot { form })
     }
 
-    /// Makes the mark of a WMO station's key, of its parts.
+    /// Makes the mark of a WMO station's key from its parts.
     #[inline(always)]
     pub fn of_wmo(
         head: FrontHead,

@@ -130,7 +130,7 @@ impl WmoWords {
     }
 
     /// Compares two keys, the words of each as one number.
-    // Its answers are constants, so a caller that asks only for the lesser computes no order.
+    // It returns constants, so a caller that asks only for the lesser computes no order.
     #[inline(always)]
     pub(crate) fn order(self, sub_centre: u16, other: WmoWords, other_sub_centre: u16) -> Ordering
         ensures { result ≡ key_cmp (wmo_key self sub_centre) (wmo_key other other_sub_centre) }

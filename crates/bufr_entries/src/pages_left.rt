@@ -82,8 +82,8 @@ impl PagesLeft {
         Some(page)
     }
 
-    /// Moves the settled pages to the front of the queue, last page first; if memory runs out,
-    /// some.
+    /// Moves the settled pages to the front of the queue, last page first. If memory runs out, it
+    /// moves some.
     pub(crate) fn take_back(&mut self, settled: &mut Vec<Page>) -> Result<(), OutOfMemory>
         ensures all { flat settled.new.items ++ self.new ≡ flat settled.old.items ++ self.old }
         ensures done { OnOk result (settled.new.items ≡ []) }

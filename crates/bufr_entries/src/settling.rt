@@ -16,8 +16,8 @@ use std::alloc::Global;
 use std::cmp::Ordering;
 
 /// Merges the waiting entries into the settled pages, and keeps the one of greatest rank of each
-/// slot. If memory runs out, some may have moved, but the three keep the same. It makes a new page
-/// before it frees the old one.
+/// slot. If memory runs out, some may have moved, but the three together keep the same. It makes a
+/// new page before it frees the old one.
 pub(crate) fn settle(
     alloc: Global,
     settled: &mut Vec<Page>,

@@ -14,7 +14,7 @@ const FEWEST_ENTRIES: usize = 64;
 /// The places of the octets of a word, the highest first.
 const PLACES: [u32; 8] = [56, 48, 40, 32, 24, 16, 8, 0];
 
-/// Some bits of a word, from a place on.
+/// A part of a word: some bits, from a place on.
 #[derive(Clone, Copy, Drop)]
 struct Part {
     from: u32,
@@ -22,7 +22,7 @@ struct Part {
     mask: u64,
 }
 
-/// The lowest `width` bits.
+/// Returns a mask of the lowest `width` bits.
 fn lowest(width: u32) -> u64 {
     1u64.wrapping_shl(width).wrapping_sub(1)
 }
@@ -39,7 +39,7 @@ fn differing(entries: &[WaitingEntry]) -> Option<WmoWords> {
     Some(differ)
 }
 
-/// Lists the parts of a word that differ while they have room, and returns the room left.
+/// Lists the differing parts of a word while bits are left for them, and returns the bits left.
 fn parts_of(alloc: Global, differ: u64, room: u32) -> Option<(Vec<Part>, u32)> {
     let mut parts = Vec::new(alloc);
     let mut left = room;
@@ -86,7 +86,8 @@ fn tickets_of(alloc: Global, entries: &[WaitingEntry], place_width: u32) -> Opti
     Some(tickets)
 }
 
-/// Moves the entries to the places of their tickets. Each step ends a place or a cycle of places.
+/// Moves the entries to the places of their tickets. Each step fills a place or ends a cycle of
+/// places.
 fn follow(entries: &mut [WaitingEntry], tickets: &mut [u64], place_width: u32)
     ensures { IsPermutation entries.old entries.new }
 {

@@ -20,13 +20,13 @@ use std::marker::Model;
 /// The least size of a batch, unless its octets are many.
 const SMALLEST_BATCH: usize = 64;
 
-/// The most entries that wait, beside one for each sorted entry.
+/// The most entries that wait beyond the number of sorted ones.
 const LARGEST_BATCH: usize = 65_536;
 
 /// The octets that make a batch of any size.
 const LONG_BATCH: u64 = 33_554_432;
 
-/// The octets that may wait beside that, for each sorted entry.
+/// The octets that may wait beyond `LONG_BATCH`, for each sorted entry.
 const OCTETS_AN_ENTRY: u64 = 64;
 
 /// The most entries that one call reads ahead.
@@ -101,8 +101,8 @@ fn lie_together(entries: &[WaitingEntry]) -> bool {
     other.from.wrapping_sub(last.from) == last.len
 }
 
-/// Copies the octets of the last entries into `ahead`, unless they lie together. Where they lie far
-/// apart, one pass waits less for memory.
+/// Copies the octets of the last entries into `ahead`, unless they lie together. If they lie far
+/// apart, reading them in one pass waits less for memory.
 #[inline(never)]
 fn read_last(octets: &[u8], entries: &[WaitingEntry], ahead: &mut Vec<u8>)
     ensures { AreLast octets.now entries.now ahead.new.items }

@@ -96,8 +96,8 @@ impl Operators {
         }
     }
 
-    /// Returns the spec of a quantity. Any reference value but 0 is too large times 10 to the power
-    /// of 19.
+    /// Returns the spec of a quantity. An increase above 18 puts every reference value but 0
+    /// outside the limits.
     #[inline(never)]
     fn quantity(&self, element: &Element) -> Option<Spec>
         ensures { result ≡ operating.quantity element.now self.now }

@@ -17,8 +17,8 @@ use bufr_tables::Fxy;
 use std::alloc::Global;
 
 /// Checks the fields of subset `j`, with no operator in force at its start, and returns the items
-/// of the message after them; `used` come before. The fault is the first: `DoesNotFit` if the
-/// template asks for another field, more or none, or a raw value or spec is out of range;
+/// of the message up to their end; `used` of them come before. The fault is the first: `DoesNotFit`
+/// if the template asks for another field, more or none, or a raw value or spec is out of range;
 /// `TooLarge` at item 16,777,217.
 pub fn fit_fields(
     alloc: Global,

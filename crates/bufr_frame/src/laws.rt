@@ -10,8 +10,8 @@ ghost use Rattle.bufr_frame.specs.Holdings.{StandsFor};
 ghost use Rattle.bufr_frame.specs.NextFrames.{taken_in, IsRestOf, IsNextFrame, IsNoFrame};
 ghost use Rattle.bufr_frame.specs.NextFrames.{StandsAfter, HandedOut, IsBetweenCalls};
 
-/// The cut is the only list of frames, in order and apart, such that each frame of the stream
-/// begins inside one of the list.
+/// Exactly one list of frames is in order, has no two that overlap, and covers the start of every
+/// frame of the stream: the cut.
 pub fn cut_is_taken_from_the_left()
     ensures is { (stream : List ℕ) → IsCut stream (cut stream) }
     ensures only { (stream : List ℕ) (frames : List FoundFrame)
@@ -54,7 +54,7 @@ pub fn joined_frames_are_cut_apart()
         ≡ frames_at 0 frames ++ frames_from true (length (joined frames)) 0 more }
 {}
 
-/// `take_next`, until it hands out none, gives the sure frames; with `finish` the cut.
+/// `take_next`, until it hands out none, returns the sure frames; with `finish` the cut.
 pub fn frames_taken_are_the_sure_ones()
     ensures first { (framer : Framing) → Stands framer [] 0 → HandedOut framer [] [] }
     ensures piece { (framer : Framing) (stream piece : List ℕ) (frames : List FoundFrame)

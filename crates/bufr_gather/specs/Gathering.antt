@@ -8,9 +8,9 @@ use Rattle.bufr_gather.specs.declared.add_fault.AddFault.TheVariants.{Refused, O
 use Rattle.bufr_gather.specs.Archives.{ArchiveView, AddsFirst, taken_in}
 use Rattle.bufr_gather.specs.ReportEntries.{report_entries, entries_told}
 
--- What a call does that gathers the reports of a message, by its answer: the octets spell a message,
--- and all its reports were added; or they spell none, for this cause, and nothing is changed; or
--- memory ran out, and the first so many of the message's reports were added.
+-- What a call does that gathers the reports of a message, by its answer: the octets spell a
+-- message, and all its reports were added; or they spell none, for this cause, and nothing is
+-- changed; or memory ran out, and the first `done` of the message's reports were added.
 abbrev pub AddsToBuilder : ArchiveView → ArchiveView → List ℕ → Result (Unit {0}) AddFault → Type 0
 AddsToBuilder old new octets (Ok done) =
     (d : Decoded) × (message_of old.tables octets ≡ Ok d)

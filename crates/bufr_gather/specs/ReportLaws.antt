@@ -36,7 +36,7 @@ FramesOfReportFronts = (tables : Entries) (rs : List Report) (k n : ℕ) → Are
     → take k (cut (take n (text_of tables rs)))
     ≡ frames_at 0 (map (λ e. e.bytes) (take k (kept_of tables rs)))
 
--- of the reports of a text, as a stream, the same entries are kept
+-- an archive keeps the same entries of a text's reports if the text is read as a stream
 abbrev pub ReportTextsTell : Type 0
 ReportTextsTell = (tables : Entries) (rs : List Report) → AreUnder tables rs
     → kept_of tables (told tables (text_of tables rs)) ≡ kept_of tables rs
@@ -70,7 +70,7 @@ abbrev pub FromBeforeAreTexts : Type 0
 FromBeforeAreTexts = (tables : Entries) (octets : List ℕ) → IsTextFromBefore tables octets
     → IsText tables octets
 
--- the entries kept before are the best of each slot of then, in order
+-- the entries kept before are the best of each slot, by keys without sub-centre, in order
 abbrev pub KeptBeforeIsTheBest : Type 0
 KeptBeforeIsTheBest = (tables : Entries) (rs : List Report) → AreUnder tables rs
     → AreKept coarse_slot_cmp rank_cmp (entries_of (report_entries tables rs))

@@ -14,7 +14,7 @@ use Rattle.bufr_gather.specs.Archives.{ArchiveView, entries_of}
 use Rattle.bufr_gather.specs.Texts.{text}
 use Rattle.bufr_gather.specs.ReportEntries.{AreUnder, report_entries, kept_of, text_of}
 
--- an archive's text: that of some reports under the tables
+-- an archive's text: the text of some reports under the tables
 pub record IsText (tables : Entries) (octets : List ℕ) : Type 0 where
   pub reports : List Report
   pub under : AreUnder tables reports

@@ -1,7 +1,7 @@
 use bufr_message::Refused;
 use thiserror::Error;
 
-/// Memory ran out after the first `done` reports were joined, and no others.
+/// A want of memory after the first `done` reports were joined, and no others.
 #[derive(Clone, Copy, Debug, Drop, Error, PartialEq, Eq)]
 #[error("out of memory, {done} reports joined")]
 pub struct RanOut {
@@ -9,7 +9,7 @@ pub struct RanOut {
     pub done: u128,
 }
 
-/// Why a message was not added, or not all of it.
+/// A fault of a message that was not added, or not all of it.
 #[derive(Debug, Drop, Error, PartialEq)]
 pub enum AddFault {
     /// The octets spell no message, for this cause.

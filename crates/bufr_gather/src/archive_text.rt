@@ -119,7 +119,7 @@ impl<'t> ArchiveText<'t> {
         Ok(())
     }
 
-    /// Finds from which text each entry of the merge comes.
+    /// Finds which text each entry of the merge is from.
     fn origins_with(
         &self,
         alloc: Global,

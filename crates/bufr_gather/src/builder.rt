@@ -50,14 +50,14 @@ impl<'t> ArchiveBuilder<'t> {
         }
     }
 
-    /// Adds the reports of a message, one by one; on want of memory the first `done`.
+    /// Adds the reports of a message, one by one; if memory runs out, the first `done`.
     pub fn add_message(&mut self, octets: &[u8]) -> Result<(), AddFault>
         ensures { AddsToBuilder self.old self.new octets.now result }
     {
         reports_have_canonical_messages();
         canonical_messages_are_own();
         written_messages_are_spelt();
-        // The view is lent from the result, since a view out of it would be a copy.
+        // Lends the view from the result, since moving it out would copy it.
         let read = self.templates.read(self.alloc, octets);
         let view = match &read {
             Ok(view) => view,

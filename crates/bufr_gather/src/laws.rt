@@ -20,7 +20,7 @@ pub fn reports_are_entries()
 }
 
 /// The frames of a text are its canonical messages in order, whatever their character data hold. A
-/// text read as a stream gives the reports of the archive.
+/// text read as a stream has the reports of the archive.
 pub fn texts_are_cut_apart()
     ensures frames { FramesOfReports }
     ensures fronts { FramesOfReportFronts }
@@ -38,8 +38,8 @@ pub fn texts_break_at_one_place()
     ensures whole { TextsAreWhole }
 {}
 
-/// A text from before, when keys had no sub-centre, is the text of the reports kept then, so
-/// reading takes it.
+/// A text written while keys had no sub-centre is the text of the reports kept then, so reading
+/// takes it.
 pub fn texts_from_before()
     ensures kept { TextsFromBefore }
     ensures texts { FromBeforeAreTexts }

@@ -9,8 +9,7 @@ use bufr_base::OutOfMemory;
 use std::alloc::Global;
 use std::marker::Model;
 
-/// The text of a kept entry: it alone has an entry of the slot, or both have one and this one is
-/// kept.
+/// A text that a kept entry is from: it alone has an entry of the slot, or both have one.
 #[derive(Clone, Copy, Drop, PartialEq, Eq)]
 pub(crate) enum Origin {
     Left,

@@ -19,7 +19,7 @@ pub(crate) struct KnownEntry<'a> {
     bytes: &'a [u8],
 }
 
-/// The rest of a text: its first entry, and the marks and octets after it.
+/// A rest of a text: its first entry, and the marks and octets after it.
 #[derive(Clone, Copy, Drop)]
 pub(crate) struct Unmerged<'a> {
     first: Option<KnownEntry<'a>>,
@@ -49,7 +49,7 @@ impl<'a> Unmerged<'a> {
     }
 }
 
-/// Finds the first entry of greater rank; both have one slot.
+/// Finds which of the two first entries has the greater rank; both have one slot.
 fn greater_of(left: &Unmerged, right: &Unmerged) -> Origin
     ensures { result ≡ greater_of (option_map known left.now.first)
         (option_map known right.now.first) }

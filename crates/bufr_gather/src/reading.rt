@@ -14,7 +14,7 @@ use bufr_message::MessageReader;
 use std::alloc::Global;
 use thiserror::Error;
 
-/// The text is wrong from an entry on.
+/// A fault of a text that is wrong from an entry on.
 #[derive(Clone, Copy, Debug, Drop, Error, PartialEq, Eq)]
 #[error("N1 NotAnArchive {place}")]
 pub struct NotAnArchive {

@@ -56,8 +56,8 @@ pub fn entry_of(
     Ok(Some(entry_with(alloc, report, octets)?))
 }
 
-/// Whether the octets are the canonical message of the view's one report. Makes it only if the view
-/// can't decide.
+/// Whether the octets are the canonical message of the view's one report. Makes this message only
+/// if the view can't decide.
 fn is_own(alloc: Global, view: &View<'_>, octets: &[u8]) -> Result<bool, OutOfMemory>
     requires { length view.now.message.subsets ≡ 1 }
     ensures { IfOk result (λ same. IfSome (slice_get (reports_of view.now.message) 0)
@@ -97,7 +97,7 @@ fn own_entry<'a>(
     }))
 }
 
-/// Reads the entry that the octets are: the canonical message of their one report.
+/// Reads octets as an entry, if they are the canonical message of their one report.
 pub(crate) fn entry_in<'a>(
     alloc: Global,
     templates: &mut MessageReader<'_>,
@@ -118,7 +118,7 @@ pub(crate) fn entry_in<'a>(
     own_entry(alloc, &view, octets)
 }
 
-/// The reports of a message that was read.
+/// A list of the reports of a message that was read.
 #[derive(Drop)]
 pub struct MessageReports<'a> {
     /// The message.
@@ -182,7 +182,7 @@ impl<'a> MessageReports<'a> {
     }
 }
 
-/// The canonical message of the report at an index, from 0, before it is written.
+/// A canonical message of the report at an index, from 0, before it is written.
 #[derive(Clone, Copy, Drop)]
 pub(crate) struct ReportOctets<'r, 'a> {
     pub(crate) view: &'r View<'a>,

@@ -9,7 +9,7 @@ use bufr_tables::TableFault;
 use std::fmt;
 use thiserror::Error;
 
-/// Counts what an engine has read and written; 0 if a command does not count it.
+/// A count of what an engine has read and written; 0 if a command does not count it.
 #[derive(Clone, Copy, Debug, Drop, PartialEq, Eq)]
 pub struct Tally {
     /// The frames of streams, the messages of a listing, or the archives.

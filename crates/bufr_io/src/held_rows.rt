@@ -12,7 +12,7 @@ use std::alloc::Global;
 /// The length at which `put` writes rows.
 const PART: usize = 65_536;
 
-/// Rows that wait to be written together.
+/// A text of rows that wait to be written together.
 #[derive(Drop)]
 pub struct HeldRows {
     /// The number of octets that the writer took.

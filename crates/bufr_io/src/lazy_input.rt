@@ -9,7 +9,7 @@ use std::fs;
 use std::io::Read;
 use std::rt::Files;
 
-/// The state of a file.
+/// A state of a file.
 #[derive(Drop)]
 enum Stage<F> {
     /// Not opened yet.

@@ -32,9 +32,8 @@ impl fmt::Display for Cause {
 /// A fault of a text, the first by lines, from 1; on one line L3 comes first, then L1, then L2.
 #[derive(Clone, Copy, Debug, PartialEq, Eq)]
 pub enum ListingFault {
-    /// L1: another line has to follow, by the first word, the field's descriptor, the number of
-    /// words, or a word that is no descriptor. If the text ends within a block, the number after
-    /// its last line.
+    /// L1: the line has another first word, descriptor or number of words than the one due, or a
+    /// word that is no descriptor. If the text ends within a block, the number after its last line.
     BadLine(u128),
     /// L2: another word of the line is wrong at its place.
     BadValue(u128),

@@ -14,7 +14,7 @@ use bufr_tables::Fxy;
 use std::alloc::Global;
 use std::marker::Model;
 
-/// The lines before the first subset of the last message. Contracts see their text.
+/// A copy of the lines before the first subset of the last message. Contracts see their text.
 #[derive(Drop)]
 pub struct KeptHeading {
     text: Vec<u8>,

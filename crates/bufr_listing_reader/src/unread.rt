@@ -32,7 +32,7 @@ impl<'a> Model for Messages<'a> {
 }
 
 impl<'a> Messages<'a> {
-    /// Starts before the first message. Takes no memory.
+    /// Starts before the first message.
     pub fn of(alloc: Global, tables: &'a Tables, text: &'a [u8]) -> Messages<'a>
         ensures exact { result ≡ unread_in tables.now text.now }
         ensures listed { all_of result ≡ messages_listed tables.now text.now }

@@ -124,7 +124,7 @@ impl Column {
         }
     }
 
-    /// Returns whether the field of a message is short: that of any column but the descriptors.
+    /// Returns whether the field of a message is short: in every column but the descriptors.
     #[inline(always)]
     pub(crate) fn is_short(self) -> bool
         ensures { result ≡ is_short self }

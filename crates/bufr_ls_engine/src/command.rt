@@ -70,8 +70,8 @@ fn refuse_columns<E: Write + Drop>(alloc: Global, fault: &ColumnsFault<'_>, err:
     }
 }
 
-/// Opens the first file, lists the heads of all, each of which is opened when the one before was read,
-/// and returns the exit status.
+/// Opens the first file, lists the heads of all files and returns the exit status. Each further
+/// file opens after the one before was read.
 fn list_files<R: Files, O: Write + Drop, E: Write + Drop>(
     rt: &R,
     alloc: Global,

@@ -114,7 +114,7 @@ impl<'c> Lister<'c> {
         Ok(())
     }
 
-    /// Writes the rows that wait when memory ran out, and returns the fault, which may be the writer's.
+    /// Writes the rows that wait when memory ran out, and returns the fault, perhaps the writer's.
     pub(crate) fn stop<W: Sink>(&mut self, writer: &mut W) -> ToolFault
         requires works { (W.writing writer.old).failed ≡ false }
         ensures { Stops self.old (W.writing writer.old) (W.writing writer.new) result }

@@ -133,7 +133,7 @@ fn push_short(text: &mut Vec<u8>, number: u64, end: u8)
     push_five(text, thousands, hundreds, tens, last, end);
 }
 
-/// Adds a number of five to eight digits: first those before the last four, with the next one after them.
+/// Adds a number of five to eight digits: all but the last three, then these.
 #[inline(always)]
 fn push_eight(text: &mut Vec<u8>, number: u64, end: u8)
     requires long { 10000 ≤ number }

@@ -1,4 +1,4 @@
-//! What `judge` returns.
+//! What `MessageReader::check` returns.
 
 /// A summary of a message, without its fields.
 #[derive(Clone, Copy, Debug, Drop, PartialEq, Eq)]

@@ -14,7 +14,7 @@ use bufr_sections::{Refused, are_listed, descriptors_of};
 use bufr_tables::{Fxy, Tables};
 use std::alloc::Global;
 
-/// The octets of section 3 that list descriptors.
+/// A list of descriptors, as octets of section 3.
 #[derive(Clone, Copy, Drop)]
 struct ListOctets<'a> {
     octets: &'a [u8],

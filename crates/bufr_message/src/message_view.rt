@@ -134,9 +134,9 @@ impl<'a> View<'a> {
         self.subsets.fields(alloc, index)
     }
 
-    /// Returns the chosen fields of the subset at an index, from 0: those of the elements in the
-    /// list. `None` unless the list is that of the message's reader, and these fields have known
-    /// places. Takes no memory.
+    /// Returns the fields of these elements, given by their 16 bits, of the subset at an index,
+    /// from 0. `None` if the message's reader was made for another list, or has no places of the
+    /// fields.
     #[inline(always)]
     pub fn chosen(&self, asked: &[u16], index: usize) -> Option<ChosenFields<'_>>
         requires { index < length self.now.message.subsets }
@@ -167,7 +167,7 @@ impl<'a> View<'a> {
         )
     }
 
-    /// Lends the octets if they are the canonical message of their one report. Takes no memory.
+    /// Lends the octets if they are the canonical message of their one report.
     pub fn own(&self) -> Option<&'a [u8]>
         ensures one { IfSome result (λ own. length self.now.message.subsets ≡ 1) }
         ensures is { IfSome result (λ own. option_map spelt_alone

@@ -1,4 +1,4 @@
-//! Views of a stream's messages under the same tables.
+//! Reads a stream's messages under the same tables.
 
 ghost use Rattle.std.specs.Prelude.{◌≡◌, ℕ, Ok, IfOk};
 ghost use Rattle.bufr_base.specs.Answers.{Gives, result_map};

@@ -18,7 +18,7 @@ use Rattle.bufr_report_keys.specs.declared.first_values.FirstValues.{FirstValues
 use Rattle.bufr_report_keys.specs.Usable.{◌>>=◌, usable_number, usable_text, first_field}
 use Rattle.bufr_report_keys.specs.Keys.{or_else, from_to, greatest_year, sixtieth, key_with}
 
--- the number of the first field of an element, or that it has none; none where no field of it is met
+-- the number of the first field of an element, or that it is unusable; none without such a field
 abbrev pub first_number : ℕ → List Field → Option (Option ℤ)
 first_number d fields = option_map usable_number (first_field d fields)
 

@@ -11,12 +11,12 @@ number_said Unmet = None
 number_said Unusable = Some None
 number_said (Number n) = Some (Some n)
 
--- the same of a number of two octets
+-- a number of two octets, or that it is unusable; none without a field
 abbrev pub short_said : ShortSaid → Option (Option ℤ)
 short_said shorts.Unmet = None
 short_said shorts.Unusable = Some None
 short_said (shorts.Number n) = Some (Some (pos n))
 
--- the text of an element whose first field, if it is met, has none
+-- that the first field of an element has no text; none without a field
 abbrev pub no_text : Bool → Option (Option (List ℕ))
 no_text is_met = if is_met then Some None else None

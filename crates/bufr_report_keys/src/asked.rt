@@ -53,7 +53,7 @@ pub(crate) fn note_handed(
     }
 }
 
-/// Notes the fields that are left of those of keys.
+/// Notes the fields of keys that are left.
 #[inline(always)]
 pub(crate) fn note_chosen(
     alloc: Global,
@@ -73,7 +73,7 @@ pub(crate) fn note_chosen(
     }
 }
 
-/// Notes the fields that are left up to the first without a short number.
+/// Notes the fields of keys that are left, up to the first without a short number.
 #[inline(always)]
 pub(crate) fn note_short(fields: &mut ChosenFields<'_>, values: &mut ShortValues)
     ensures { all_noted fields.new values.new ≡ all_noted fields.old values.old }
@@ -83,8 +83,9 @@ pub(crate) fn note_short(fields: &mut ChosenFields<'_>, values: &mut ShortValues
     }
 }
 
-/// Notes the next field if it has a short number of this element. The error is another field with a
-/// short number or a missing one, not noted, or none.
+/// Notes the next field if it has a short number of this element. Else returns, as an error, the
+/// field that it took and did not note: another one, or one that is missing. None if it took no
+/// field.
 #[inline(always)]
 fn note_next(
     fields: &mut ChosenFields<'_>,

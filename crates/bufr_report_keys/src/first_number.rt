@@ -11,8 +11,8 @@ pub(crate) enum Said {
     Number(i128),
 }
 
-/// The number of an element's first field, as an option in an option in less room: the outer one is
-/// none if there is no field, the inner one if its number is unusable.
+/// A number of an element's first field: not met, met but unusable, or a number, in less room than
+/// an option in an option.
 #[derive(Drop)]
 pub(crate) struct FirstNumber {
     said: Said,
@@ -34,7 +34,7 @@ impl FirstNumber {
         FirstNumber { said: Said::Unmet }
     }
 
-    /// Notes the number of a field, if it is the first of its element; none if it is unusable.
+    /// Notes the number of a field, or none if it is unusable. Only the first of an element counts.
     #[inline(always)]
     pub(crate) fn note(&mut self, number: Option<i128>)
         ensures { self.new ≡ option_or self.old (Some number) }

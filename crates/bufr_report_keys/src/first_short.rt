@@ -44,7 +44,7 @@ impl FirstShort {
         FirstShort { said: self.said }
     }
 
-    /// Notes the number of a field, if it is the first of its element; none if it is unusable.
+    /// Notes the number of a field, or none if it is unusable. Only the first of an element counts.
     #[inline(always)]
     pub(crate) fn note(&mut self, number: Option<u16>)
         ensures { self.new ≡ option_or self.old (Some (option_map pos number)) }
@@ -77,7 +77,7 @@ impl FirstShort {
         }
     }
 
-    /// Makes the same number in the room that all need.
+    /// Makes the same number as a `FirstNumber`.
     pub(crate) fn widened(&self) -> FirstNumber
         ensures { result ≡ self.now }
     {

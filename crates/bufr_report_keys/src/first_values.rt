@@ -12,7 +12,7 @@ use crate::usable::{number_of, usable_number, usable_text};
 use bufr_base::Items;
 use bufr_data::{Field, NumberField, Raw};
 
-/// The value of the first field of each element of keys: a usable number or text, an unusable one,
+/// A record of the first field of each element of keys: a usable number or text, an unusable one,
 /// or none.
 #[derive(Drop)]
 pub(crate) struct FirstValues {

@@ -98,7 +98,7 @@ fn slot_of_walk(
     slot_of_fields(alloc, head, fields)
 }
 
-/// Makes the slot by the chosen fields, which are those of keys.
+/// Makes the slot by the fields of keys.
 #[inline(always)]
 fn slot_of_chosen(
     alloc: Global,

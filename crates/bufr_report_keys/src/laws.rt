@@ -10,8 +10,8 @@ pub fn usable_values()
     ensures texts_only { UsableTextsOnly }
 {}
 
-/// A moment has the fields' year, month, day and hour, a date of the civil calendar and an hour
-/// from 0 to 23, and their minute and second.
+/// A moment has the fields' year, month, day, hour, minute and second: a date of the civil calendar
+/// and an hour from 0 to 23.
 pub fn moments_are_dates()
     ensures are { MomentsAreSaid }
     ensures only { SaidMomentsAre }

@@ -33,7 +33,7 @@ fn from_to(low: u8, high: u8, number: i128) -> Option<u8>
     }
 }
 
-/// The days that each month has.
+/// The number of days that every month has.
 const SHORTEST_MONTH: u8 = 28;
 
 /// Converts a day of this month in the civil calendar. It asks the calendar only for late days.
@@ -73,7 +73,7 @@ fn sixtieth(number: Option<i128>) -> Option<u8>
     }
 }
 
-/// The numbers of a time, as the first fields have them; none if a number is absent.
+/// A time in numbers, as the first fields have them; none if a number is absent.
 #[derive(Clone, Copy)]
 pub(crate) struct TimeNumbers {
     pub(crate) year: Option<i128>,

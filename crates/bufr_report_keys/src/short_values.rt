@@ -15,18 +15,18 @@ use bufr_data::ShortNumber;
 use bufr_entries::Moment;
 use std::marker::Model;
 
-/// The first values of the elements of keys, as long as all fields are short numbers. Contracts see
-/// `FirstValues`.
+/// A record of the first values of the elements of keys, while all fields are short numbers.
+/// Contracts see `FirstValues`.
 #[derive(Drop)]
 pub(crate) struct ShortValues {
     pub(crate) block: FirstShort,
     pub(crate) station: FirstShort,
-    /// Whether there is a field 001011, a text elsewhere.
+    /// Whether there is a field 001011, which `FirstValues` has as a text.
     pub(crate) mobile: bool,
     pub(crate) series: FirstShort,
     pub(crate) issuer: FirstShort,
     pub(crate) issue: FirstShort,
-    /// Whether there is a field 001128, a text elsewhere.
+    /// Whether there is a field 001128, which `FirstValues` has as a text.
     pub(crate) local: bool,
     pub(crate) year: FirstShort,
     pub(crate) month: FirstShort,
@@ -144,7 +144,7 @@ impl ShortValues {
         }
     }
 
-    /// Makes the same values in the room that all need.
+    /// Makes the same values as `FirstValues`.
     pub(crate) fn widened(&self) -> FirstValues
         ensures { result ≡ self.now }
     {
@@ -166,7 +166,7 @@ impl ShortValues {
     }
 }
 
-/// Returns the text of a field that has none, if there is the field.
+/// Returns `Some(None)` for a field without text that was met, else `None`.
 fn without_text(is_met: bool) -> Option<Option<Items<u8>>>
     ensures { result ≡ no_text is_met }
 {

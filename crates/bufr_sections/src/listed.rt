@@ -27,7 +27,7 @@ pub fn descriptors_of(alloc: Global, octets: &[u8]) -> Result<Items<Fxy>, OutOfM
     Ok(Items::from_vec(list))
 }
 
-/// Whether octets list exactly these descriptors, an odd octet aside. Takes no memory.
+/// Whether octets list exactly these descriptors, an odd octet aside.
 pub fn are_listed(octets: &[u8], descriptors: &[Fxy]) -> bool
     ensures same { OnTrue result (descriptors_of octets.now ≡ descriptors.now) }
     ensures others { OnFalse result (descriptors_of octets.now ≢ descriptors.now) }

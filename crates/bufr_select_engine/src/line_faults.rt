@@ -7,8 +7,8 @@ use bufr_tables::Fxy;
 use std::alloc::Global;
 use thiserror::Error;
 
-/// What a command line selects: the descriptor `each` opens spans, and each pair of tables has its
-/// greatest version.
+/// A selection of a command line: the descriptor `each` opens spans, and each pair of tables has
+/// its greatest version.
 #[derive(Drop)]
 pub(crate) struct Selection {
     pub(crate) columns: Vec<Column>,

@@ -13,7 +13,7 @@ CoversColumn asked (columns.Told fact) = Unit {0}
 CoversColumn asked (columns.First d) = asked d ≡ true
 CoversColumn asked (columns.Nth d n) = asked d ≡ true
 
--- a set has the descriptor whose fields open spans
+-- a set has the descriptor of the fields that open spans
 abbrev pub CoversEach : (ℕ → Bool) → Option ℕ → Type 0
 CoversEach asked None = Unit {0}
 CoversEach asked (Some each) = asked each ≡ true
@@ -32,8 +32,8 @@ flagged marks d = not (get_or marks d 0 == 0)
 abbrev pub ListsAll : List ℕ → List ℕ → Type 0
 ListsAll marks list = (d : ℕ) → flagged marks d ≡ true → is_listed list d ≡ true
 
--- the mark of a descriptor for which the cell at an index asks too: that of the index, or 1 if another
--- cell asks for it
+-- the mark of a descriptor once the cell at an index asks for it too: the mark of the index, or 1
+-- if another cell asks for it
 abbrev pub mark_after : ℕ → ℕ → ℕ
 mark_after index mark = if mark == 0 && nat_lt index 65534 then index + 2 else 1
 
@@ -51,7 +51,7 @@ MarksColumn index column old new = (d : ℕ) → get_or new d 0
 abbrev pub NoneAsks : ℕ → List Column → Type 0
 NoneAsks d columns = AllByRecursion (λ c. asks_for d c ≡ false) columns
 
--- no column asks for a descriptor but that at an index
+-- no column but the one at an index asks for a descriptor
 abbrev pub OnlyAt : ℕ → ℕ → List Column → Type 0
 OnlyAt d i [] = Unit {0}
 OnlyAt d zero (c ∷ columns) = NoneAsks d columns

@@ -40,21 +40,21 @@ abbrev pub begun : Origin → Column → Cell
 begun o column =
     record { column = column; ahead = number_of column; before = told_before o column; here = [] }
 
--- a field of the column, given how many are ahead
+-- a cell after a field of the column, given how many are ahead
 abbrev pub counted_at : ℕ → Field → Cell → Cell
 counted_at zero f c = c
 counted_at (suc zero) f c = record c { ahead = 0; here = shown_value f }
 counted_at (suc (suc n)) f c = record c { ahead = suc n }
 
--- a field of the column in a span
+-- a cell after a field of the column in a span
 abbrev pub counted : Field → Cell → Cell
 counted f c = counted_at c.ahead f c
 
--- a field before all spans
+-- a cell after a field before all spans
 abbrev pub put_before : Field → Cell → Cell
 put_before f c = record c { before = shown_value f }
 
--- a field in a span, or before all spans
+-- a cell after a field in a span, or before all spans
 abbrev pub noted_by : Column → Bool → Field → Cell → Cell
 noted_by (columns.Told fact) in_span f c = c
 noted_by (columns.First d) true f c = if f.fxy == d then counted f c else c
@@ -62,7 +62,7 @@ noted_by (columns.First d) false f c = if f.fxy == d then put_before f c else c
 noted_by (columns.Nth d n) true f c = if f.fxy == d then counted f c else c
 noted_by (columns.Nth d n) false f c = c
 
--- a field, whatever its descriptor
+-- a cell after a field, whatever its descriptor
 abbrev pub noted : Bool → Field → Cell → Cell
 noted in_span f c = noted_by c.column in_span f c
 
@@ -72,11 +72,11 @@ settled_by (columns.Told fact) c = true
 settled_by (columns.First d) c = c.ahead == 0
 settled_by (columns.Nth d n) c = c.ahead == 0
 
--- of a cell
+-- whether no later field of a span changes the text of a cell
 abbrev pub is_settled : Cell → Bool
 is_settled c = settled_by c.column c
 
--- of the first n cells
+-- no later field of a span changes the texts of the first n cells
 abbrev pub AreSettled : ℕ → List Cell → Type 0
 AreSettled n cells = list_all is_settled (take n cells) ≡ true
 

@@ -88,7 +88,7 @@ LinesDetermineRows = (columns : List Column) (each : Option ℕ) (o : Origin) (f
 abbrev pub numbers_of : Origin → List Told → List (List ℕ)
 numbers_of o facts = map (λ fact. decimal (told_number fact o)) facts
 
--- the numbers of facts that section 1 says are those in the two lines of it
+-- the numbers of the facts in section 1 are those in its two lines
 pub record FactsAreListed (o : Origin) : Type 0 where
   pub section1 : section1_line o.head
       ≡ words (codes "section1") (numbers_of o (Centre ∷ SubCentre ∷ Update ∷ Category

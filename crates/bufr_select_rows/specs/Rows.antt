@@ -89,7 +89,7 @@ last_with d fields = slice_get (reverse (fields_with d fields)) 0
 abbrev pub value_if : Option Field → List ℕ
 value_if found = option_map_or shown_value found []
 
--- a field, or else another text
+-- the value of a field, or else another text
 abbrev pub value_or : Option Field → List ℕ → List ℕ
 value_or (Some f) other = shown_value f
 value_or None other = other

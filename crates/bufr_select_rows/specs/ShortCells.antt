@@ -14,13 +14,13 @@ digits_of (Some n) = decimal n
 abbrev pub short_text : ShortNumber → List ℕ
 short_text s = digits_of s.number
 
--- a short number of the column, given how many fields are ahead
+-- a cell after a short number of the column, given how many fields are ahead
 abbrev pub counted_short_at : ℕ → ShortNumber → Cell → Cell
 counted_short_at zero s c = c
 counted_short_at (suc zero) s c = record c { ahead = 0; here = short_text s }
 counted_short_at (suc (suc n)) s c = record c { ahead = suc n }
 
--- a short number of the column in a span
+-- a cell after a short number of the column in a span
 abbrev pub counted_short : ShortNumber → Cell → Cell
 counted_short s c = counted_short_at c.ahead s c
 
@@ -30,6 +30,6 @@ noted_short_by (columns.Told fact) s c = c
 noted_short_by (columns.First d) s c = if s.fxy == d then counted_short s c else c
 noted_short_by (columns.Nth d n) s c = if s.fxy == d then counted_short s c else c
 
--- a short number, whatever its descriptor
+-- a cell after a short number, whatever its descriptor
 abbrev pub noted_short : ShortNumber → Cell → Cell
 noted_short s c = noted_short_by c.column s c

@@ -124,7 +124,7 @@ fn mark(marks: &mut Vec<u16>, fxy: Fxy, index: usize)
     marks[place] = after;
 }
 
-/// Returns the mark of a descriptor for which the cell at an index asks too.
+/// Returns the mark of a descriptor once the cell at an index asks for it too.
 fn mark_after(index: usize, mark: u16) -> u16
     ensures { result ≡ asks.mark_after index mark }
 {
@@ -135,7 +135,7 @@ fn mark_after(index: usize, mark: u16) -> u16
     }
 }
 
-/// Marks the descriptor whose fields open spans, unless it has a mark.
+/// Marks the descriptor of the fields that open spans, unless it has a mark.
 fn mark_each(marks: &mut Vec<u16>, each: Option<Fxy>)
     requires { length marks.old.items ≡ 65536 }
     ensures covers { CoversEach (flagged marks.new.items) each }

@@ -16,11 +16,11 @@ use bufr_fields::{Field, NumberField};
 use bufr_tables::Fxy;
 use std::alloc::Global;
 
-/// A column, and what was picked for it of the fields so far.
+/// A column, and what the fields up to now gave it.
 #[derive(Drop)]
 pub struct Cell {
     pub column: Column,
-    /// The fields of the column up to the one to show; 0 after it.
+    /// The number of the column's fields up to the one to show; 0 after it.
     pub ahead: u64,
     /// The text if the span has no such field.
     pub before: Text,
@@ -134,7 +134,7 @@ impl Cell {
         }
     }
 
-    /// Counts a field with a short number if `is`, and shows it if it is the one.
+    /// Counts a field with a short number if `is`, and shows it if it is the one to show.
     #[inline(always)]
     fn count_short_if(&mut self, is: bool, short: ShortNumber)
         ensures { self.new ≡ (if is then counted_short short self.old else self.old) }
@@ -158,7 +158,7 @@ impl Cell {
         self.here.keep_short(short);
     }
 
-    /// Counts a field with a number in a span if `is`, and shows it if it is the one.
+    /// Counts a field with a number in a span if `is`, and shows it if it is the one to show.
     #[inline(always)]
     fn count_number_if(&mut self, is: bool, number: NumberField)
         ensures { self.new ≡ (if is then counted (as_field number) self.old else self.old) }
@@ -203,7 +203,7 @@ impl Cell {
         }
     }
 
-    /// Counts a field of the column, and shows it if it is the one.
+    /// Counts a field of the column, and shows it if it is the one to show.
     fn count(&mut self, field: &Field) -> Result<(), OutOfMemory>
         ensures { OnOk result (self.new ≡ counted field.now self.old) }
     {

@@ -136,7 +136,7 @@ fn note_in_all(cells: &mut [Cell], in_span: bool, field: &Field) -> Result<(), O
     Ok(())
 }
 
-/// Returns the index of the first cell at `from` or after it that is not settled, or the number of cells.
+/// Returns the index of the first unsettled cell from `from` on, or the number of cells.
 #[inline(always)]
 pub(crate) fn first_unsettled(cells: &[Cell], from: usize) -> usize
     requires { AreSettled from cells.now }

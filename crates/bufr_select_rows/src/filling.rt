@@ -24,7 +24,7 @@ pub(crate) fn fill_cells<P: Picks>(
         ≡ row_of cells.new) }
     ensures columns { OnOk result (map (λ c. c.column) cells.new ≡ map (λ c. c.column) cells.old) }
 {
-    // To settle all cells takes a field of each descriptor.
+    // To settle all cells takes at least a field of each descriptor.
     let most = asked.listed().len();
     let mut due = fill_numbers(asked, fields, &mut *cells, most)?;
     let mut settled = 0;
@@ -58,8 +58,8 @@ pub(crate) fn fill_cells<P: Picks>(
     }
 }
 
-/// Notes the next fields of a subset, at most `most`, as long as they are numbers. Returns how many are
-/// left of `most`.
+/// Notes the next fields of a subset, at most `most`, as long as they are numbers. Returns how many
+/// of `most` are left.
 fn fill_numbers<P: Picks>(
     asked: &Asked,
     fields: &mut P,

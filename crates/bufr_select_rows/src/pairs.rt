@@ -103,7 +103,7 @@ pub fn view_under<'a>(
     ensures same { pairs.new ≡ pairs.old }
     ensures exact { Gives (λ d. d) result (message_under pairs.old octets.now) }
 {
-    // The reader finds the refusal of sections too.
+    // No version is needed: the reader refuses wrong sections too.
     if !pairs.is_empty() && pairs[0].greatest.is_none() {
         return pairs[0].view(alloc, octets);
     }

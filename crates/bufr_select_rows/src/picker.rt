@@ -31,7 +31,7 @@ use std::alloc::Global;
 /// A picker of fields for the cells of rows.
 #[derive(Drop)]
 pub struct Picker {
-    /// The descriptor whose fields open spans.
+    /// The descriptor of the fields that open spans.
     pub each: Option<Fxy>,
     /// The descriptors asked for.
     pub asked: Asked,

@@ -28,8 +28,8 @@ pub(crate) trait Picks {
             (left self.new)) }
         ensures others { IfNone result (left self.new ≡ left self.old) };
 
-    /// Hands out the next field that is asked for if it is a number. Else returns `None`, for `pick` to take
-    /// it.
+    /// Hands out the next field that is asked for, if it is a number. Else returns `None`, and
+    /// `pick` takes the field.
     fn pick_number(&mut self, asked: &Asked) -> Option<NumberField>
         ensures found { IfSome result (λ number. HandsOutAsked (flagged asked.now) (left self.old)
             (Some (as_field number)) (left self.new)) }
@@ -79,7 +79,7 @@ impl<'v> Picks for ChosenFields<'v> {
 
     #[inline(always)]
     fn pick_number(&mut self, asked: &Asked) -> Option<NumberField> {
-        // `pick` skips others than this one.
+        // A chosen field that is not asked for may be lost, since `pick` skips it too.
         let number = self.next_number()?;
         if asked.asks(number.fxy) {
             Some(number)

@@ -15,7 +15,7 @@ const ROOM: usize = 1024;
 /// A row, made in a room that is used again.
 #[derive(Debug, Drop)]
 pub struct RowLine {
-    /// The room, at whose end a short row is written.
+    /// The room; a short row is written at its end.
     room: [u8; ROOM],
     /// Another row.
     long: Vec<u8>,

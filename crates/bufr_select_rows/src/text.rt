@@ -25,7 +25,7 @@ const ROW_END: usize = 31;
 /// The most digits after a point that `push_digits` writes.
 const MOST_PLACES: i32 = 20;
 
-/// What a text is.
+/// A form of a text.
 #[derive(Clone, Copy)]
 pub(crate) enum Standing {
     /// Nothing.
@@ -158,8 +158,8 @@ impl Text {
         }
     }
 
-    /// Writes the text as a field of a row that goes on at `end`, and returns where it begins. `None` if the
-    /// room is short, or the text is not a small number or octets without need of quotes.
+    /// Writes the text as a field of a row that goes on at `end`, and returns where it begins.
+    /// `None` if the room is short, the number is large, or the octets need quotes.
     #[inline(always)]
     pub(crate) fn write_to(&self, room: &mut [u8], end: usize) -> Option<usize>
         requires { end ≤ length room.old }
@@ -216,7 +216,7 @@ fn standing_of_sum(sum: Sum) -> Standing
     }
 }
 
-/// Makes a field of one with a number.
+/// Makes a field from a field with a number.
 #[inline(always)]
 pub(crate) fn field_of(number: NumberField) -> Field
     ensures { result ≡ as_field number }

@@ -33,7 +33,7 @@ pub fn words_of_columns()
     ensures empty { words_of [] ≡ [] ∷ [] }
 {}
 
-/// What columns there are, at each limit.
+/// The columns at each limit.
 pub fn limits_of_columns()
     ensures least { IsColumn (Nth temperature 1) }
     ensures none { IsColumn (Nth temperature 0) → ⊥ }
@@ -167,7 +167,7 @@ pub fn cells_of_words()
     ensures only_padding { cell_of_word (34 ∷ codes " " ++ 92 ∷ codes "00" ++ 34 ∷ []) ≡ [] }
 {}
 
-/// What marks are of descriptors in the set.
+/// The marks of descriptors in the set.
 pub fn marked_descriptors()
     ensures { map (flagged (0 ∷ 1 ∷ 2 ∷ [])) (0 ∷ 1 ∷ 2 ∷ 3 ∷ []) ≡ false ∷ true ∷ true ∷ false ∷ [] }
 {}

@@ -11,7 +11,7 @@ use bufr_entries::Key;
 use std::alloc::Global;
 use thiserror::Error;
 
-/// Why a shelf joined nothing.
+/// A fault of a shelf that joined nothing.
 #[derive(Clone, Copy, Debug, Drop, Error)]
 pub enum JoinFault {
     /// Memory ran out.

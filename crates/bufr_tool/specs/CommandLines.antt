@@ -89,7 +89,7 @@ values_in id named = option_map_or (λ found. unwrap_or (all_of id found.1) []) 
 abbrev pub flag_in : List ℕ → Named → Bool
 flag_in id named = bytes_eq (value_in id named) (codes "true")
 
--- the command of a name
+-- the command of a name; `clap` takes no name but these four and `show`
 abbrev pub command_named : List ℕ → Command
 command_named name = if bytes_eq name (codes "check") then Check
     else if bytes_eq name (codes "encode") then Encode

@@ -81,6 +81,8 @@ fn line_of<'a>(alloc: Global, matches: &ArgMatches<'a>) -> Result<Line<'a>, OutO
     })
 }
 
+/// Returns the command of a line. `clap` has refused any other word, so the last arm is `show`. A
+/// new command needs an arm here, and a law.
 fn asked_command<'a>(matches: &ArgMatches<'a>) -> lines::Command
     ensures { result ≡ command_in (subcommand_rows_of matches.now) }
 {

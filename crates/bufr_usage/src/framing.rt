@@ -5,7 +5,7 @@ ghost use Rattle.bufr_frame.specs.Streams.{cut, sure};
 use bufr_frame::{Found, Framer, OutOfMemory};
 use std::alloc::Global;
 
-/// The frames of a stream.
+/// A list of the frames of a stream.
 #[derive(Drop)]
 pub struct Frames {
     /// The frames that were sure before the end.

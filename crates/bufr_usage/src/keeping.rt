@@ -8,7 +8,7 @@ use bufr_bits::IntoWrite;
 use bufr_message::{Failure, OutOfMemory, Refused, Tables};
 use std::alloc::Global;
 
-/// Why a message did not go into a file's archive.
+/// A fault of a message that did not go into a file's archive.
 #[derive(Debug, Drop)]
 pub enum KeepFault {
     /// The file is no archive.

@@ -5,7 +5,7 @@ ghost use Rattle.bufr_usage.specs.Callers.{IsRewritten, IsNotRewritten};
 use bufr_message::{EncodeFault, Failure, Refused, Tables, decode, encode};
 use std::alloc::Global;
 
-/// Why octets were not rewritten.
+/// A fault of octets that were not rewritten.
 #[derive(Debug, Drop)]
 pub enum RewriteFault {
     /// The octets spell no message.

@@ -9,7 +9,7 @@ use std::process::ExitCode;
 use std::{env, fs, io};
 use thiserror::Error;
 
-/// Why the fields of a file are not printed.
+/// A reason not to print the fields of a file.
 #[derive(Debug, Drop, Error)]
 enum Problem {
     /// There are not three words.

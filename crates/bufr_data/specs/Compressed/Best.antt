@@ -150,7 +150,7 @@ packed n columns =
 abbrev pub CanBeWritten : ℕ → Column → Type 0
 CanBeWritten n c = (length c.values ≡ n) × (can_be_column c.spec c.values ≡ true)
 
--- subsets whose columns can all be written
+-- subsets with columns that can all be written
 abbrev pub CanBePacked : List Subset → List Column → Type 0
 CanBePacked subsets columns = (subsets ≡ subsets_from 0 (length subsets) columns)
     × AllByRecursion (CanBeWritten (length subsets)) columns

@@ -92,7 +92,7 @@ abbrev pub raised_of : ℕ → ℕ → ℕ → Option (ℕ × List Bool) → Opt
 raised_of width minimum k None = None
 raised_of width minimum k (Some x) = raised width minimum k x.0
 
--- the value at an index after R0 and NBINC: R0, or that of the increment or text there
+-- the value at an index after R0 and NBINC: R0, or the value of the increment or text there
 abbrev pub one_behind : Spec → Raw → ℕ → ℕ → List Bool → Option Raw
 one_behind spec minimum zero index rest = Some minimum
 one_behind spec (Number minimum) (suc k) index rest =

@@ -12,7 +12,7 @@ abbrev pub BeginsWithNone : Spec → List Bool → Type 0
 BeginsWithNone spec front = (raw : Raw) (rest : List Bool) → HasForm spec raw
     → front ≡ raw_bits spec.width raw ++ rest → ⊥
 
--- a spec whose field is in any bits that are long enough: a text of whole octets, or a number of at
+-- a spec with a field in any bits that are long enough: a text of whole octets, or a number of at
 -- most 64 bits
 pub record IsWithinLimits (spec : Spec) : Type 0 where
   pub whole_octets : spec.kind ≡ kinds.Text → spec.width % 8 ≡ 0

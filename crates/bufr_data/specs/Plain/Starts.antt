@@ -35,7 +35,7 @@ PassesOn i course front (Some next) after items rest = (fields : List Field)
 PassesOn i course front None after items rest =
     fields_at 1 i course front ≡ Ok (record { fields = []; items = items; rest = rest })
 
--- a subset was passed, with these items of the message after it, and `rest` follows
+-- a subset was passed, with these items of the message up to its end, and `rest` follows
 abbrev pub PassesSubset : Result SubsetRead DataFault → ℕ → List Bool → Type 0
 PassesSubset found items rest =
     (fields : List Field) × (found ≡ Ok (record { fields = fields; items = items; rest = rest }))

@@ -1,4 +1,4 @@
-//! Writes the best column of a field's values; of numbers no column is shorter.
+//! Writes the best column of a field's values. For numbers no column is shorter.
 
 ghost use Rattle.std.specs.Prelude.{◌≡◌, ◌+◌, ◌^◌, ◌<◌, ◌≤◌, ◌/◌, ◌∷◌, ◌++◌, ◌==◌, map, drop, true};
 ghost use Rattle.std.specs.Prelude.{false, OnOk, IfOk, nat_lt};
@@ -53,7 +53,7 @@ pub(crate) fn put_best(
     }
 }
 
-/// The minimum of a column of texts, at its longest.
+/// The longest minimum of a column of texts.
 const ZEROS: [u8; 63] = [0; 63];
 
 /// Appends a column of texts that differ: a minimum of zeros, and then each text whole.

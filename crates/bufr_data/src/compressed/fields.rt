@@ -42,7 +42,7 @@ impl<'v> Model for ColumnFields<'v> {
 }
 
 impl<'v> ColumnFields<'v> {
-    /// Hands out the next field, or `None` at the end. After `OutOfMemory` it is still left.
+    /// Hands out the next field, or `None` at the end.
     pub(crate) fn next(&mut self, alloc: Global) -> Result<Option<Field>, OutOfMemory>
         ensures found { IfOk result (λ found. HandsOut self.old found self.new) }
         ensures formed { IfOk result (λ found. IfSome found (λ f. has_own_form f ≡ true)) }
@@ -74,8 +74,8 @@ impl<'v> ColumnFields<'v> {
         self.next(alloc)
     }
 
-    /// Hands out the next chosen field if it is a number. `None` at a text, for `next_asked` to
-    /// take, and at the end.
+    /// Hands out the next chosen field if it is a number. `None` at the end, and at a text, which
+    /// `next_asked` takes.
     #[inline(always)]
     pub(crate) fn next_asked_number<A: Asks>(&mut self, asked: &A) -> Option<NumberField>
         ensures found { IfSome result (λ number.

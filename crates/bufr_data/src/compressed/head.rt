@@ -41,7 +41,8 @@ pub(crate) fn head_at(octets: &[u8], bit: u128, spec: Spec) -> Option<ColumnHead
     })
 }
 
-/// Reads the number at `index` of the column that begins at `bit`. It begins at the increment.
+/// Reads the number at `index` of the column that begins at `bit`, without a second look at its
+/// head.
 #[inline(always)]
 pub(crate) fn number_under(
     octets: &[u8],

@@ -53,7 +53,7 @@ pub struct Columns<'a> {
     chosen: ChosenPlaces,
 }
 
-/// The places of the columns of some descriptors.
+/// A list of descriptors, and the places of their columns.
 #[derive(Drop)]
 pub(crate) struct ChosenPlaces {
     pub(crate) asked: Items<u16>,
@@ -97,7 +97,7 @@ impl<'a> Columns<'a> {
         Columns::index_for(alloc, template, &[], reader, subsets)
     }
 
-    /// Finds the columns like `index`, and which of them have a descriptor that is asked for.
+    /// Finds the columns like `index`, and those of the descriptors asked for.
     pub(crate) fn index_for(
         alloc: Global,
         template: &Template,
@@ -143,7 +143,7 @@ impl<'a> Columns<'a> {
         self.subset_at(alloc, number - 1)
     }
 
-    /// Builds the subset at an index, from 0. `OutOfMemory` where a growth was refused.
+    /// Builds the subset at an index, from 0.
     pub(crate) fn subset_at(&self, alloc: Global, index: u16) -> Result<Subset, OutOfMemory>
         requires { index < self.now.subsets }
         ensures { IfOk result (λ s. s ≡ subset_of self.now.columns index) }
@@ -176,8 +176,8 @@ impl<'a> Columns<'a> {
         self.column_fields(index).put(alloc, sink)
     }
 
-    /// Returns the chosen fields of the subset at an index, from 0, if just these descriptors were
-    /// asked for when the columns were found. Takes no memory.
+    /// Returns the fields of these descriptors in the subset at an index, from 0, if the columns
+    /// were found for this list.
     pub(crate) fn chosen(&self, asked: &[u16], index: u16) -> Option<ColumnFields<'_>>
         requires { index < self.now.subsets }
         ensures { IfSome result (λ fields.
@@ -363,7 +363,7 @@ fn stop_fault(fault: WalkFault, n: u16, i: u64) -> DataFault
     }
 }
 
-/// Returns the number at an index of the column at a place, without its head, if it is a number.
+/// Returns the value at an index of the column at a place, if it is a number.
 #[inline(always)]
 pub(crate) fn number_there(octets: &[u8], subsets: u16, place: Place, index: u16) -> Option<u64>
     requires stands { Opens octets.now subsets place }

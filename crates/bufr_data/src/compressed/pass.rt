@@ -17,7 +17,7 @@ use bufr_expand::Spec;
 use bufr_fields::{DataFault, MOST_RAW_BITS, never_passes, raised};
 use bufr_tables::Kind;
 
-/// Passes the column of field `i` in `n` subsets, which is no factor.
+/// Passes the column of field `i`, no factor, in `n` subsets.
 pub(crate) fn pass_column(
     reader: &mut BitReader,
     spec: Spec,

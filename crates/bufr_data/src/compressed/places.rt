@@ -12,8 +12,8 @@ use bufr_expand::Spec;
 use bufr_fields::{Field, MOST_INCREMENT_BITS, MisfitFault, Raw, Subset, is_same};
 use bufr_tables::Kind;
 
-/// Checks that the other subsets have the fields of the first, no more, and values that can share a
-/// column; else returns E2 with the first field that fails, from 1.
+/// Checks that the other subsets have exactly the fields of the first, with values that can share a
+/// column. Else returns E2 with the first field that fails, from 1.
 pub(crate) fn check_places(fields: &[Field], others: &[Subset]) -> Result<(), MisfitFault>
     ensures ok { OnOk result (columns_of 1 fields.now (rows_from 0 others.now)
         ≡ Ok (columns_here fields.now (rows_from 0 others.now))) }
@@ -40,7 +40,8 @@ fn is_one_place(field: &Field, others: &[Subset], place: usize) -> bool
         && (are_equal(&field.raw, others, place) || can_differ(field.spec))
 }
 
-/// Returns whether values may differ: in no factor, and in at most 63 bits, or 63 octets of a text.
+/// Returns whether the values of a field may differ: it is no factor, and has at most 63 bits, or
+/// 63 octets if it is a text.
 fn can_differ(spec: Spec) -> bool
     ensures { result ≡ best.can_differ spec }
 {

@@ -1,4 +1,5 @@
-//! Finds the common size of plain subsets: without counts, all have equal bits and items.
+//! Finds the common size of plain subsets: if the template has no count, all have equal bits and
+//! items.
 
 ghost use Rattle.std.specs.Prelude.{IfOk, IfSome};
 ghost use Rattle.bufr_data.specs.Plain.Alike.{IsAlike, IsKnown};
@@ -19,8 +20,8 @@ pub(crate) struct Alike {
 // The size moves as two words, without padding.
 const _: () = prove!(size_of::<Alike>() == 16);
 
-/// A common size, if known. `Unasked` may also mean that too few bits were there; `Varied` that
-/// there is none.
+/// A common size, if known. `Unasked`: not looked for, or the bits were too few. `Varied`: there is
+/// none.
 #[derive(Clone, Copy, PartialEq)]
 pub(crate) enum FixedSize {
     Unasked,

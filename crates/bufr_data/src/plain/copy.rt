@@ -50,7 +50,7 @@ fn copy_fields(octets: &[u8], from: u128, end: u128, sink: &mut BitSink) -> Resu
     Ok(())
 }
 
-/// Appends a number; seven whole octets are faster as octets.
+/// Appends a number. Seven whole octets go in as octets, which is faster.
 fn put_field(width: u32, number: u64, sink: &mut BitSink) -> Result<(), OutOfMemory>
     requires width { width ≤ 56 }
     requires fits { number < 2 ^ width }

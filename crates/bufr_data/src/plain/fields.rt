@@ -17,8 +17,7 @@ use bufr_fields::{Field, NumberField, Raw};
 use std::alloc::Global;
 use std::marker::Model;
 
-/// What comes next in a plain subset: a step of the walk, a text that the walk has passed, or
-/// nothing.
+/// A next part of a plain subset: a step of the walk, a text that the walk has passed, or nothing.
 #[derive(Clone, Copy)]
 pub(crate) enum Due {
     Step,
@@ -47,7 +46,7 @@ impl<'v> Model for PlainFields<'v> {
 }
 
 impl<'v> PlainFields<'v> {
-    /// Hands out the next field, or `None` at the end. After `OutOfMemory` it is still left.
+    /// Hands out the next field, or `None` at the end.
     pub(crate) fn next(&mut self, alloc: Global) -> Result<Option<Field>, OutOfMemory>
         ensures found { IfOk result (λ found. HandsOut self.old found self.new) }
         ensures err { OnErr result (self.new ≡ self.old) }
@@ -72,8 +71,8 @@ impl<'v> PlainFields<'v> {
         }
     }
 
-    /// Hands out the next chosen field if no text comes before it. Else returns `None`, for
-    /// `next_asked` to take it.
+    /// Hands out the next chosen field. Returns `None` if it comes to a text or the end first;
+    /// `next_asked` goes on from there.
     // Inlined, its code would slow loops over other fields.
     #[inline(never)]
     pub(crate) fn next_asked_number<A: Asks>(&mut self, asked: &A) -> Option<NumberField>
@@ -107,8 +106,7 @@ impl<'v> PlainFields<'v> {
         }
     }
 
-    /// Hands out the next chosen field; stops early if the walk shows that none is left. After
-    /// `OutOfMemory` it is still left.
+    /// Hands out the next chosen field; stops early if the walk shows that none is left.
     pub(crate) fn next_asked<A: Asks>(
         &mut self,
         alloc: Global,
@@ -133,8 +131,8 @@ impl<'v> PlainFields<'v> {
     }
 }
 
-/// Steps to the next chosen field if no text comes before it, and reads it. Passes elements that are
-/// not chosen unread. At a text and at the end it returns what comes next then.
+/// Reads the next chosen field if it is a number. Passes elements that are not chosen unread. If it
+/// stops at a text or at the end, it returns that as `Due`.
 #[inline(always)]
 fn next_chosen<A: Asks>(
     asked: &A,
@@ -173,7 +171,7 @@ fn next_chosen<A: Asks>(
     }
 }
 
-/// Makes a field of one with a number.
+/// Makes a field from a field with a number.
 #[inline(always)]
 fn field_of(number: NumberField) -> Field
     ensures { result ≡ as_field number }
@@ -183,8 +181,7 @@ fn field_of(number: NumberField) -> Field
     Field { fxy, spec, raw }
 }
 
-/// Steps to the next field and reads it if it is a number. At a text and at the end it returns what
-/// comes next then.
+/// Reads the next field if it is a number. Else returns the text or the end as `Due`.
 #[inline(always)]
 fn step(due: Due, walk: &mut Walk, reader: &mut BitReader) -> Result<NumberField, Due>
     requires { StandAhead due walk.old reader.old }

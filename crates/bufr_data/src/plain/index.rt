@@ -37,7 +37,8 @@ use std::rc::Rc;
 /// The most octets whose bits fit in 64 bits; no machine has more.
 const MOST_COUNTED_OCTETS: usize = usize::MAX / 8;
 
-/// A subset's first bit, the bit after it, and the items of the message before it.
+/// A start of a subset: its first bit, the bit after its last, and the items of the message before
+/// it.
 #[derive(Clone, Copy, PartialEq)]
 pub(crate) struct SubsetStart {
     pub(crate) bit: u128,
@@ -110,8 +111,8 @@ impl<'a> PlainSubsets<'a> {
 }
 
 impl<'a> PlainSubsets<'a> {
-    /// Returns the chosen fields of the subset at an index, from 0, if the layout has the places of
-    /// just these descriptors. Takes no memory.
+    /// Returns the fields of these descriptors in the subset at an index, from 0, if the layout was
+    /// made for this list.
     #[inline(always)]
     pub(crate) fn chosen(&self, asked: &[u16], index: usize) -> Option<PlacedFields<'_>>
         requires { index < length self.now }
@@ -241,8 +242,8 @@ fn starts_in_turn(
     })
 }
 
-/// Passes one subset and returns the items of the message after it. It walks a subset of known size
-/// only to find its fault.
+/// Passes one subset and returns the items of the message up to its end. It walks a subset of known
+/// size only to find its fault.
 fn pass_one(
     alloc: Global,
     template: &Template,

@@ -34,9 +34,9 @@ impl<'v> Model for LaidFields<'v> {
     ghost invariant = { λ s. StandLaid s.fields.now s.reader };
 }
 
+// Inline, since calls would move each field through memory.
 impl<'v> LaidFields<'v> {
-    /// Hands out the next field, or `None` at the end. After `OutOfMemory` it is still left.
-    // A call would move each field through memory.
+    /// Hands out the next field, or `None` at the end.
     #[inline(always)]
     pub(crate) fn next(&mut self, alloc: Global) -> Result<Option<Field>, OutOfMemory>
         ensures found { IfOk result (λ found. HandsOut self.old found self.new) }
@@ -60,8 +60,6 @@ impl<'v> LaidFields<'v> {
     }
 
     /// Hands out the next chosen field, or `None` if none is left, and skips the others unread.
-    /// After `OutOfMemory` it is still left.
-    // A call would move each field through memory.
     #[inline(always)]
     pub fn next_asked<A: Asks>(
         &mut self,
@@ -76,9 +74,8 @@ impl<'v> LaidFields<'v> {
         self.next(alloc)
     }
 
-    /// Hands out the next chosen field if it is a number. `None` at a text, for `next_asked` to
-    /// take, and at the end.
-    // A call would move each field through memory.
+    /// Hands out the next chosen field if it is a number. `None` at the end, and at a text, which
+    /// `next_asked` takes.
     #[inline(always)]
     pub fn next_asked_number<A: Asks>(&mut self, asked: &A) -> Option<NumberField>
         ensures found { IfSome result (λ number.

@@ -1,4 +1,4 @@
-//! Lays out the fields of plain subsets: up to the first count, all have the same.
+//! Lays out the fields that plain subsets share: those before the first count.
 
 ghost use Rattle.std.specs.Prelude.{◌≡◌, ◌+◌, ◌≤◌, IfOk, IfSome};
 ghost use Rattle.std.specs.Bool.{OnTrue};
@@ -24,8 +24,8 @@ pub(crate) struct LaidField {
     pub(crate) spec: Spec,
 }
 
-/// A layout: the first fields of every subset in order, the number of their items, and the places of
-/// the fields of some descriptors. No such field comes after these.
+/// A layout: the first fields of every subset in order, the number of their items, and the places
+/// of the fields asked for. No field asked for comes later.
 #[derive(Drop)]
 pub(crate) struct Layout {
     pub(crate) fields: Items<LaidField>,
@@ -37,9 +37,9 @@ pub(crate) struct Layout {
 }
 
 impl Layout {
-    /// Walks the template, and places the fields of the descriptors asked for. A template with a
-    /// count is laid out up to the last of these fields. `None` if a count comes before it, or a field
-    /// without a spec, or too many fields or bits.
+    /// Walks the template, and places the fields of the descriptors asked for. It lays out all
+    /// fields if it can, else those up to the last one asked for. `None` if a count, a field
+    /// without a spec, or too many fields or bits come before that.
     pub(crate) fn of(
         alloc: Global,
         template: &Template,

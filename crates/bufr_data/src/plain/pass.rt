@@ -25,7 +25,7 @@ use bufr_fields::{DataFault, MOST_RAW_BITS};
 use bufr_tables::Kind;
 use std::alloc::Global;
 
-/// Passes a subset and returns the items of the message after it.
+/// Passes a subset and returns the items of the message up to its end.
 pub(crate) fn pass_subset(
     alloc: Global,
     template: &Template,

@@ -53,8 +53,8 @@ impl<'v> PlacedFields<'v> {
         Some(ShortNumber::of_raw(place.field.fxy, number, greatest))
     }
 
-    /// Hands out the next field if it is a number. `None` at a text, for `next` to take, and at the
-    /// end.
+    /// Hands out the next field if it is a number. `None` at the end, and at a text, which `next`
+    /// takes.
     #[inline(always)]
     pub(crate) fn next_number(&mut self) -> Option<NumberField>
         ensures found { IfSome result (λ number.
@@ -74,7 +74,7 @@ impl<'v> PlacedFields<'v> {
         })
     }
 
-    /// Hands out the next field, or `None` at the end. After `OutOfMemory` it is still left.
+    /// Hands out the next field, or `None` at the end.
     pub(crate) fn next(&mut self, alloc: Global) -> Result<Option<Field>, OutOfMemory>
         ensures found { IfOk result (λ found. HandsOut self.old found self.new) }
         ensures err { OnErr result (self.new ≡ self.old) }

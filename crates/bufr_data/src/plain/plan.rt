@@ -9,11 +9,12 @@ use bufr_expand::Template;
 use std::alloc::Global;
 use std::rc::Rc;
 
-/// The fewest subsets in a first message that get a layout, which costs about two walks.
+/// The fewest subsets of a template's first message that pay for a layout. A layout costs about two
+/// walks.
 const MANY_SUBSETS: u16 = 8;
 
-/// A template's layout, if it pays. Many templates serve one message, so a first one of few subsets
-/// gets none.
+/// A template's layout, if it pays. Many templates serve one message only, so a first message of
+/// few subsets gets none.
 #[derive(Drop)]
 pub(crate) enum FieldLayout {
     Unserved,

@@ -20,9 +20,9 @@ use bufr_fields::{DataFault, Field, MOST_RAW_BITS, Raw, Subset};
 use bufr_tables::Kind;
 use std::alloc::Global;
 
-/// Reads a subset, moves the reader past it, and returns it with the items of the message after it;
-/// `used` come before. The fault is the first: V1 `EffectiveRange`, V2 `DataEnds` with subset 1 and
-/// the field, or V6 `TooLarge`.
+/// Reads a subset, moves the reader past it, and returns it with the items of the message up to its
+/// end; `used` of them come before it. The fault is the first: V1 `EffectiveRange`, V2 `DataEnds`
+/// with subset 1 and the field, or V6 `TooLarge`.
 pub fn read_plain(
     alloc: Global,
     template: &Template,

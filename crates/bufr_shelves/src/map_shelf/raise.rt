@@ -35,7 +35,7 @@ pub(crate) fn raise<K: Exact, V: Exact>(
     Ok(true)
 }
 
-/// Raises the map by all pairs of another; on want of memory by some.
+/// Raises the map by all pairs of another; if memory runs out, by some.
 pub(crate) fn raise_all<K: Exact, V: Exact>(
     map: &mut BTreeMap<K, V>,
     more: &BTreeMap<K, V>,

@@ -72,7 +72,7 @@ fn failing_writers_of_archives(rt: HostRuntime) {
     drop(tables);
 }
 
-/// So many octets of the message of 62.
+/// Returns the first `length` octets of the message of 62.
 fn front_of(length: usize) -> &'static [u8] {
     SEQUENCES.get(..length).unwrap_or(SEQUENCES)
 }

@@ -77,15 +77,15 @@ fn printed(
     (answer, writer.taken)
 }
 
-/// What was written is the front of a text: whole lines, or nothing where octets are written.
+/// What was written is the front of a text: whole lines, or nothing if the engine writes octets.
 fn assert_front(rt: &impl Abort, engine: Engine, written: &[u8], text: &[u8]) {
     same(rt, Some(written), text.get(..written.len()));
     let by_lines = matches!(engine, Engine::Show | Engine::Check) && written.ends_with(b"\n");
     same(rt, written.is_empty() || by_lines, true);
 }
 
-/// An engine writes this of so many frames. If memory runs out, it has written a front, and writes all
-/// when it is run again.
+/// An engine writes this of `frames` frames. If memory runs out, it has written a front, and writes
+/// all when it is run again.
 fn assert_printed(
     rt: &impl Abort,
     alloc: Global,
