@@ -1,6 +1,6 @@
 //! Hands out the fields of a subset that have a descriptor in a list.
 
-ghost use Rattle.std.specs.Prelude.{◌≡◌, Some, IfOk, IfSome, IfNone, OnErr};
+ghost use Rattle.std.specs.Prelude.{◌≡◌, ◌==◌, length, Some, IfOk, IfSome, IfNone, OnErr};
 ghost use Rattle.bufr_data.specs.Chosen as chosen;
 ghost use Rattle.bufr_data.specs.Handed.{HandsOut};
 ghost use Rattle.bufr_data.specs.Short.{HandsOutShort};
@@ -41,6 +41,17 @@ impl<'v> Model for ChosenFields<'v> {
 }
 
 impl<'v> ChosenFields<'v> {
+    /// Returns true if no field is left.
+    #[inline(always)]
+    pub fn is_empty(&self) -> bool
+        ensures { result ≡ (length self.now == 0) }
+    {
+        match &self.source {
+            ChosenSource::Placed(fields) => fields.is_empty(),
+            ChosenSource::Compressed(fields) => fields.is_empty(),
+        }
+    }
+
     /// Hands out the next field if it has a short number. It may return `None` at any other field,
     /// which `next_number` or `next` takes.
     #[inline(always)]

@@ -1,6 +1,6 @@
 ghost use Rattle.std.specs.Prelude.{◌≡◌, ◌∷◌, [], Some, None, pos, negsuc, true, false, map, codes};
 ghost use Rattle.std.specs.declared.cmp.Ordering.TheVariants.{Less, Equal, Greater};
-ghost use Rattle.bufr_entries.specs.declared.key.Station.TheVariants.{Wmo};
+ghost use Rattle.bufr_entries.specs.declared.key.Station.TheVariants.{Mobile, Wmo};
 ghost use Rattle.bufr_entries.specs.KeyOrders.{octets_cmp, station_cmp, moment_cmp, key_cmp};
 ghost use Rattle.bufr_entries.specs.Entries.{coarse_key_cmp, slot_by, rank_cmp, slot_cmp, kept, changes, entry_at, entry_after};
 ghost use Rattle.bufr_entries.specs.Keeping.{first_of};
@@ -26,6 +26,8 @@ pub fn stations_and_moments()
     ensures kinds { orders station_cmp stations_by_kind ≡ Less ∷ Less ∷ Less ∷ [] }
     ensures kinds_turned { orders station_cmp (turned stations_by_kind)
         ≡ Greater ∷ Greater ∷ Greater ∷ [] }
+    ensures ninth_octet { station_cmp (Mobile (codes "ABCDEFGHI")) (Mobile (codes "ABCDEFGHJ"))
+        ≡ Less }
     ensures below_0 { station_cmp (Wmo (negsuc 0) (pos 9)) (wmo 0 0) ≡ Less }
     ensures moments { orders moment_cmp moments_by_part
         ≡ Less ∷ Less ∷ Less ∷ Less ∷ Less ∷ Less ∷ [] }
@@ -50,6 +52,7 @@ pub fn slots_and_ranks()
     ensures no_octets { slot_cmp (entry (Some 3) 1 (codes "A")) (entry (Some 3) 1 (codes "B"))
         ≡ Equal }
     ensures update { rank_cmp (entry None 9 (codes "Z")) (entry None 10 (codes "A")) ≡ Less }
+    ensures high_update { rank_cmp (entry None 127 (codes "Z")) (entry None 128 (codes "A")) ≡ Less }
     ensures rank_octets { rank_cmp (entry None 9 (codes "A")) (entry None 9 (codes "AB")) ≡ Less }
     ensures no_key { rank_cmp (entry (Some 9) 9 (codes "A")) (entry (Some 3) 9 (codes "A"))
         ≡ Equal }

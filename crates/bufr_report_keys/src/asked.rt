@@ -1,5 +1,5 @@
 //! The elements of keys, and the first values of their fields.
-ghost use Rattle.std.specs.Prelude.{◌≡◌, IfErr, IfOk, OnOk};
+ghost use Rattle.std.specs.Prelude.{◌≡◌, IfErr, IfOk, OnErr, OnOk};
 ghost use Rattle.bufr_report_keys.specs.Asked.{is_asked};
 ghost use Rattle.bufr_report_keys.specs.FirstValues.{all_noted, other_noted};
 
@@ -87,7 +87,7 @@ pub(crate) fn note_short(fields: &mut ChosenFields<'_>, values: &mut ShortValues
 /// field that it took and did not note: another one, or one that is missing. None if it took no
 /// field.
 #[inline(always)]
-fn note_next(
+pub(crate) fn note_next(
     fields: &mut ChosenFields<'_>,
     element: u16,
     values: &mut ShortValues,
@@ -95,6 +95,7 @@ fn note_next(
     ensures ok { OnOk result (all_noted fields.new values.new ≡ all_noted fields.old values.old) }
     ensures err { IfErr result (λ other. all_noted fields.new (other_noted other values.new)
         ≡ all_noted fields.old values.old) }
+    ensures kept { OnErr result (values.new ≡ values.old) }
 {
     let Some(field) = fields.next_short() else {
         return Err(None);
@@ -109,29 +110,25 @@ fn note_next(
     Ok(())
 }
 
-/// Notes the fields of a WMO station's report in their usual order: station, date, hour and minute.
-/// The error is like that of `note_next`.
+/// Notes the fields of a WMO station's report after its block number in their usual order: station,
+/// date, hour and minute. No field is left after them. The error is like that of `note_next`.
 // The order says at each place which value is noted, so none needs a place in memory.
 #[inline(always)]
 pub(crate) fn note_usual(
     fields: &mut ChosenFields<'_>,
     values: &mut ShortValues,
 ) -> Result<(), Option<ShortNumber>>
-    ensures ok { OnOk result (all_noted fields.new values.new ≡ all_noted fields.old values.old) }
+    ensures ok { OnOk result (values.new ≡ all_noted fields.old values.old) }
     ensures err { IfErr result (λ other. all_noted fields.new (other_noted other values.new)
         ≡ all_noted fields.old values.old) }
 {
-    note_next(fields, BLOCK_NUMBER, values)?;
     note_next(fields, STATION_NUMBER, values)?;
     note_next(fields, YEAR, values)?;
     note_next(fields, MONTH, values)?;
     note_next(fields, DAY, values)?;
     note_next(fields, HOUR, values)?;
     note_next(fields, MINUTE, values)?;
-    match fields.next_short() {
-        Some(other) => Err(Some(other)),
-        None => Ok(()),
-    }
+    if fields.is_empty() { Ok(()) } else { Err(None) }
 }
 
 /// Notes a field with a short number, if there is one.

@@ -1,14 +1,16 @@
 //! The key of a report, by its head and fields.
-ghost use Rattle.std.specs.Prelude.{◌≡◌, ◌<◌, IfOk, List, Some, length, slice_get};
+ghost use Rattle.std.specs.Prelude.{◌≡◌, ◌<◌, [], IfOk, List, Some, length, slice_get};
 ghost use Rattle.bufr_fields.specs.declared.field.Field.{Field as AField};
 ghost use Rattle.bufr_fields.specs.declared.field.Subset.{Subset};
 ghost use Rattle.bufr_data.specs.Chosen.{chosen};
 ghost use Rattle.bufr_report_keys.specs.Asked.{elements};
 ghost use Rattle.bufr_report_keys.specs.Keys.{key};
-ghost use Rattle.bufr_report_keys.specs.FirstValues.{all_noted, key_of, noted, other_noted, wmo_key};
+ghost use Rattle.bufr_report_keys.specs.FirstValues.{all_noted, first_values, key_of, other_noted, wmo_key};
 
-use crate::asked::{note_chosen, note_handed, note_listed, note_other, note_short, note_usual};
-use crate::elements::key_elements;
+use crate::asked::{
+    note_chosen, note_handed, note_listed, note_next, note_other, note_short, note_usual,
+};
+use crate::elements::{BLOCK_NUMBER, key_elements};
 use crate::first_values::FirstValues;
 use crate::moments::moment_of;
 use crate::short_values::ShortValues;
@@ -109,13 +111,31 @@ fn slot_of_chosen(
         → slot ≡ record { key = key head.now all; update = head.now.update }) }
 {
     let mut values = ShortValues::none();
-    if let Err(other) = note_usual(&mut fields, &mut values) {
-        return slot_of_unusual(alloc, head, &values.copied(), other, fields);
+    if let Err(other) = note_next(&mut fields, BLOCK_NUMBER, &mut values) {
+        return slot_without_block(alloc, head, other, fields);
     }
-    match fields.next(alloc)? {
-        None => slot_of_short(alloc, head, &values),
-        Some(field) => slot_of_rest(alloc, head, &values.copied(), field, fields),
+    match note_usual(&mut fields, &mut values) {
+        Ok(()) => slot_of_short(alloc, head, &values),
+        Err(other) => slot_of_unusual(alloc, head, &values.copied(), other, fields),
     }
+}
+
+/// Makes the slot as `slot_of_unusual` does, with no value noted.
+#[inline(never)]
+fn slot_without_block(
+    alloc: Global,
+    head: &ReportHead,
+    other: Option<ShortNumber>,
+    fields: ChosenFields<'_>,
+) -> Result<PackedSlot, OutOfMemory>
+    ensures { IfOk result (λ slot. slot ≡ record {
+      key = key_of head.now (all_noted fields.entry (other_noted other (first_values [])));
+      update = head.now.update;
+    }) }
+{
+    let mut values = ShortValues::none();
+    note_other(other, &mut values);
+    slot_of_left(alloc, head, &mut values, fields)
 }
 
 /// Makes the slot by first values, one more field with a short number, if there is one, and the
@@ -127,7 +147,7 @@ fn slot_of_unusual(
     head: &ReportHead,
     values: &ShortValues,
     other: Option<ShortNumber>,
-    mut fields: ChosenFields<'_>,
+    fields: ChosenFields<'_>,
 ) -> Result<PackedSlot, OutOfMemory>
     ensures { IfOk result (λ slot. slot ≡ record {
       key = key_of head.now (all_noted fields.entry (other_noted other values.now));
@@ -136,30 +156,44 @@ fn slot_of_unusual(
 {
     let mut values = values.copied();
     note_other(other, &mut values);
-    note_short(&mut fields, &mut values);
-    match fields.next(alloc)? {
-        None => slot_of_short(alloc, head, &values),
-        Some(field) => slot_of_rest(alloc, head, &values.copied(), field, fields),
-    }
+    slot_of_left(alloc, head, &mut values, fields)
 }
 
-/// Makes the slot by first values, one more field and the fields left after it.
+/// Makes the slot by first values and the fields left.
+#[inline(always)]
+fn slot_of_left(
+    alloc: Global,
+    head: &ReportHead,
+    values: &mut ShortValues,
+    mut fields: ChosenFields<'_>,
+) -> Result<PackedSlot, OutOfMemory>
+    ensures { IfOk result (λ slot. slot ≡ record {
+      key = key_of head.now (all_noted fields.entry values.old);
+      update = head.now.update;
+    }) }
+{
+    note_short(&mut fields, values);
+    if fields.is_empty() {
+        return slot_of_short(alloc, head, values);
+    }
+    slot_of_rest(alloc, head, &values.copied(), fields)
+}
+
+/// Makes the slot as `slot_of_left` does, of fields of all kinds.
 // Not inline, since these values take much room, and most reports need none of it.
 #[inline(never)]
 fn slot_of_rest(
     alloc: Global,
     head: &ReportHead,
     values: &ShortValues,
-    field: Field,
     fields: ChosenFields<'_>,
 ) -> Result<PackedSlot, OutOfMemory>
     ensures { IfOk result (λ slot. slot ≡ record {
-      key = key_of head.now (all_noted fields.entry (noted field values.now));
+      key = key_of head.now (all_noted fields.entry values.now);
       update = head.now.update;
     }) }
 {
     let mut values = values.widened();
-    values.note(field);
     note_chosen(alloc, fields, &mut values)?;
     slot_of(alloc, head, &mut values)
 }
@@ -237,9 +271,8 @@ fn slot_of_wmo(
 fn key_of(head: &ReportHead, values: &mut FirstValues) -> Option<Key>
     ensures { result ≡ key_of head.now values.old }
 {
-    let moment = moment_of(values);
     let station = station_of(values)?;
-    let moment = moment?;
+    let moment = moment_of(values)?;
     Some(Key {
         centre: head.centre,
         category: head.category,

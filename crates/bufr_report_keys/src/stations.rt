@@ -1,6 +1,6 @@
 //! The station of a report.
 ghost use Rattle.std.specs.Prelude.{◌≡◌};
-ghost use Rattle.bufr_report_keys.specs.FirstValues.{station_of};
+ghost use Rattle.bufr_report_keys.specs.FirstValues.{moment_of, station_of};
 
 use crate::first_values::FirstValues;
 use bufr_entries::Station;
@@ -8,7 +8,8 @@ use bufr_entries::Station;
 /// Makes the station of the first values, and takes its name out: a WMO station, else a WIGOS
 /// identifier, else a mobile name.
 pub(crate) fn station_of(values: &mut FirstValues) -> Option<Station>
-    ensures { result ≡ station_of values.old }
+    ensures is { result ≡ station_of values.old }
+    ensures moment { moment_of values.new ≡ moment_of values.old }
 {
     if let (Some(block), Some(number)) = (values.block.usable(), values.station.usable()) {
         return Some(Station::wmo(block, number));

@@ -1,8 +1,9 @@
 -- The chosen fields of a layout at their places.
-use Rattle.std.proofs.Common.{◌≡◌, ℕ, ◌+◌, ◌*◌, ◌/◌, ◌≤◌, Bool, true, false, cond, List, [], ◌∷◌, ◌++◌}
+use Rattle.std.proofs.Common.{◌≡◌, ℕ, ◌==◌, ◌+◌, ◌*◌, ◌/◌, ◌≤◌, Bool, true, false, cond, List, [], ◌∷◌, ◌++◌}
 use Rattle.std.proofs.Common.{Option, Some, None, Result, Ok, Err, map, length, drop, refl, sym, ap}
 use Rattle.std.proofs.Common.{subst, ◌∙◌}
 use Rattle.std.proofs.Common.{append_assoc, append-nil, arith}
+use Rattle.std.proofs.Math.Dec.{eqb-suc-zero}
 use Rattle.std.specs.Prelude.{IsOk, nat_le, nat_lt}
 use Rattle.std.proofs.lemmas.Bool.{le-leb, ltb-true, ltb-false}
 use Rattle.std.proofs.lemmas.List.{drop-drop, length-drop}
@@ -286,6 +287,15 @@ pub none_placed : (places : List PlacedField) (front : List Bool) → length pla
     → fields_placed places front ≡ []
 none_placed [] front is = refl
 none_placed (p ∷ places) front is = absurd (omega (arith, is))
+
+-- no field is placed if there is no place, and only then
+pub none_alike : (places : List PlacedField) (front : List Bool) → HoldPlaced places front
+    → (length places == 0) ≡ (length (fields_placed places front) == 0)
+none_alike [] front holds = refl
+none_alike (p ∷ places) front holds =
+    eqb-suc-zero (length places)
+    ∙ sym (ap (λ o. length (placed_then p.field (fields_placed places) o) == 0) holds.2
+    ∙ eqb-suc-zero (length (fields_placed places holds.1.1)))
 
 -- ---- the places found
 

@@ -1,6 +1,6 @@
 //! Hands out the fields of a compressed subset.
 
-ghost use Rattle.std.specs.Prelude.{◌≡◌, ◌++◌, true, Some, IfOk, IfSome, IfNone, OnOk, OnErr};
+ghost use Rattle.std.specs.Prelude.{◌≡◌, ◌==◌, length, ◌++◌, true, Some, IfOk, IfSome, IfNone, OnOk, OnErr};
 ghost use Rattle.std.specs.Bool.{OnTrue, OnFalse};
 ghost use Rattle.bufr_data.specs.Handed.{HandsOut, HandsOutAsked, FirstIsAsked, PassesFirst};
 ghost use Rattle.bufr_data.specs.Handed.{PassesUnasked};
@@ -42,6 +42,14 @@ impl<'v> Model for ColumnFields<'v> {
 }
 
 impl<'v> ColumnFields<'v> {
+    /// Returns true if no field is left.
+    #[inline(always)]
+    pub(crate) fn is_empty(&self) -> bool
+        ensures { result ≡ (length self.now == 0) }
+    {
+        self.places.is_empty()
+    }
+
     /// Hands out the next field, or `None` at the end.
     pub(crate) fn next(&mut self, alloc: Global) -> Result<Option<Field>, OutOfMemory>
         ensures found { IfOk result (λ found. HandsOut self.old found self.new) }

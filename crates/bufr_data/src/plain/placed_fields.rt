@@ -1,6 +1,6 @@
 //! Hands out the chosen fields of a plain subset at their places.
 
-ghost use Rattle.std.specs.Prelude.{◌≡◌, Some, IfOk, IfSome, IfNone, OnErr};
+ghost use Rattle.std.specs.Prelude.{◌≡◌, ◌==◌, length, Some, IfOk, IfSome, IfNone, OnErr};
 ghost use Rattle.bufr_data.specs.Handed.{HandsOut};
 ghost use Rattle.bufr_data.specs.Short.{HandsOutShort};
 ghost use Rattle.bufr_fields.specs.Values.{as_field};
@@ -35,6 +35,14 @@ impl<'v> Model for PlacedFields<'v> {
 }
 
 impl<'v> PlacedFields<'v> {
+    /// Returns true if no field is left.
+    #[inline(always)]
+    pub(crate) fn is_empty(&self) -> bool
+        ensures { result ≡ (length self.now == 0) }
+    {
+        self.places.is_empty()
+    }
+
     /// Hands out the next field if its numbers are short.
     #[inline(always)]
     pub(crate) fn next_short(&mut self) -> Option<ShortNumber>

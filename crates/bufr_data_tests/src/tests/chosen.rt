@@ -40,7 +40,7 @@ fn indexed<'a>(
         .expect(rt, "an index")
 }
 
-/// Compares the numbers of the fields, by both ways to hand them out.
+/// Compares the numbers of the fields, by both ways to hand them out, and sees the end.
 fn are_numbers(
     rt: &impl Abort,
     alloc: Global,
@@ -49,6 +49,7 @@ fn are_numbers(
     wanted: &[u64],
 ) {
     for number in wanted {
+        assert!(rt; !fields.is_empty());
         let found = fields.next_number().expect(rt, "a number");
         same(rt, found.number, *number);
         let field = again.next(alloc).expect(rt, "room").expect(rt, "a field");
@@ -56,6 +57,7 @@ fn are_numbers(
         same(rt, field.fxy, found.fxy);
         drop(field);
     }
+    assert!(rt; fields.is_empty());
     same(rt, fields.next_number(), None);
     same(rt, again.next(alloc).expect(rt, "room"), None);
     drop(again);
