@@ -5,8 +5,8 @@
 //! otherwise.
 #![tactic(auto)]
 
-pub mod adding;
-pub mod archive;
+mod adding;
+mod archive;
 mod counts;
 mod depot;
 mod headline;
@@ -14,7 +14,7 @@ mod intakes;
 mod joins;
 pub mod laws;
 mod reading;
-pub mod steps;
+mod steps;
 mod worked_values;
 
 pub use adding::{Added, ReportList};

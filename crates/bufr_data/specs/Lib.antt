@@ -1,5 +1,4 @@
 pub use Rattle.bufr_fields.specs.DecimalTexts
-pub use Rattle.bufr_fields.specs.Values
 pub mod Plain
 pub mod Subsets
 pub mod Laws

@@ -6,10 +6,10 @@ use Rattle.std.proofs.lemmas.List.{append-nil}
 use Rattle.bufr_tables.specs.Entries.{Entries}
 use Rattle.bufr_frame.specs.declared.frames.Found.{Found}
 use Rattle.bufr_gather.specs.Archives.{ArchiveView}
-use Rattle.bufr_engines.specs.declared.streams.Counts.{Counts}
+use Rattle.bufr_engines.specs.declared.streams.FrameCounts.{FrameCounts}
 use Rattle.bufr_engines.specs.Adds.{HasAdded, HasAddedSince}
 
-pub since_none : (archive : ArchiveView) (counts : Counts) → counts.frames < 2 ^ 127
+pub since_none : (archive : ArchiveView) (counts : FrameCounts) → counts.frames < 2 ^ 127
     → counts.refused ≤ counts.frames → HasAddedSince archive counts archive counts []
 since_none archive counts few refused = record {
   few = few;
@@ -18,7 +18,7 @@ since_none archive counts few refused = record {
   added = λ tables before h. subst (HasAdded tables archive counts) (sym (append-nil before)) h;
 }
 
-pub since_more : (first archive archive' : ArchiveView) (start counts counts' : Counts)
+pub since_more : (first archive archive' : ArchiveView) (start counts counts' : FrameCounts)
     (frames : List Found) (frame : Found) → HasAddedSince first start archive counts frames
     → counts'.frames ≡ counts.frames + 1 → counts'.refused ≤ counts.refused + 1
     → ((tables : Entries) (fs : List Found) → HasAdded tables archive counts fs

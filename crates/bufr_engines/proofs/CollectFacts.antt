@@ -28,7 +28,7 @@ use Rattle.bufr_io.specs.Engines.{WritesAfter, FailsAfter}
 use Rattle.bufr_io.specs.Inputs.{ReadsOn}
 use Rattle.bufr_io.specs.declared.input.Pieces.{Pieces}
 use Rattle.bufr_io.specs.Limits.{most_reads}
-use Rattle.bufr_engines.specs.declared.streams.Counts.{Counts}
+use Rattle.bufr_engines.specs.declared.streams.FrameCounts.{FrameCounts}
 use Rattle.bufr_gather.specs.StreamsTold.{all_told}
 use Rattle.bufr_engines.specs.Refusals.{refused_of}
 use Rattle.bufr_engines.specs.Collected.{frames_of, collected_text, collected_tally}
@@ -52,7 +52,7 @@ RanOut frames fault = fault ≡ faults.OutOfMemory
 
 -- has added the streams of the first `i` readers
 pub record AddedThrough (tables : Entries) (reads : ℕ) (old new : List Reading)
-    (archive : ArchiveView) (counts : Counts) (i : ℕ) : Type 0 where
+    (archive : ArchiveView) (counts : FrameCounts) (i : ℕ) : Type 0 where
   pub streams : List (List ℕ)
   pub through : Through old new streams i
   pub added : HasAdded tables archive counts (frames_of streams)
@@ -60,7 +60,7 @@ pub record AddedThrough (tables : Entries) (reads : ℕ) (old new : List Reading
   pub bounded : AreReadAtMost reads new
 
 pub added_first : (tables : Entries) (reads : ℕ) (readers : List Reading) (archive : ArchiveView)
-    (counts : Counts) → AreFresh readers → HasAdded tables archive counts []
+    (counts : FrameCounts) → AreFresh readers → HasAdded tables archive counts []
     → AddedThrough tables reads readers readers archive counts 0
 added_first tables reads readers archive counts fresh empty = record {
   streams = [];
@@ -77,7 +77,7 @@ frames_more streams stream =
     ∙ ap (λ (fs : List Found). frames_of streams ++ fs) (append-nil (cut stream))
 
 pub added_next : (tables : Entries) (reads : ℕ) (old new new' : List Reading)
-    (archive archive' : ArchiveView) (counts counts' : Counts) (i : ℕ) (r r' : Reading)
+    (archive archive' : ArchiveView) (counts counts' : FrameCounts) (i : ℕ) (r r' : Reading)
     (long : ℕ) → reads ≤ most_reads
     → (a : AddedThrough tables reads old new archive counts i) → Reached old new a.streams i r
     → new' ≡ set new i r' → r'.reads ≤ reads
@@ -108,13 +108,14 @@ bounded_next reads new new' i r' all is bounded =
     subst (AreReadAtMost reads) (sym is) (at_most_set reads new i r' all bounded)
 
 pub added_all : (tables : Entries) (reads : ℕ) (old new : List Reading) (archive : ArchiveView)
-    (counts : Counts) (i : ℕ) (done : Unit {0}) → AddedThrough tables reads old new archive counts i
+    (counts : FrameCounts) (i : ℕ) (done : Unit {0})
+    → AddedThrough tables reads old new archive counts i
     → length new ≤ i → AddsStreams tables reads old new archive counts (Ok done)
 added_all tables reads old new archive counts i done a all =
     (a.streams, through_all old new a.streams i a.through all, a.added)
 
 unread_ends : (tables : Entries) (reads : ℕ) (old new new' : List Reading) (archive : ArchiveView)
-    (counts : Counts) (streams : List (List ℕ)) (i : ℕ) (r r' : Reading) (pieces : Pieces)
+    (counts : FrameCounts) (streams : List (List ℕ)) (i : ℕ) (r r' : Reading) (pieces : Pieces)
     (read : List ℕ) (e : ToolFault) → Reached old new streams i r → new' ≡ set new i r'
     → ReadsOn (Number (i + 1)) reads r r' pieces read (Err e)
     → AddsStreams tables reads old new' archive counts (Err e)
@@ -132,7 +133,7 @@ unread_ends tables reads old new new' archive counts streams i r r' pieces read 
     absurd ends
 
 pub added_ends : (tables : Entries) (reads : ℕ) (old new new' : List Reading)
-    (Taken : List Found → Type 0) (archive : ArchiveView) (counts : Counts)
+    (Taken : List Found → Type 0) (archive : ArchiveView) (counts : FrameCounts)
     (streams : List (List ℕ)) (i : ℕ) (r r' : Reading) (e : ToolFault) → Reached old new streams i r
     → new' ≡ set new i r' → EndsEarly Taken (Unit {0}) RanOut (Number (i + 1)) reads r r' e
     → AddsStreams tables reads old new' archive counts (Err e)
@@ -153,7 +154,7 @@ told_frames tables (stream ∷ streams) =
     flat_map-append (λ (f : Found). reports_in tables f.bytes) (cut stream) (frames_of streams)
     ∙ ap (λ (rs : List Report). told tables stream ++ rs) (told_frames tables streams)
 
-pub collected_text_is : (tables : Entries) (archive : ArchiveView) (counts : Counts)
+pub collected_text_is : (tables : Entries) (archive : ArchiveView) (counts : FrameCounts)
     (streams : List (List ℕ)) (octets : List ℕ) → HasAdded tables archive counts (frames_of streams)
     → octets ≡ text archive.entries → octets ≡ collected_text tables streams
 collected_text_is tables archive counts streams octets h is =
@@ -165,7 +166,7 @@ abbrev pub counted : ℕ → ℕ → ℕ → Tally
 counted frames refused reports =
     record { frames = frames; refused = refused; skipped = 0; reports = reports }
 
-pub collected_tally_is : (tables : Entries) (archive : ArchiveView) (counts : Counts)
+pub collected_tally_is : (tables : Entries) (archive : ArchiveView) (counts : FrameCounts)
     (streams : List (List ℕ)) (reports : ℕ) → HasAdded tables archive counts (frames_of streams)
     → reports ≡ length archive.entries
     → counted counts.frames counts.refused reports ≡ collected_tally tables streams
@@ -177,7 +178,7 @@ collected_tally_is tables archive counts streams reports h is =
     ∙ ap (λ (rs : List Report). length (kept_of tables rs)) (told_frames tables streams))
 
 pub collects_ok : (tables : Entries) (reads : ℕ) (old new : List Reading) (writer writer' : Writing)
-    (archive : ArchiveView) (counts : Counts) (octets : List ℕ) (reports : ℕ) (done : Unit {0})
+    (archive : ArchiveView) (counts : FrameCounts) (octets : List ℕ) (reports : ℕ) (done : Unit {0})
     → AddsStreams tables reads old new archive counts (Ok done) → octets ≡ text archive.entries
     → reports ≡ length archive.entries → WritesAll writer writer' octets
     → Collects tables reads old new writer writer'
@@ -192,7 +193,7 @@ collects_ok tables reads old new writer writer' archive counts octets reports do
     )
 
 pub collects_fails : (tables : Entries) (reads : ℕ) (old new : List Reading)
-    (writer writer' : Writing) (archive : ArchiveView) (counts : Counts) (octets : List ℕ)
+    (writer writer' : Writing) (archive : ArchiveView) (counts : FrameCounts) (octets : List ℕ)
     (done : Unit {0}) (e : ToolFault) → AddsStreams tables reads old new archive counts (Ok done)
     → octets ≡ text archive.entries → WritesAfter 0 octets writer writer' (Err e)
     → Collects tables reads old new writer writer' (Err e)
@@ -221,7 +222,7 @@ collects_fails tables reads old new writer writer' archive counts octets done
     (faults.NotAnArchive input place) adds is w = absurd w
 
 pub collects_ends : (tables : Entries) (reads : ℕ) (old new : List Reading) (writer : Writing)
-    (archive : ArchiveView) (counts : Counts) (e : ToolFault)
+    (archive : ArchiveView) (counts : FrameCounts) (e : ToolFault)
     → AddsStreams tables reads old new archive counts (Err e)
     → Collects tables reads old new writer writer (Err e)
 collects_ends tables reads old new writer archive counts (faults.ReadFailed source) adds =

@@ -18,7 +18,7 @@ use Rattle.bufr_entries.specs.declared.entry.Entry.{Entry}
 use Rattle.bufr_entries.specs.Entries.{kept}
 use Rattle.bufr_entries.specs.Orders.{kept-early}
 use Rattle.bufr_gather.specs.Archives.{ArchiveView, taken_in, entries_of}
-use Rattle.bufr_engines.specs.declared.streams.Counts.{Counts}
+use Rattle.bufr_engines.specs.declared.streams.FrameCounts.{FrameCounts}
 use Rattle.bufr_gather.specs.ReportEntries.{entry_of, report_entries, kept_of}
 use Rattle.bufr_gather.specs.ReportTexts.{archive_of}
 use Rattle.bufr_engines.specs.Refusals.{refused_as, frame_refused, refused_of}
@@ -62,7 +62,7 @@ refused_more : (tables : Entries) (frames : List Found) (frame : Found)
     ≡ refused_of tables frames + frame_refused tables frame
 refused_more tables frames frame = sum_by_push (frame_refused tables) frames frame
 
-pub refused_at_most : (tables : Entries) (archive : ArchiveView) (counts : Counts)
+pub refused_at_most : (tables : Entries) (archive : ArchiveView) (counts : FrameCounts)
     (frames : List Found) → HasAdded tables archive counts frames → counts.refused ≤ counts.frames
 refused_at_most tables archive counts frames h =
     let few = refused_few (frame_refused tables) frames (refused_one tables) in
@@ -70,7 +70,7 @@ refused_at_most tables archive counts frames h =
     let b = h.refused_are in
     omega arith
 
-pub added_ok : (tables : Entries) (old new : ArchiveView) (counts counts' : Counts)
+pub added_ok : (tables : Entries) (old new : ArchiveView) (counts counts' : FrameCounts)
     (frames : List Found) (frame : Found) (octets : List ℕ) (d : Decoded)
     → HasAdded tables old counts frames → octets ≡ frame.bytes → message_of old.tables octets ≡ Ok d
     → new ≡ taken_in old (report_entries old.tables (reports_of d.message))
@@ -98,7 +98,7 @@ added_ok tables old new counts counts' frames frame octets d h is spells new_is 
       refused_are = omega arith;
     }
 
-pub added_none : (tables : Entries) (old new : ArchiveView) (counts counts' : Counts)
+pub added_none : (tables : Entries) (old new : ArchiveView) (counts counts' : FrameCounts)
     (frames : List Found) (frame : Found) (octets : List ℕ) (why : Refused)
     → HasAdded tables old counts frames → octets ≡ frame.bytes
     → message_of old.tables octets ≡ Err why → new ≡ old → counts'.frames ≡ counts.frames + 1

@@ -11,7 +11,7 @@ use Rattle.bufr_io.specs.declared.fault.Input.TheVariants.{Number}
 use Rattle.bufr_io.specs.declared.fault.ToolFault.{ToolFault}
 use Rattle.bufr_io.specs.declared.fault.ToolFault.TheVariants as faults
 use Rattle.bufr_io.specs.Engines.{WasReadOut, HasFailed, IsEndless, AreAllOf}
-use Rattle.bufr_engines.specs.declared.streams.Counts.{Counts}
+use Rattle.bufr_engines.specs.declared.streams.FrameCounts.{FrameCounts}
 use Rattle.bufr_gather.specs.ReportTexts.{archive_of, IsArchiveOf}
 use Rattle.bufr_engines.specs.Refusals.{refused_of}
 use Rattle.bufr_engines.specs.Collected.{frames_of, AreTextsOf, all_of}
@@ -25,7 +25,7 @@ abbrev pub reports_of_frames : Entries → List Found → List Report
 reports_of_frames tables frames = flat_map (λ f. reports_in tables f.bytes) frames
 
 -- the archive keeps the messages of these frames, and the counts have the frames
-pub record HasAdded (tables : Entries) (archive : ArchiveView) (counts : Counts)
+pub record HasAdded (tables : Entries) (archive : ArchiveView) (counts : FrameCounts)
     (frames : List Found) : Type 0 where
   pub archive_is : archive ≡ archive_of tables (reports_of_frames tables frames)
   pub frames_are : counts.frames ≡ length frames
@@ -33,8 +33,8 @@ pub record HasAdded (tables : Entries) (archive : ArchiveView) (counts : Counts)
 
 -- since the state `first` of the archive and `start` of its counts, it added and counted the
 -- messages of these frames, after any frames added before
-pub record HasAddedSince (first : ArchiveView) (start : Counts) (archive : ArchiveView)
-    (counts : Counts) (frames : List Found) : Type 0 where
+pub record HasAddedSince (first : ArchiveView) (start : FrameCounts) (archive : ArchiveView)
+    (counts : FrameCounts) (frames : List Found) : Type 0 where
   pub few : start.frames < 2 ^ 127
   pub counted : counts.frames ≡ start.frames + length frames
   pub refused : counts.refused ≤ counts.frames
@@ -43,7 +43,7 @@ pub record HasAddedSince (first : ArchiveView) (start : Counts) (archive : Archi
 
 -- reads some readers to their ends and adds the messages of their streams' frames, or ends at one
 -- of the readers
-abbrev pub AddsStreams : Entries → ℕ → List Reading → List Reading → ArchiveView → Counts
+abbrev pub AddsStreams : Entries → ℕ → List Reading → List Reading → ArchiveView → FrameCounts
     → Result (Unit {0}) ToolFault → Type 0
 AddsStreams tables reads olds news archive counts (Ok done) =
     (streams : List (List ℕ)) × WereReadOut olds news streams

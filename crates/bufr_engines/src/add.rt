@@ -4,7 +4,7 @@ ghost use Rattle.bufr_io.specs.Readers.{AreFresh, AreReadAtMost};
 ghost use Rattle.bufr_io.specs.Limits.{most_reads};
 
 use crate::parts::{Part, hand_on};
-use crate::streams::{Counts, add_streams};
+use crate::streams::{FrameCounts, add_streams};
 use bufr_bits::{Sink, Source};
 use bufr_gather::ArchiveBuilder;
 use bufr_io::{Tally, ToolFault, room, write_out};
@@ -29,7 +29,7 @@ pub fn run_add<S: Source, W: Sink>(
 {
     let mut room = room(alloc)?;
     let mut builder = ArchiveBuilder::new(alloc, tables);
-    let mut counts = Counts {
+    let mut counts = FrameCounts {
         frames: 0,
         refused: 0,
     };

@@ -19,4 +19,5 @@ pub use add::run_add;
 pub use check::run_check;
 pub use encode::run_encode;
 pub use merge::run_merge;
+pub use printing::Printing;
 pub use show::run_show;

@@ -30,7 +30,7 @@ const ROW_END: usize = 4 * MOST_DIGITS + 6;
 
 /// A form in which a command prints a stream.
 #[derive(Clone, Copy, Drop, PartialEq, Eq)]
-pub(crate) enum Printing {
+pub enum Printing {
     /// The listing of each message.
     Shown,
     /// A line for each frame, and one that counts them.
@@ -62,7 +62,7 @@ pub(crate) fn hold_field(
     ensures err { OnErr result (text.new.items ≡ text.old.items) }
 {
     if let Some(number) = fields.next_asked_number(&EachField) {
-        push_number_field(alloc, text, number)?;
+        push_number_field(text, number)?;
         return Ok(true);
     }
     hold_next(alloc, text, fields)
@@ -82,7 +82,7 @@ fn hold_next(
     match fields.next(alloc)? {
         None => Ok(false),
         Some(field) => {
-            push_field(alloc, text, &field)?;
+            push_field(text, &field)?;
             Ok(true)
         }
     }

@@ -14,7 +14,7 @@ use std::alloc::Global;
 
 /// A count of frames.
 #[derive(Clone, Copy, Drop, PartialEq, Eq)]
-pub(crate) struct Counts {
+pub(crate) struct FrameCounts {
     /// All frames.
     pub(crate) frames: u128,
     /// The refused frames.
@@ -22,7 +22,7 @@ pub(crate) struct Counts {
 }
 
 /// The builder of an archive takes in the messages of frames, and counts the frames.
-impl<'t> TakesFrames<Counts> for ArchiveBuilder<'t> {
+impl<'t> TakesFrames<FrameCounts> for ArchiveBuilder<'t> {
     ghost count = { λ builder counts. counts.frames };
 
     ghost HasTaken = { HasAddedSince };
@@ -36,7 +36,7 @@ impl<'t> TakesFrames<Counts> for ArchiveBuilder<'t> {
         alloc: Global,
         place: u64,
         octets: &[u8],
-        out: &mut Counts,
+        out: &mut FrameCounts,
     ) -> Result<(), ToolFault> {
         let refused = match self.add_message(octets) {
             Ok(()) => 0,
@@ -48,11 +48,11 @@ impl<'t> TakesFrames<Counts> for ArchiveBuilder<'t> {
         Ok(())
     }
 
-    fn end_piece(&mut self, out: &mut Counts) -> Result<(), ToolFault> {
+    fn end_piece(&mut self, out: &mut FrameCounts) -> Result<(), ToolFault> {
         Ok(())
     }
 
-    fn halt(&mut self, out: &mut Counts) -> ToolFault {
+    fn halt(&mut self, out: &mut FrameCounts) -> ToolFault {
         ToolFault::OutOfMemory
     }
 
@@ -66,7 +66,7 @@ pub(crate) fn add_streams<S: Source>(
     readers: &mut [S],
     room: &mut [u8],
     builder: &mut ArchiveBuilder<'_>,
-    counts: &mut Counts,
+    counts: &mut FrameCounts,
 ) -> Result<(), ToolFault>
     requires few { reads ≤ most_reads }
     requires fresh { AreFresh (map S.reading readers.old) }

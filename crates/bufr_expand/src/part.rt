@@ -26,9 +26,9 @@ pub(crate) enum Part<'a> {
 #[derive(Clone, Copy)]
 pub(crate) struct FirstPart<'a> {
     /// The part.
-    pub part: Part<'a>,
+    pub(crate) part: Part<'a>,
     /// The number of descriptors taken.
-    pub taken: usize,
+    pub(crate) taken: usize,
 }
 
 /// Finds the meaning of `first`: an element of Table B, a replication of the next X descriptors, an

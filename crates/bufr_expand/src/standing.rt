@@ -8,24 +8,24 @@ use bufr_tables::Fxy;
 #[derive(Clone, Copy)]
 pub(crate) struct Open {
     /// The turns left.
-    pub turns: u64,
+    pub(crate) turns: u64,
     /// The first node of the body.
-    pub from: usize,
+    pub(crate) from: usize,
     /// The node after the body.
-    pub to: usize,
+    pub(crate) to: usize,
     /// The node after the enclosing list.
-    pub stop: usize,
+    pub(crate) stop: usize,
 }
 
 /// A count whose number the walk waits for.
 #[derive(Clone, Copy)]
 pub(crate) struct Asked {
     /// The descriptor of its field.
-    pub fxy: Fxy,
+    pub(crate) fxy: Fxy,
     /// The spec of its field.
-    pub spec: Spec,
+    pub(crate) spec: Spec,
     /// The first node of the body that it repeats, if any.
-    pub body: Option<usize>,
+    pub(crate) body: Option<usize>,
 }
 
 /// A state of a walk.

@@ -11,7 +11,7 @@ use bufr_expand::Spec;
 use bufr_tables::Kind;
 
 /// Returns whether a number fits in `width` bits, at most 64.
-pub(crate) fn is_below(number: u64, width: u32) -> bool
+pub fn is_below(number: u64, width: u32) -> bool
     ensures { result ≡ (nat_le width most_raw_bits && nat_lt number (2 ^ width)) }
 {
     if width > MOST_RAW_BITS {

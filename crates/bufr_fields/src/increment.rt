@@ -29,7 +29,7 @@ pub fn raised(width: u32, minimum: u64, k: u32, increment: u64) -> Option<u64>
 }
 
 /// Returns the greatest number of `width` bits.
-fn greatest(width: u32) -> u64
+pub fn greatest(width: u32) -> u64
     requires { width ≤ most_raw_bits }
     ensures { result + 1 ≡ 2 ^ width }
 {

@@ -12,20 +12,19 @@ use crate::titles::title;
 use bufr_base::OutOfMemory;
 use bufr_fields::{Decimal, Field, NumberField, Raw, Subset};
 use bufr_tables::{Fxy, Kind};
-use std::alloc::Global;
 
 /// The index of the line's end in a row.
 const ROW_END: usize = 63;
 
 /// Adds the lines of a subset.
-pub fn push_subset(alloc: Global, text: &mut Vec<u8>, subset: &Subset) -> Result<(), OutOfMemory>
+pub fn push_subset(text: &mut Vec<u8>, subset: &Subset) -> Result<(), OutOfMemory>
     ensures ok { OnOk result (text.new.items ≡ text.old.items ++ joined (subset_lines subset.now)) }
     ensures err { OnErr result (text.new.items ≡ text.old.items) }
 {
     let held = text.len();
     push_subset_line(text)?;
     for field in subset.fields.as_slice() {
-        let added = push_field(alloc, text, field);
+        let added = push_field(text, field);
         if added.is_err() {
             text.truncate(held);
             return added;
@@ -43,14 +42,14 @@ pub fn push_subset_line(text: &mut Vec<u8>) -> Result<(), OutOfMemory>
 }
 
 /// Adds the line of a field.
-pub fn push_field(alloc: Global, text: &mut Vec<u8>, field: &Field) -> Result<(), OutOfMemory>
+pub fn push_field(text: &mut Vec<u8>, field: &Field) -> Result<(), OutOfMemory>
     ensures ok { OnOk result (text.new.items ≡ text.old.items ++ line (field_line field.now)) }
     ensures err { OnErr result (text.new.items ≡ text.old.items) }
 {
     match &field.raw {
         Raw::Number(number) => {
             let (fxy, spec, number) = (field.fxy, field.spec, *number);
-            push_number_field(alloc, text, NumberField { fxy, spec, number })
+            push_number_field(text, NumberField { fxy, spec, number })
         }
         Raw::Text(_) => push_any_field(text, field),
     }
@@ -59,11 +58,7 @@ pub fn push_field(alloc: Global, text: &mut Vec<u8>, field: &Field) -> Result<()
 /// Adds the line of a field with a number.
 // A call would move the number through memory.
 #[inline(always)]
-pub fn push_number_field(
-    _alloc: Global,
-    text: &mut Vec<u8>,
-    field: NumberField,
-) -> Result<(), OutOfMemory>
+pub fn push_number_field(text: &mut Vec<u8>, field: NumberField) -> Result<(), OutOfMemory>
     ensures ok { OnOk result (text.new.items
         ≡ text.old.items ++ line (field_line (as_field field))) }
     ensures err { OnErr result (text.new.items ≡ text.old.items) }

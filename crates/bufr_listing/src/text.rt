@@ -24,7 +24,7 @@ pub fn text_of(alloc: Global, message: &Message) -> Result<Vec<u8>, OutOfMemory>
     let mut text = Vec::with_capacity(alloc, HEADING_ROOM)?;
     push_heading(alloc, &mut text, &LentSections::of_message(message))?;
     for subset in message.subsets.as_slice() {
-        push_subset(alloc, &mut text, subset)?;
+        push_subset(&mut text, subset)?;
     }
     text.extend_from_slice(end_text())?;
     Ok(text)
@@ -35,7 +35,7 @@ pub fn subset_text(alloc: Global, subset: &Subset) -> Result<Vec<u8>, OutOfMemor
     ensures { IfOk result (λ text. text.items ≡ joined (subset_lines subset.now)) }
 {
     let mut text = Vec::new(alloc);
-    push_subset(alloc, &mut text, subset)?;
+    push_subset(&mut text, subset)?;
     Ok(text)
 }
 

@@ -1,7 +1,7 @@
 //! Reads words as raw values.
 
 ghost use Rattle.bufr_listing_reader.specs.Words.{below};
-ghost use Rattle.std.specs.Prelude.{◌≡◌, ◌≤◌, ◌^◌, ◌-◌, ◌-ℤ◌, IfOk, option_map};
+ghost use Rattle.std.specs.Prelude.{◌≡◌, ◌≤◌, ◌^◌, ◌-ℤ◌, IfOk, option_map};
 ghost use Rattle.bufr_listing_reader.specs.RawWords as words;
 ghost use Rattle.bufr_listing_reader.specs.RawWords.{raw_of, number_of, text_of, octets_of, first_octet};
 ghost use Rattle.bufr_listing_reader.specs.RawWords.{lower_value};
@@ -10,7 +10,7 @@ ghost use Rattle.bufr_fields.specs.Limits.{most_raw_bits};
 use crate::line_words::natural;
 use bufr_base::{Items, OutOfMemory};
 use bufr_expand::Spec;
-use bufr_fields::{Decimal, MOST_DECIMAL_SCALE, MOST_RAW_BITS, Raw, are_ones};
+use bufr_fields::{Decimal, MOST_DECIMAL_SCALE, MOST_RAW_BITS, Raw, are_ones, greatest};
 use bufr_listing::stands_for_itself;
 use bufr_tables::Kind;
 use std::alloc::Global;
@@ -81,17 +81,6 @@ fn above(units: i128, reference: i64) -> Option<u64>
     ensures { result ≡ below (2 ^ 64) (units -ℤ reference) }
 {
     natural(units.checked_sub(i128::from(reference))?)
-}
-
-fn greatest(width: u32) -> u64
-    requires { width ≤ most_raw_bits }
-    ensures { result ≡ 2 ^ width - 1 }
-{
-    if width == MOST_RAW_BITS {
-        u64::MAX
-    } else {
-        (1 << width) - 1
-    }
 }
 
 /// Returns the octets of a text field of `width` bits that print this word.

@@ -6,7 +6,6 @@ ghost use Rattle.bufr_tables.specs.Descriptors.{six_digits};
 ghost use Rattle.bufr_base.specs.Answers.{Gives, Fails};
 ghost use Rattle.bufr_expand.specs.Courses.{course};
 ghost use Rattle.bufr_expand.specs.Walks as walks;
-ghost use Rattle.bufr_fields.specs.Forms as forms;
 ghost use Rattle.bufr_fields.specs.Steady.{IsReady, WalkAdvances};
 ghost use Rattle.bufr_listing_reader.specs.Cursors.{left, past, is_end};
 ghost use Rattle.bufr_listing_reader.specs.Lines.{Line};
@@ -20,7 +19,7 @@ use crate::raw_values::raw_of;
 use bufr_base::{Failure, Items};
 use bufr_expand::laws::courses_are_steady;
 use bufr_expand::{Spec, Step, Template, Walk};
-use bufr_fields::{Field, Raw, Subset};
+use bufr_fields::{Field, Subset};
 use bufr_listing::{Cause, ListingFault, title};
 use bufr_tables::Fxy;
 use std::alloc::Global;
@@ -109,19 +108,9 @@ fn read_field(
         }
         Step::Count(fxy, spec) => {
             let field = read_value(alloc, lines, fxy, spec)?;
-            walk.count(number_of(&field.raw));
+            walk.count(field.raw.number());
             Ok(Some(field))
         }
-    }
-}
-
-/// Returns the number of a raw value, 0 for a text.
-fn number_of(raw: &Raw) -> u64
-    ensures { result ≡ forms.number_of raw.now }
-{
-    match raw {
-        Raw::Number(number) => *number,
-        Raw::Text(_) => 0,
     }
 }
 

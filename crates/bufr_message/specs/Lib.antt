@@ -44,6 +44,8 @@ pub use Rattle.bufr_data.specs.Chosen
 pub use Rattle.bufr_data.specs.Handed
 pub use Rattle.bufr_data.specs.Kept as KeptTemplates
 pub use Rattle.bufr_data.specs.LeftFields
+pub use Rattle.bufr_data.specs.Short
+pub use Rattle.bufr_fields.specs.Values
 pub use Rattle.bufr_expand.specs.Reasons as TemplateReasons
 pub use Rattle.bufr_expand.specs.Templates
 pub use Rattle.bufr_tables.specs.TableFiles

@@ -20,9 +20,10 @@ mod worked_values;
 
 pub use bufr_base::{Failure, Items, OutOfMemory};
 pub use bufr_data::{
-    ChosenFields, DataFault, Decimal, Field, Fields, KeptTemplates, MisfitFault, Raw, Subset,
+    ChosenFields, DataFault, Decimal, Field, Fields, KeptTemplates, MisfitFault, NumberField, Raw,
+    ShortNumber, Subset,
 };
-pub use bufr_expand::{Spec, TemplateFault};
+pub use bufr_expand::{Asks, Spec, TemplateFault};
 pub use bufr_sections::{Decoded, EncodeFault, Head, LentSections, Message, Refused};
 pub use bufr_tables::{Element, Fxy, Kind, TableB, TableD, TableFault, Tables};
 pub use decoding::decode;

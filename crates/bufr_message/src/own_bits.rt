@@ -1,12 +1,11 @@
 //! Canonical messages of reports as read, from their own fields alone.
 
-ghost use Rattle.std.specs.Prelude.{◌≡◌, ◌++◌, ◌^◌, ◌&&◌, ℕ, Bool, List, true, Some, IfOk, OnOk, OnErr};
-ghost use Rattle.std.specs.Prelude.{option_map, nat_lt, nat_le};
+ghost use Rattle.std.specs.Prelude.{◌≡◌, ◌++◌, ℕ, Bool, List, true, Some, IfOk, OnOk, OnErr};
+ghost use Rattle.std.specs.Prelude.{option_map};
 ghost use Rattle.bufr_bits.specs.Bits.{bits};
 ghost use Rattle.bufr_tables.specs.Entries.{Entries};
 ghost use Rattle.bufr_fields.specs.declared.field.Subset.{Subset};
 ghost use Rattle.bufr_data.specs.Plain.{raw_bits};
-ghost use Rattle.bufr_fields.specs.Limits.{most_raw_bits};
 ghost use Rattle.bufr_data.specs.Subsets.{filled};
 ghost use Rattle.bufr_message.specs.OwnBits.{has_room, own_bits, spelt_alone, spelt_with};
 ghost use Rattle.bufr_message.specs.OwnBits.{IsPutBehind};
@@ -16,7 +15,8 @@ use crate::laws::canonical_messages_are_own;
 use crate::report::{Report, ReportHead};
 use bufr_base::{Failure, OutOfMemory};
 use bufr_bits::BitSink;
-use bufr_data::{Field, MOST_RAW_BITS, Raw};
+use bufr_data::{Field, Raw};
+use bufr_fields::is_below;
 use bufr_sections::{Head, LentSections, spell_behind};
 use bufr_tables::Fxy;
 use std::alloc::Global;
@@ -133,16 +133,6 @@ fn has_room(raw: &Raw, width: u32) -> bool
         Raw::Number(number) => is_below(*number, width),
         Raw::Text(_) => true,
     }
-}
-
-/// Whether a number fits `width` bits, at most 64.
-fn is_below(number: u64, width: u32) -> bool
-    ensures { result ≡ (nat_le width most_raw_bits && nat_lt number (2 ^ width)) }
-{
-    if width > MOST_RAW_BITS {
-        return false;
-    }
-    width == MOST_RAW_BITS || number < 1 << width
 }
 
 fn put_raw(raw: &Raw, width: u32, sink: &mut BitSink) -> Result<(), OutOfMemory>

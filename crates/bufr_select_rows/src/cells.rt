@@ -20,7 +20,7 @@ use bufr_expand::Spec;
 use bufr_fields::{Field, NumberField};
 use std::alloc::Global;
 
-pub fn cells_of(alloc: Global, columns: &[Column]) -> Result<Vec<Cell>, OutOfMemory>
+pub(crate) fn cells_of(alloc: Global, columns: &[Column]) -> Result<Vec<Cell>, OutOfMemory>
     ensures { IfOk result (λ cells. cells.items ≡ map fresh columns.now) }
 {
     let mut cells = Vec::with_capacity(alloc, columns.len())?;
@@ -30,7 +30,7 @@ pub fn cells_of(alloc: Global, columns: &[Column]) -> Result<Vec<Cell>, OutOfMem
     Ok(cells)
 }
 
-pub fn begin_cells(cells: &mut [Cell], from: &Origin<'_>) -> Result<(), OutOfMemory>
+pub(crate) fn begin_cells(cells: &mut [Cell], from: &Origin<'_>) -> Result<(), OutOfMemory>
     ensures { OnOk result (cells.new
         ≡ map (λ cell. begun (origin from.now) cell.column) cells.old) }
 {
@@ -40,7 +40,7 @@ pub fn begin_cells(cells: &mut [Cell], from: &Origin<'_>) -> Result<(), OutOfMem
     Ok(())
 }
 
-pub fn open_cells(cells: &mut [Cell])
+pub(crate) fn open_cells(cells: &mut [Cell])
     ensures { cells.new ≡ map opened cells.old }
 {
     for cell in cells.iter_mut() {
@@ -50,7 +50,7 @@ pub fn open_cells(cells: &mut [Cell])
 
 /// Notes a field of a span, or one before all spans.
 #[inline(always)]
-pub fn note_field(
+pub(crate) fn note_field(
     cells: &mut [Cell],
     asked: &Asked,
     in_span: bool,
@@ -67,7 +67,7 @@ pub fn note_field(
 
 /// Notes a field with a number, in a span or before all spans.
 #[inline(always)]
-pub fn note_number(
+pub(crate) fn note_number(
     cells: &mut [Cell],
     asked: &Asked,
     in_span: bool,
@@ -85,7 +85,7 @@ pub fn note_number(
 
 /// Notes a field with a short number, in a span.
 #[inline(always)]
-pub fn note_short(cells: &mut [Cell], asked: &Asked, short: ShortNumber)
+pub(crate) fn note_short(cells: &mut [Cell], asked: &Asked, short: ShortNumber)
     requires { Finds asked.now (map (λ c. c.column) cells.old) }
     ensures { (f : ANumberField) → HasShort f short
         → cells.new ≡ map (noted true (as_field f)) cells.old }

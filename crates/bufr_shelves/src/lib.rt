@@ -5,12 +5,12 @@
 //! memory changes nothing, unless its line says otherwise.
 #![tactic(auto)]
 
-pub mod held;
-pub mod map_shelf;
+mod held;
+mod map_shelf;
 mod rank;
-pub mod shelf;
-pub mod shelving;
-pub mod sorted_shelf;
+mod shelf;
+mod shelving;
+mod sorted_shelf;
 
 pub use held::{Held, slot_order};
 pub use map_shelf::MapShelf;

@@ -189,7 +189,7 @@ fn add_subset(
 ) {
     assert!(rt; index < found.count());
     let subset = found.subset(alloc, index).expect(rt, "room");
-    push_subset(alloc, listing, &subset).expect(rt, "room");
+    push_subset(listing, &subset).expect(rt, "room");
     let alone = subset_text(alloc, &subset).expect(rt, "room");
     same(rt, "a subset", listing.ends_with(alone.as_slice()), true);
     drop(subset);

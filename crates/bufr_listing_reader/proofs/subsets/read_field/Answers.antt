@@ -44,7 +44,7 @@ returns-in_err-field-in-Count-clause-err c =
 pub count-requires-clause-fits : goal.count-requires-clause-fits
 count-requires-clause-fits c =
     let goes = rw c.in-Count.is at c.in-Ok.ensures in
-    rw c.number_of.ensures (count_fits _ _ _ _ _ _ _ _ goes c.in_ok-field-in-Count.ensures.read)
+    rw c.number.ensures (count_fits _ _ _ _ _ _ _ _ goes c.in_ok-field-in-Count.ensures.read)
 
 pub returns-in-End-clause-ok : goal.returns-in-End-clause-ok
 returns-in-End-clause-ok c =
@@ -64,7 +64,7 @@ returns-in_ok-field-in-Field-clause-advances c =
 pub returns-in_ok-field-in-Count-clause-ok : goal.returns-in_ok-field-in-Count-clause-ok
 returns-in_ok-field-in-Count-clause-ok c =
     let goes = rw c.in-Count.is at c.in-Ok.ensures in
-    let counted = rw c.number_of.ensures at c.count.ensures in
+    let counted = rw c.number.ensures at c.count.ensures in
     count_is_read _ _ _ _ _ _ _ _ _ goes counted c.in_ok-field-in-Count.ensures.read
 
 pub returns-in_ok-field-in-Count-clause-advances : goal.returns-in_ok-field-in-Count-clause-advances

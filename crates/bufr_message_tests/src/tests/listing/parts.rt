@@ -42,7 +42,7 @@ fn joined(rt: &impl Abort, alloc: Global, message: &Message) -> Vec<u8> {
     let mut text = Vec::new(alloc);
     push_heading(alloc, &mut text, &sections).expect(rt, "an answer");
     for subset in message.subsets.as_slice() {
-        push_subset(alloc, &mut text, subset).expect(rt, "an answer");
+        push_subset(&mut text, subset).expect(rt, "an answer");
     }
     text.extend_from_slice(end_text()).expect(rt, "an answer");
     text
@@ -57,13 +57,13 @@ fn assert_subset(rt: &impl Abort, alloc: Global, subset: &Subset) {
     let mut numbers = Vec::new(alloc);
     push_subset_line(&mut numbers).expect(rt, "an answer");
     for field in subset.fields.as_slice() {
-        push_field(alloc, &mut lines, field).expect(rt, "an answer");
+        push_field(&mut lines, field).expect(rt, "an answer");
         let number = NumberField {
             fxy: field.fxy,
             spec: field.spec,
             number: field.raw.number(),
         };
-        push_number_field(alloc, &mut numbers, number).expect(rt, "an answer");
+        push_number_field(&mut numbers, number).expect(rt, "an answer");
     }
     same(rt, lines.as_slice(), SUBSET.as_bytes());
     same(rt, numbers.as_slice(), SUBSET.as_bytes());

@@ -3,9 +3,9 @@ use Rattle.std.proofs.Common.{◌≡◌, ◌+◌, refl, arith}
 use Rattle.bufr_io.specs.Taking.{frame_at}
 use Rattle.bufr_engines.proofs.FrameFacts.{added_ok, added_none}
 use Rattle.bufr_engines.proofs.AddedFacts.{since_more}
-use Rattle.bufr_engines.proofs.streams.ArchiveBuilderTakesFramesCounts.take_frame.Goals as goal
-use Rattle.bufr_engines.proofs.streams.ArchiveBuilderTakesFramesCounts.take_frame.Goals.{in-Ok}
-use Rattle.bufr_engines.proofs.streams.ArchiveBuilderTakesFramesCounts.take_frame.Goals.{in-Err-Refused}
+use Rattle.bufr_engines.proofs.streams.ArchiveBuilderTakesFramesFrameCounts.take_frame.Goals as goal
+use Rattle.bufr_engines.proofs.streams.ArchiveBuilderTakesFramesFrameCounts.take_frame.Goals.{in-Ok}
+use Rattle.bufr_engines.proofs.streams.ArchiveBuilderTakesFramesFrameCounts.take_frame.Goals.{in-Err-Refused}
 
 pub returns-clause-taken : goal.returns-clause-taken
 returns-clause-taken c first begin frames h =
