@@ -77,7 +77,7 @@ impl<'t, S: Shelf> Archive<'t, S> {
         ensures entries { IfOk result (λ s. spelt_entries (reports_of s.view.message)
             ≡ report_entries self.old.tables (reports_of s.view.message)) }
     {
-        MessageReports::of_octets(self.alloc, &mut self.templates, octets)
+        MessageReports::of_octets(self.alloc, &mut self.message_reader, octets)
     }
 
     /// Adds reports one by one.

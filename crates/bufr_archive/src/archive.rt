@@ -21,7 +21,7 @@ use thiserror::Error;
 #[derive(Drop)]
 pub struct Archive<'t, S: Shelf> {
     pub(crate) alloc: Global,
-    pub(crate) templates: MessageReader<'t>,
+    pub(crate) message_reader: MessageReader<'t>,
     pub(crate) shelf: S,
 }
 
@@ -32,7 +32,7 @@ impl<'t, S: Shelf> Model for Archive<'t, S> {
 
     ghost Value = { ArchiveView };
 
-    ghost view = { λ a. record { tables = a.templates; entries = S.entries a.shelf } };
+    ghost view = { λ a. record { tables = a.message_reader; entries = S.entries a.shelf } };
 
     ghost invariant = { λ a. kept (S.entries a.shelf) ≡ S.entries a.shelf };
 }
@@ -52,7 +52,7 @@ impl<'t, S: Shelf> Archive<'t, S> {
     {
         Archive {
             alloc,
-            templates: MessageReader::new(alloc, tables),
+            message_reader: MessageReader::new(alloc, tables),
             shelf: S::new(alloc),
         }
     }
@@ -72,7 +72,7 @@ impl<'t, S: Shelf> Archive<'t, S> {
     {
         Ok(Archive {
             alloc: self.alloc,
-            templates: MessageReader::new(self.alloc, self.templates.tables()),
+            message_reader: MessageReader::new(self.alloc, self.message_reader.tables()),
             shelf: self.shelf.copy()?,
         })
     }
@@ -136,10 +136,10 @@ impl<'t> Archive<'t, SortedShelf> {
     pub fn of_gathered(alloc: Global, builder: ArchiveBuilder<'t>) -> Result<Self, OutOfMemory>
         ensures { IfOk result (λ archive. archive ≡ builder.entry) }
     {
-        let (templates, entries) = builder.into_parts();
+        let (message_reader, entries) = builder.into_parts();
         Ok(Archive {
             alloc,
-            templates,
+            message_reader,
             shelf: SortedShelf::of_gathered(alloc, entries)?,
         })
     }

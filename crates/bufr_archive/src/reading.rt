@@ -56,13 +56,13 @@ impl<'t, S: Shelf> Archive<'t, S> {
         ensures { Gives (λ a. a) result (archive_read tables.now octets.now) }
     {
         reports_are_entries();
-        let mut templates = MessageReader::new(alloc, tables);
+        let mut message_reader = MessageReader::new(alloc, tables);
         let mut shelf = S::new(alloc);
         let mut before: Option<ReadEntry> = None;
         let mut place: usize = 0;
         let mut rest = octets;
         while rest.len() > 0 {
-            let Some(entry) = right_entry(alloc, &mut templates, &before, rest)? else {
+            let Some(entry) = right_entry(alloc, &mut message_reader, &before, rest)? else {
                 let place = place as u64;
                 return Err(Failure::Fault(NotAnArchive { place }));
             };
@@ -73,7 +73,7 @@ impl<'t, S: Shelf> Archive<'t, S> {
         }
         Ok(Archive {
             alloc,
-            templates,
+            message_reader,
             shelf,
         })
     }

@@ -6,7 +6,7 @@ use Rattle.bufr_expand.specs.declared.operators.Spec.{Spec}
 use Rattle.bufr_expand.specs.declared.walk.WalkFault.TheVariants as walks
 use Rattle.bufr_expand.specs.Courses.{Course, ends, stops, asks, course}
 use Rattle.bufr_expand.specs.Trees.{Tree}
-use Rattle.bufr_expand.specs.Unrolling.{Told, After, Unrolls}
+use Rattle.bufr_expand.specs.Unrolling.{NumberedField, After, Unrolls}
 use Rattle.bufr_expand.specs.NextFields.{wants, lacks, BeginsWithin}
 use Rattle.bufr_expand.specs.NextFields.{PassesLimit}
 use Rattle.bufr_expand.specs.Limits.{most_items}
@@ -70,14 +70,14 @@ passes_asked laws tree used before d met spec le b w =
     (a.0, after_passes (course tree used) before _ a.1 b.formed)
 
 -- what the tree says of the course after some fields
-abbrev pub Follows : Tree → ℕ → List Told → Course → Type 0
+abbrev pub Follows : Tree → ℕ → List NumberedField → Course → Type 0
 Follows tree used fields (ends n) = Unrolls tree used fields n
 Follows tree used fields (stops n walks.TooLarge) = PassesLimit tree used fields
 Follows tree used fields (stops n (walks.EffectiveRange d)) =
     BeginsWithin tree used fields (lacks d) n
 Follows tree used fields (asks met d spec more) = BeginsWithin tree used fields (wants d spec) met
 
-follows_after : Laws → (tree : Tree) (used : ℕ) (fields : List Told) (next : Course)
+follows_after : Laws → (tree : Tree) (used : ℕ) (fields : List NumberedField) (next : Course)
     → used ≤ most_items → After (course tree used) fields next → Follows tree used fields next
 follows_after laws tree used fields (ends n) le after = laws.unrolled tree used fields n le after
 follows_after laws tree used fields (stops n walks.TooLarge) le after =

@@ -4,7 +4,7 @@ use Rattle.std.proofs.Common.{ℕ, ◌<◌, ◌≤◌, zero, suc, List, [], ◌�
 use Rattle.std.proofs.Common.{◌≡◌, arith, Bool, true, false, if◌then◌else◌, sym, subst, ap, ◌∙◌}
 use Rattle.std.specs.List.{AllByRecursion, insert}
 use Rattle.bufr_tables.specs.Entries.{Entries}
-use Rattle.bufr_data.specs.declared.kept_templates.Kept.{Kept}
+use Rattle.bufr_data.specs.declared.template_cache.CachedTemplate.{CachedTemplate}
 use Rattle.bufr_data.specs.Kept.{AreKept, IsOf}
 
 -- of the first n
@@ -41,7 +41,7 @@ few_left zero (x ∷ xs) = omega arith
 few_left (suc i) (x ∷ xs) = let h = few_left i xs in omega (arith, h)
 
 -- the others stay when one is taken out
-pub kept_left : (tables : Entries) (i : ℕ) (ks : List Kept) → AreKept tables ks
+pub kept_left : (tables : Entries) (i : ℕ) (ks : List CachedTemplate) → AreKept tables ks
     → AreKept tables (take i ks ++ drop (suc i) ks)
 kept_left tables i ks are = record {
   each = all_left (IsOf tables) i ks are.each;
@@ -49,12 +49,12 @@ kept_left tables i ks are = record {
 }
 
 -- the one that is taken out is of its list
-pub kept_at : (tables : Entries) (i : ℕ) (ks : List Kept) (d : Kept) → i < length ks
+pub kept_at : (tables : Entries) (i : ℕ) (ks : List CachedTemplate) (d : CachedTemplate) → i < length ks
     → AreKept tables ks → IsOf tables (get_or ks i d)
 kept_at tables i ks d h are = all_at (IsOf tables) i ks d h are.each
 
 -- the first three stay behind one that is put in front, or alone
-pub kept_behind : (tables : Entries) (k : Kept) (ks ys zs : List Kept) (put : Bool)
+pub kept_behind : (tables : Entries) (k : CachedTemplate) (ks ys zs : List CachedTemplate) (put : Bool)
     → ys ≡ take 3 ks → zs ≡ (if put then insert ys 0 k else ys) → AreKept tables ks → IsOf tables k
     → AreKept tables zs
 kept_behind tables k ks ys zs true cut is are one =

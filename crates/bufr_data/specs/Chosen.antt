@@ -10,7 +10,7 @@ use Rattle.bufr_fields.specs.declared.field.Raw.{Raw}
 use Rattle.bufr_fields.specs.declared.field.Field.{Field}
 use Rattle.bufr_fields.specs.Limits.{most_raw_bits}
 use Rattle.bufr_data.specs.declared.compressed.index.ChosenPlaces.{ChosenPlaces}
-use Rattle.bufr_data.specs.declared.compressed.index.Place.{Place}
+use Rattle.bufr_data.specs.declared.compressed.index.ColumnStart.{ColumnStart}
 use Rattle.bufr_data.specs.declared.plain.layout.LaidField.{LaidField}
 use Rattle.bufr_data.specs.declared.plain.places.PlacedField.{PlacedField}
 use Rattle.bufr_data.specs.Plain.{raw_at}
@@ -68,9 +68,9 @@ HoldPlaced (p ∷ places) front = (p.gap ≤ length front) × (x : Raw × List B
 -- ---- columns
 
 -- the places of the columns of the descriptors in the list
-abbrev pub chosen_places : List ℕ → List Place → List Place
+abbrev pub chosen_places : List ℕ → List ColumnStart → List ColumnStart
 chosen_places list places = filter (λ p. is_listed list p.fxy) places
 
 -- the places kept are those of the descriptors asked for
-abbrev pub AreChosen : List Place → ChosenPlaces → Type 0
+abbrev pub AreChosen : List ColumnStart → ChosenPlaces → Type 0
 AreChosen places kept = kept.places.items ≡ chosen_places kept.asked places

@@ -7,7 +7,7 @@ use Rattle.bufr_expand.specs.Courses as courses
 use Rattle.bufr_expand.specs.declared.walk.Walk.{Walk}
 use Rattle.bufr_expand.specs.Walks as walks
 use Rattle.bufr_fields.specs.declared.field.Field.{Field}
-use Rattle.bufr_data.specs.declared.compressed.index.Place.{Place}
+use Rattle.bufr_data.specs.declared.compressed.index.ColumnStart.{ColumnStart}
 use Rattle.bufr_data.specs.declared.plain.fields.Due.{Due}
 use Rattle.bufr_data.specs.declared.plain.fields.Due.TheVariants.{Step, Text, Nothing}
 use Rattle.bufr_data.specs.declared.plain.layout.LaidField.{LaidField}
@@ -106,9 +106,9 @@ pub record PassesLaid (asks : ℕ → Bool) (old new : List LaidField) (reader :
   pub passed : PassesUnasked asks (fields_laid old reader) (fields_laid new (moved_on reader bits))
 
 -- the values at an index of the columns at these places, as fields
-abbrev pub fields_there : List ℕ → ℕ → ℕ → List Place → List Field
+abbrev pub fields_there : List ℕ → ℕ → ℕ → List ColumnStart → List Field
 fields_there octets n index places = map (field_of index) (map (column_from octets n) places)
 
 -- every place has a column of n subsets, and the index is below n
-abbrev pub StandThere : List ℕ → ℕ → ℕ → List Place → Type 0
+abbrev pub StandThere : List ℕ → ℕ → ℕ → List ColumnStart → Type 0
 StandThere octets n index places = AllOpen octets n places × (index < n)

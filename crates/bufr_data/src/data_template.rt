@@ -7,9 +7,9 @@ ghost use Rattle.bufr_base.specs.Answers.{Gives};
 ghost use Rattle.bufr_fields.specs.declared.field.Subset.{Subset as ASubset};
 ghost use Rattle.bufr_data.specs.Data.{subsets_in};
 
-use crate::plain::alike::FixedSize;
+use crate::plain::field_layout::FieldLayout;
+use crate::plain::fixed_size::FixedSize;
 use crate::plain::index::pass_all;
-use crate::plain::plan::FieldLayout;
 use crate::subset_index::{SubsetIndex, index_known};
 use crate::subsets::read_subsets;
 use bufr_base::{Failure, Items, OutOfMemory};
@@ -25,8 +25,8 @@ use std::marker::Model;
 #[derive(Drop)]
 pub struct DataTemplate {
     template: Template,
-    likeness: FixedSize,
-    plan: FieldLayout,
+    fixed_size: FixedSize,
+    field_layout: FieldLayout,
 }
 
 impl Model for DataTemplate {
@@ -41,7 +41,7 @@ impl Model for DataTemplate {
 
     ghost view = { λ t. t.template };
 
-    ghost invariant = { λ t. IsKnown t.template t.likeness × IsFieldLayout t.template t.plan };
+    ghost invariant = { λ t. IsKnown t.template t.fixed_size × IsFieldLayout t.template t.field_layout };
 }
 
 impl DataTemplate {
@@ -51,8 +51,8 @@ impl DataTemplate {
     {
         DataTemplate {
             template,
-            likeness: FixedSize::Unasked,
-            plan: FieldLayout::Unserved,
+            fixed_size: FixedSize::Unasked,
+            field_layout: FieldLayout::Unserved,
         }
     }
 
@@ -104,7 +104,7 @@ impl DataTemplate {
         if compressed || count == 0 {
             return Ok(false);
         }
-        let Some(each) = self.likeness.ask(alloc, &self.template, reader)? else {
+        let Some(each) = self.fixed_size.find_once(alloc, &self.template, reader)? else {
             return Ok(false);
         };
         Ok(pass_all(each, reader, count))
@@ -148,12 +148,13 @@ impl DataTemplate {
         let alike = if compressed || count == 0 {
             None
         } else {
-            self.likeness.ask(alloc, &self.template, reader)?
+            self.fixed_size.find_once(alloc, &self.template, reader)?
         };
         let template = self.template.share()?;
         let wants_places = !compressed && count > 0 && !asked.is_empty();
         let layout = if alike.is_some() || wants_places {
-            self.plan.serve(alloc, &self.template, asked, count)?
+            self.field_layout
+                .serve(alloc, &self.template, asked, count)?
         } else {
             None
         };

@@ -26,7 +26,7 @@ pub(crate) enum FieldSource<'v> {
 /// fields.
 #[derive(Drop)]
 pub struct Fields<'v> {
-    pub(crate) standing: FieldSource<'v>,
+    pub(crate) source: FieldSource<'v>,
     pub(crate) room: usize,
 }
 
@@ -37,7 +37,7 @@ impl<'v> Model for Fields<'v> {
 
     ghost Value = { List Field };
 
-    ghost view = { λ f. left_of f.standing };
+    ghost view = { λ f. left_of f.source };
 }
 
 impl<'v> Fields<'v> {
@@ -48,7 +48,7 @@ impl<'v> Fields<'v> {
         ensures found { IfOk result (λ found. HandsOut self.old found self.new) }
         ensures err { OnErr result (self.new ≡ self.old) }
     {
-        match &mut self.standing {
+        match &mut self.source {
             FieldSource::Plain(fields) => fields.next(alloc),
             FieldSource::Laid(fields) => fields.next(alloc),
             FieldSource::Compressed(fields) => fields.next(alloc),
@@ -66,7 +66,7 @@ impl<'v> Fields<'v> {
             HandsOutAsked (A.is_asked asked.now) self.old found self.new) }
         ensures err { OnErr result (PassesUnasked (A.is_asked asked.now) self.old self.new) }
     {
-        match &mut self.standing {
+        match &mut self.source {
             FieldSource::Plain(fields) => fields.next_asked(alloc, asked),
             FieldSource::Laid(fields) => fields.next_asked(alloc, asked),
             FieldSource::Compressed(fields) => fields.next_asked(alloc, asked),
@@ -81,7 +81,7 @@ impl<'v> Fields<'v> {
             HandsOutAsked (A.is_asked asked.now) self.old (Some (as_field number)) self.new) }
         ensures others { IfNone result (PassesUnasked (A.is_asked asked.now) self.old self.new) }
     {
-        match &mut self.standing {
+        match &mut self.source {
             FieldSource::Plain(fields) => match fields.next_asked_number(asked) {
                 None => None,
                 Some(number) => Some(number_by_parts(number)),
@@ -92,11 +92,11 @@ impl<'v> Fields<'v> {
     }
 
     /// Returns true if the template shows that no chosen field is left.
-    pub fn tells_no_more<A: Asks>(&self, asked: &A) -> bool
+    pub fn has_no_more<A: Asks>(&self, asked: &A) -> bool
         ensures { OnTrue result (NoneAsked (A.is_asked asked.now) self.now) }
     {
-        match &self.standing {
-            FieldSource::Plain(fields) => fields.tells_no_more(asked),
+        match &self.source {
+            FieldSource::Plain(fields) => fields.has_no_more(asked),
             FieldSource::Laid(_) | FieldSource::Compressed(_) => false,
         }
     }
@@ -107,10 +107,10 @@ impl<'v> Fields<'v> {
         ensures laid { IfOk result (λ fields. fields ≡ self.entry) }
         ensures others { IfErr result (λ fields. fields ≡ self.entry) }
     {
-        match self.standing {
+        match self.source {
             FieldSource::Laid(fields) => Ok(fields),
-            standing => Err(Fields {
-                standing,
+            source => Err(Fields {
+                source,
                 room: self.room,
             }),
         }

@@ -1,8 +1,9 @@
 //! Plain data: one subset after another, bit by bit.
 
-pub(crate) mod alike;
 pub(crate) mod copy;
+pub(crate) mod field_layout;
 pub(crate) mod fields;
+pub(crate) mod fixed_size;
 pub(crate) mod index;
 pub(crate) mod laid_fields;
 pub(crate) mod laid_reader;
@@ -10,7 +11,6 @@ pub(crate) mod layout;
 pub(crate) mod pass;
 pub(crate) mod placed_fields;
 pub(crate) mod places;
-pub(crate) mod plan;
 pub(crate) mod read;
 pub(crate) mod read_each;
 pub(crate) mod starts;

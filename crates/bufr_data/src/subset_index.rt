@@ -17,8 +17,8 @@ ghost use Rattle.bufr_data.specs.Subsets.{Extends, filled};
 use crate::chosen::{ChosenFields, ChosenSource};
 use crate::compressed::index::Columns;
 use crate::fields::Fields;
-use crate::plain::alike::{Alike, FixedSize};
 use crate::plain::copy::{copy_bits, lent_octets};
+use crate::plain::fixed_size::{Alike, FixedSize};
 use crate::plain::index::{PlainSubsets, starts_of};
 use crate::plain::layout::Layout;
 use bufr_base::{Failure, OutOfMemory};
@@ -40,7 +40,7 @@ pub(crate) enum DataIndex<'a> {
 /// subsets.
 #[derive(Drop)]
 pub struct SubsetIndex<'a> {
-    standing: DataIndex<'a>,
+    data_index: DataIndex<'a>,
 }
 
 impl<'a> Model for SubsetIndex<'a> {
@@ -50,7 +50,7 @@ impl<'a> Model for SubsetIndex<'a> {
 
     ghost Value = { List Subset };
 
-    ghost view = { λ s. shown s.standing };
+    ghost view = { λ s. shown s.data_index };
 }
 
 impl<'a> SubsetIndex<'a> {
@@ -69,11 +69,11 @@ impl<'a> SubsetIndex<'a> {
         ensures err { OnErr result (reader.new ≡ reader.old) }
     {
         // For one plain subset, finding the common size costs as much as passing it.
-        let mut likeness = FixedSize::Unasked;
+        let mut fixed_size = FixedSize::Unasked;
         let alike = if compressed || count < 2 {
             None
         } else {
-            likeness.ask(alloc, &template, reader)?
+            fixed_size.find_once(alloc, &template, reader)?
         };
         index_known(alloc, template, &[], alike, None, compressed, reader, count)
     }
@@ -82,7 +82,7 @@ impl<'a> SubsetIndex<'a> {
     pub fn count(&self) -> usize
         ensures { result ≡ length self.now }
     {
-        match &self.standing {
+        match &self.data_index {
             DataIndex::Plain(subsets) => subsets.starts.len(),
             DataIndex::Compressed(columns) => usize::from(columns.count()),
         }
@@ -104,7 +104,7 @@ impl<'a> SubsetIndex<'a> {
         ensures { IfOk result (λ fields.
             slice_get self.now index ≡ Some (record { fields = fields })) }
     {
-        match &self.standing {
+        match &self.data_index {
             DataIndex::Plain(subsets) => subsets.fields(alloc, index),
             DataIndex::Compressed(columns) => {
                 let _count = columns.count();
@@ -122,7 +122,7 @@ impl<'a> SubsetIndex<'a> {
         ensures { IfSome result (λ fields. IfSome (slice_get self.now index) (λ s.
             fields ≡ chosen asked.now s.fields)) }
     {
-        match &self.standing {
+        match &self.data_index {
             DataIndex::Plain(subsets) => {
                 let fields = subsets.chosen(asked, index)?;
                 Some(ChosenFields {
@@ -162,7 +162,7 @@ impl<'a> SubsetIndex<'a> {
             OnOk result (sink.new ≡ sink.old ++ plain s.fields)) }
         ensures kept { Extends sink.old sink.new }
     {
-        match &self.standing {
+        match &self.data_index {
             DataIndex::Plain(subsets) => {
                 let start = subsets.starts.at(index);
                 copy_bits(subsets.octets, start.bit, start.end, sink)
@@ -181,7 +181,7 @@ impl<'a> SubsetIndex<'a> {
         ensures { IfSome result (λ lent. IfSome (slice_get self.now index) (λ s.
             bits lent.now ≡ filled (plain s.fields))) }
     {
-        match &self.standing {
+        match &self.data_index {
             DataIndex::Plain(subsets) => {
                 let start = subsets.starts.at(index);
                 lent_octets(subsets.octets, start.bit, start.end)
@@ -209,7 +209,7 @@ pub(crate) fn index_known<'a>(
     ensures octets { reader.new.octets ≡ reader.old.octets }
     ensures err { OnErr result (reader.new ≡ reader.old) }
 {
-    let standing = if compressed {
+    let data_index = if compressed {
         DataIndex::Compressed(Columns::index_for(alloc, &template, asked, reader, count)?)
     } else {
         let starts = starts_of(alloc, &template, alike, reader, count)?;
@@ -220,5 +220,5 @@ pub(crate) fn index_known<'a>(
             starts,
         })
     };
-    Ok(SubsetIndex { standing })
+    Ok(SubsetIndex { data_index })
 }

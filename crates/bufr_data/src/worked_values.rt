@@ -8,7 +8,7 @@ ghost use Rattle.bufr_data.specs.Plain.{fields_at, raw_at};
 ghost use Rattle.bufr_data.specs.Samples.{sample_course, raws, sample_raws, sample_texts};
 ghost use Rattle.bufr_fields.specs.Samples.{spec_of, number_kinds};
 
-use crate::kept_templates::MOST_KEPT;
+use crate::template_cache::MOST_KEPT;
 use bufr_fields::{DataFault, Raw};
 use bufr_tables::Kind;
 

@@ -120,12 +120,12 @@ unread_ends : (tables : Entries) (reads : ℕ) (old new new' : List Reading) (ar
     → ReadsOn (Number (i + 1)) reads r r' pieces read (Err e)
     → AddsStreams tables reads old new' archive counts (Err e)
 unread_ends tables reads old new new' archive counts streams i r r' pieces read
-    (faults.ReadFailed source) at is ends =
+    (faults.ReadFailed name) at is ends =
     subst (λ s. StreamsEndAt HasFailed s old new') (sym ends.0)
     (ends_here AllReadOut (λ x y. HasFailed y) old new new' streams i r r' at is
     (λ xs ys out. (streams, out)) ends.1)
 unread_ends tables reads old new new' archive counts streams i r r' pieces read
-    (faults.EndlessInput source) at is ends =
+    (faults.EndlessInput name) at is ends =
     subst (λ s. StreamsEndAt (IsEndless reads) s old new') (sym ends.0)
     (ends_here AllReadOut (λ x y. IsEndless reads y) old new new' streams i r r' at is
     (λ xs ys out. (streams, out)) ends.1)
@@ -207,13 +207,13 @@ collects_fails tables reads old new writer writer' archive counts octets done
           (collected_text_is tables archive counts adds.0 octets adds.2 is) w.2),
     )
 collects_fails tables reads old new writer writer' archive counts octets done
-    (faults.ReadFailed source) adds is w = absurd w
+    (faults.ReadFailed name) adds is w = absurd w
 collects_fails tables reads old new writer writer' archive counts octets done
-    (faults.EndlessInput source) adds is w = absurd w
+    (faults.EndlessInput name) adds is w = absurd w
 collects_fails tables reads old new writer writer' archive counts octets done faults.OutOfMemory
     adds is w = absurd w
 collects_fails tables reads old new writer writer' archive counts octets done
-    (faults.Table source fault) adds is w = absurd w
+    (faults.Table name fault) adds is w = absurd w
 collects_fails tables reads old new writer writer' archive counts octets done
     (faults.Listing why) adds is w = absurd w
 collects_fails tables reads old new writer writer' archive counts octets done
@@ -225,14 +225,14 @@ pub collects_ends : (tables : Entries) (reads : ℕ) (old new : List Reading) (w
     (archive : ArchiveView) (counts : FrameCounts) (e : ToolFault)
     → AddsStreams tables reads old new archive counts (Err e)
     → Collects tables reads old new writer writer (Err e)
-collects_ends tables reads old new writer archive counts (faults.ReadFailed source) adds =
+collects_ends tables reads old new writer archive counts (faults.ReadFailed name) adds =
     (adds, refl)
-collects_ends tables reads old new writer archive counts (faults.EndlessInput source) adds =
+collects_ends tables reads old new writer archive counts (faults.EndlessInput name) adds =
     (adds, refl)
 collects_ends tables reads old new writer archive counts faults.OutOfMemory adds = refl
 collects_ends tables reads old new writer archive counts (faults.WriteFailed written) adds =
     absurd adds
-collects_ends tables reads old new writer archive counts (faults.Table source fault) adds =
+collects_ends tables reads old new writer archive counts (faults.Table name fault) adds =
     absurd adds
 collects_ends tables reads old new writer archive counts (faults.Listing why) adds = absurd adds
 collects_ends tables reads old new writer archive counts (faults.Encode number why) adds =
@@ -334,11 +334,11 @@ pub merged_ends : (tables : Entries) (reads : ℕ) (old new new' : List Reading)
     → (m : MergedThrough tables reads old new archive i) → Reached old new m.texts i r
     → new' ≡ set new i r' → ReadsArchive tables (i + 1) reads r r' (Err e)
     → MergesReaders tables reads old new' (Err e)
-merged_ends tables reads old new new' archive i r r' (faults.ReadFailed source) m at is read =
+merged_ends tables reads old new new' archive i r r' (faults.ReadFailed name) m at is read =
     subst (λ s. ArchivesEndAt tables HasFailed s old new') (sym read.0)
     (ends_here (AllArchives tables) (λ x y. HasFailed y) old new new' m.texts i r r' at is
     (λ xs ys out. (m.texts, out, m.lists, m.are)) read.1)
-merged_ends tables reads old new new' archive i r r' (faults.EndlessInput source) m at is read =
+merged_ends tables reads old new new' archive i r r' (faults.EndlessInput name) m at is read =
     subst (λ s. ArchivesEndAt tables (IsEndless reads) s old new') (sym read.0)
     (ends_here (AllArchives tables) (λ x y. IsEndless reads y) old new new' m.texts i r r' at is
     (λ xs ys out. (m.texts, out, m.lists, m.are)) read.1)
@@ -351,7 +351,7 @@ merged_ends tables reads old new new' archive i r r'
 merged_ends tables reads old new new' archive i r r' faults.OutOfMemory m at is read = tt
 merged_ends tables reads old new new' archive i r r' (faults.WriteFailed written) m at is read =
     absurd read
-merged_ends tables reads old new new' archive i r r' (faults.Table source fault) m at is read =
+merged_ends tables reads old new new' archive i r r' (faults.Table name fault) m at is read =
     absurd read
 merged_ends tables reads old new new' archive i r r' (faults.Listing why) m at is read = absurd read
 merged_ends tables reads old new new' archive i r r' (faults.Encode number why) m at is read =
@@ -407,9 +407,9 @@ merges_fails tables reads old new writer writer' archive (faults.WriteFailed wri
   subst (FailsAfter written writer writer') (ap (λ (a : ArchiveView). text a.entries) m.4) w,
 )
 merges_fails tables reads old new writer writer' archive faults.OutOfMemory m w = w
-merges_fails tables reads old new writer writer' archive (faults.ReadFailed source) m w = absurd w
-merges_fails tables reads old new writer writer' archive (faults.EndlessInput source) m w = absurd w
-merges_fails tables reads old new writer writer' archive (faults.Table source fault) m w = absurd w
+merges_fails tables reads old new writer writer' archive (faults.ReadFailed name) m w = absurd w
+merges_fails tables reads old new writer writer' archive (faults.EndlessInput name) m w = absurd w
+merges_fails tables reads old new writer writer' archive (faults.Table name fault) m w = absurd w
 merges_fails tables reads old new writer writer' archive (faults.Listing why) m w = absurd w
 merges_fails tables reads old new writer writer' archive (faults.Encode number why) m w = absurd w
 merges_fails tables reads old new writer writer' archive (faults.NotAnArchive input place) m w =
@@ -418,11 +418,11 @@ merges_fails tables reads old new writer writer' archive (faults.NotAnArchive in
 pub merges_ends : (tables : Entries) (reads : ℕ) (old new : List Reading) (writer : Writing)
     (e : ToolFault) → MergesReaders tables reads old new (Err e)
     → Merges tables reads old new writer writer (Err e)
-merges_ends tables reads old new writer (faults.ReadFailed source) m = (m, refl)
-merges_ends tables reads old new writer (faults.EndlessInput source) m = (m, refl)
+merges_ends tables reads old new writer (faults.ReadFailed name) m = (m, refl)
+merges_ends tables reads old new writer (faults.EndlessInput name) m = (m, refl)
 merges_ends tables reads old new writer (faults.NotAnArchive input place) m = (m, refl)
 merges_ends tables reads old new writer faults.OutOfMemory m = refl
 merges_ends tables reads old new writer (faults.WriteFailed written) m = absurd m
-merges_ends tables reads old new writer (faults.Table source fault) m = absurd m
+merges_ends tables reads old new writer (faults.Table name fault) m = absurd m
 merges_ends tables reads old new writer (faults.Listing why) m = absurd m
 merges_ends tables reads old new writer (faults.Encode number why) m = absurd m

@@ -33,7 +33,7 @@ prints_unread : (reads : ℕ) (old new : Reading) (pieces : Pieces) (read : List
     (first : Writing) (p : Printer) (now : Writing) (e : ToolFault)
     → HasPrintedSince start first p now (sure read) → p.held.items ≡ []
     → ReadsOn (Number 1) reads old new pieces read (Err e)
-    → Prints start.printing start.templates reads old new first now (Err e)
+    → Prints start.printing start.message_reader reads old new first now (Err e)
 prints_unread reads old new pieces read start first p now (faults.ReadFailed which) h none r = (
   r.0,
   r.1,
@@ -143,29 +143,29 @@ stops_further printing tables first now front rest frames e is s = absurd s
 -- stops printing among these frames
 abbrev StopsPrinting : Printer → Writing → Writing → List Found → ToolFault → Type 0
 StopsPrinting start first now frames e =
-    Stops (frames_text start.printing start.templates frames) first now e
+    Stops (frames_text start.printing start.message_reader frames) first now e
 
 pub prints_early : (reads : ℕ) (old new : Reading) (start : Printer) (first : Writing) (p : Printer)
     (now : Writing) (e : ToolFault)
     → EndsEarly (HasPrintedSince start first p now) (p.held.items ≡ [])
     (StopsPrinting start first now) (Number 1) reads old new e
-    → Prints start.printing start.templates reads old new first now (Err e)
+    → Prints start.printing start.message_reader reads old new first now (Err e)
 prints_early reads old new start first p now e (unread pieces read r h none) =
     prints_unread reads old new pieces read start first p now e h none r
 prints_early reads old new start first p now e (at_piece read count on s) =
-    prints_part start.printing start.templates reads old new first now read count e on
-    (stops_further start.printing start.templates first now s.front s.rest (sure read) e s.parted
+    prints_part start.printing start.message_reader reads old new first now read count e on
+    (stops_further start.printing start.message_reader first now s.front s.rest (sure read) e s.parted
     s.stopped)
 prints_early reads old new start first p now e (at_end stream out all given s) =
-    prints_whole start.printing start.templates reads old new first now stream (Err e) out all given
-    (end_stopped start.printing start.templates first now stream e
-    (stops_further start.printing start.templates first now s.front s.rest (cut stream) e s.parted
+    prints_whole start.printing start.message_reader reads old new first now stream (Err e) out all given
+    (end_stopped start.printing start.message_reader first now stream e
+    (stops_further start.printing start.message_reader first now s.front s.rest (cut stream) e s.parted
     s.stopped))
 
 pub prints_made : (printing : Printing) (tables : Entries) (reads : ℕ) (old new : Reading)
     (first now : Writing) (start : Printer) (r : Result Tally ToolFault)
-    → start.printing ≡ printing → start.templates ≡ tables
-    → Prints start.printing start.templates reads old new first now r
+    → start.printing ≡ printing → start.message_reader ≡ tables
+    → Prints start.printing start.message_reader reads old new first now r
     → Prints printing tables reads old new first now r
 prints_made printing tables reads old new first now start r is under h =
     subst (λ q. Prints q tables reads old new first now r) is

@@ -12,7 +12,7 @@ use Rattle.bufr_io.specs.WritingLaws.{writes_none, writes_more, fails_more, fail
 use Rattle.bufr_entries.specs.declared.entry.Entry.{Entry}
 use Rattle.bufr_gather.specs.Archives.{ArchiveView}
 use Rattle.bufr_gather.specs.Texts.{text}
-use Rattle.bufr_engines.specs.declared.parts.Part.{Part}
+use Rattle.bufr_engines.specs.declared.parts.PendingOctets.{PendingOctets}
 use Rattle.bufr_engines.specs.Parts.{Gathers, WritesArchive, joined}
 
 -- ---- one step
@@ -31,13 +31,13 @@ after_out first mid now before written out held rest all (faults.WriteFailed n) 
           (fails_longer first now (out ++ held) rest (length out + more)
           (fails_more first mid now out held more wrote w.2)),
     )
-after_out first mid now before written out held rest all (faults.ReadFailed source) wrote counted
+after_out first mid now before written out held rest all (faults.ReadFailed name) wrote counted
     is w = absurd w
-after_out first mid now before written out held rest all (faults.EndlessInput source) wrote counted
+after_out first mid now before written out held rest all (faults.EndlessInput name) wrote counted
     is w = absurd w
 after_out first mid now before written out held rest all faults.OutOfMemory wrote counted is w =
     absurd w
-after_out first mid now before written out held rest all (faults.Table source fault) wrote counted
+after_out first mid now before written out held rest all (faults.Table name fault) wrote counted
     is w = absurd w
 after_out first mid now before written out held rest all (faults.Listing why) wrote counted is w =
     absurd w
@@ -46,7 +46,7 @@ after_out first mid now before written out held rest all (faults.Encode number w
 after_out first mid now before written out held rest all (faults.NotAnArchive input place) wrote
     counted is w = absurd w
 
-pub gathers_only : (w : Writing) (before : ℕ) (held octets : List ℕ) (part : Part)
+pub gathers_only : (w : Writing) (before : ℕ) (held octets : List ℕ) (part : PendingOctets)
     → w.failed ≡ false → part.written ≡ before → part.octets.items ≡ held ++ octets
     → Gathers w w before held part octets
 gathers_only w before held octets part works counted is = record {
@@ -56,7 +56,7 @@ gathers_only w before held octets part works counted is = record {
   all = is;
 }
 
-pub gathers_behind : (first now : Writing) (before : ℕ) (held octets : List ℕ) (part : Part)
+pub gathers_behind : (first now : Writing) (before : ℕ) (held octets : List ℕ) (part : PendingOctets)
     → WritesAll first now held → part.written ≡ before + length held
     → part.octets.items ≡ octets → Gathers first now before held part octets
 gathers_behind first now before held octets part wrote counted is = record {
@@ -66,7 +66,7 @@ gathers_behind first now before held octets part wrote counted is = record {
   all = ap (λ (xs : List ℕ). held ++ xs) is;
 }
 
-pub gathers_none : (first mid now : Writing) (before : ℕ) (held octets : List ℕ) (part : Part)
+pub gathers_none : (first mid now : Writing) (before : ℕ) (held octets : List ℕ) (part : PendingOctets)
     → WritesAll first mid held → WritesAll mid now octets
     → part.written ≡ before + length held + length octets → part.octets.items ≡ []
     → Gathers first now before held part octets
@@ -91,14 +91,14 @@ joined_text [] = refl
 joined_text (e ∷ es) = ap (λ (xs : List ℕ). e.bytes ++ xs) (joined_text es)
 
 -- all octets so far are written or gathered, and few enough for the count
-pub record Handed (first now : Writing) (part : Part) (all left : List (List ℕ)) : Type 0 where
+pub record Handed (first now : Writing) (part : PendingOctets) (all left : List (List ℕ)) : Type 0 where
   pub done : List (List ℕ)
   pub is : all ≡ done ++ left
   pub gathered : Gathers first now 0 [] part (joined done)
   pub bound : part.written + length part.octets.items ≤ length done * 18446744073709551616
   pub few : length all < 18446744073709551616
 
-pub handed_first : (w : Writing) (part : Part) (all : List (List ℕ)) → w.failed ≡ false
+pub handed_first : (w : Writing) (part : PendingOctets) (all : List (List ℕ)) → w.failed ≡ false
     → part.written ≡ 0 → part.octets.items ≡ [] → length all < 18446744073709551616
     → Handed w w part all all
 handed_first w part all works counted is few =
@@ -110,7 +110,7 @@ handed_first w part all works counted is few =
       few = few;
     }
 
-pub handed_fits : (first now : Writing) (part : Part) (all left rest : List (List ℕ))
+pub handed_fits : (first now : Writing) (part : PendingOctets) (all left rest : List (List ℕ))
     (octets : List ℕ) → Handed first now part all left → left ≡ octets ∷ rest
     → part.written + length part.octets.items + 18446744073709551616
     ≤ 340282366920938463463374607431768211456
@@ -121,7 +121,7 @@ handed_fits first now part all left rest octets h is =
     let few = h.few in
     omega (arith, long, bound, few)
 
-pub handed_next : (first mid now : Writing) (part part' : Part) (all left rest : List (List ℕ))
+pub handed_next : (first mid now : Writing) (part part' : PendingOctets) (all left rest : List (List ℕ))
     (octets : List ℕ) → Handed first mid part all left → left ≡ octets ∷ rest
     → Gathers mid now part.written part.octets.items part' octets
     → length octets < 18446744073709551616 → Handed first now part' all rest
@@ -163,7 +163,7 @@ all_joined : (all done left : List (List ℕ)) → all ≡ done ++ left → left
 all_joined all done left is none =
     ap joined (is ∙ ap (λ (xs : List (List ℕ)). done ++ xs) none ∙ append-nil done)
 
-pub handed_all : (first mid now : Writing) (part : Part) (all left : List (List ℕ))
+pub handed_all : (first mid now : Writing) (part : PendingOctets) (all left : List (List ℕ))
     (r : Result (Unit {0}) ToolFault) → Handed first mid part all left → left ≡ []
     → WritesAfter part.written part.octets.items mid now r → WritesAfter 0 (joined all) first now r
 handed_all first mid now part all left (Ok done) h none w =
@@ -175,7 +175,7 @@ handed_all first mid now part all left (Err e) h none w =
     (all_joined all h.done left h.is none ∙ sym h.gathered.all
     ∙ sym (append-nil (h.gathered.out ++ part.octets.items))) w
 
-pub handed_fails : (first mid now : Writing) (part : Part) (all left rest : List (List ℕ))
+pub handed_fails : (first mid now : Writing) (part : PendingOctets) (all left rest : List (List ℕ))
     (octets : List ℕ) (e : ToolFault) → Handed first mid part all left → left ≡ octets ∷ rest
     → WritesAfter part.written (part.octets.items ++ octets) mid now (Err e)
     → WritesAfter 0 (joined all) first now (Err e)
@@ -196,10 +196,10 @@ archive_fails old new archive octets (faults.WriteFailed written) is w =
     let same : written ≡ w.0 = omega (arith, w.1) in
     subst (λ (n : ℕ). FailsAfter n old new (text archive.entries)) (sym same)
     (subst (FailsAfter w.0 old new) is w.2)
-archive_fails old new archive octets (faults.ReadFailed source) is w = absurd w
-archive_fails old new archive octets (faults.EndlessInput source) is w = absurd w
+archive_fails old new archive octets (faults.ReadFailed name) is w = absurd w
+archive_fails old new archive octets (faults.EndlessInput name) is w = absurd w
 archive_fails old new archive octets faults.OutOfMemory is w = absurd w
-archive_fails old new archive octets (faults.Table source fault) is w = absurd w
+archive_fails old new archive octets (faults.Table name fault) is w = absurd w
 archive_fails old new archive octets (faults.Listing why) is w = absurd w
 archive_fails old new archive octets (faults.Encode number why) is w = absurd w
 archive_fails old new archive octets (faults.NotAnArchive input place) is w = absurd w

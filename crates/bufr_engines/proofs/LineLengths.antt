@@ -24,14 +24,14 @@ use Rattle.bufr_sections.specs.declared.message.Message.{Message}
 use Rattle.bufr_message.specs.SmallSubsets.{IsSmall, IsSmallField, HasSmallFields, HasSmallSubsets}
 use Rattle.bufr_engines.specs.ShortListings.{HasShortListing}
 use Rattle.bufr_fields.specs.Values.{size_of, digits_by, text_of, is_missing, decimal_within}
-use Rattle.bufr_listing.specs.Listings.{stands_for_itself, quoted_octet, quoted, number_word}
+use Rattle.bufr_listing.specs.Listings.{is_literal, quoted_octet, quoted, number_word}
 use Rattle.bufr_listing.specs.Listings.{value_word, field_line, line, joined, subset_lines}
 
 -- ---- texts
 
 octet_short : (c : ℕ) → length (quoted_octet c) ≤ 3
 unfolding encode_with
-octet_short c = by_test (stands_for_itself c)
+octet_short c = by_test (is_literal c)
   where
     by_test : (b : Bool) → length (if b then c ∷ [] else 92 ∷ encode_lower (c ∷ [])) ≤ 3
     by_test true = omega arith

@@ -73,7 +73,7 @@ frame_ends printing tables frame p q p' first mid last (Err e) part keeps short 
     )
 
 pub printed_none : (printing : Printing) (tables : Entries) (first : Writing) (p : Printer)
-    → p.printing ≡ printing → p.templates ≡ tables → p.frames ≡ 0 → p.refused ≡ 0 → p.octets ≡ 0
+    → p.printing ≡ printing → p.message_reader ≡ tables → p.frames ≡ 0 → p.refused ≡ 0 → p.octets ≡ 0
     → p.written ≡ 0 → p.held.items ≡ [] → first.failed ≡ false
     → HasPrinted printing tables first first p []
 printed_none printing tables first p is under frames refused inside out held works = record {
@@ -90,7 +90,7 @@ printed_none printing tables first p is under frames refused inside out held wor
 pub told : (printing : Printing) (tables : Entries) (first mid now : Writing) (p p' : Printer)
     (frames : List Found) (frame : Found) (r : Result (Unit {0}) ToolFault)
     → HasPrinted printing tables first mid p frames
-    → PrintsFrame p.printing p.templates frame p p' mid now r
+    → PrintsFrame p.printing p.message_reader frame p p' mid now r
     → PrintsFrame printing tables frame p p' mid now r
 told printing tables first mid now p p' frames frame r h prints =
     subst (λ q. PrintsFrame q tables frame p p' mid now r) h.printing_is
@@ -99,8 +99,8 @@ told printing tables first mid now p p' frames frame r h prints =
 pub printed_more : (printing : Printing) (tables : Entries) (first mid now : Writing)
     (p p' : Printer) (frames : List Found) (frame : Found) (done : Unit {0})
     → HasPrinted printing tables first mid p frames
-    → PrintsFrame p.printing p.templates frame p p' mid now (Ok done)
-    → p'.printing ≡ p.printing → p'.templates ≡ p.templates
+    → PrintsFrame p.printing p.message_reader frame p p' mid now (Ok done)
+    → p'.printing ≡ p.printing → p'.message_reader ≡ p.message_reader
     → HasPrinted printing tables first now p' (frames ++ frame ∷ [])
 printed_more printing tables first mid now p p' frames frame done h prints is under =
     let a = told printing tables first mid now p p' frames frame (Ok done) h prints in
@@ -184,7 +184,7 @@ refused_at_most printing tables first now p frames h =
 pub stopped : (printing : Printing) (tables : Entries) (first mid now : Writing)
     (p p' : Printer) (frames : List Found) (frame : Found) (e : ToolFault)
     → HasPrinted printing tables first mid p frames
-    → PrintsFrame p.printing p.templates frame p p' mid now (Err e)
+    → PrintsFrame p.printing p.message_reader frame p p' mid now (Err e)
     → StopsWithin (frames_text printing tables (frames ++ frame ∷ [])) first p' now e
 stopped printing tables first mid now p p' frames frame e h prints =
     let a = told printing tables first mid now p p' frames frame (Err e) h prints in

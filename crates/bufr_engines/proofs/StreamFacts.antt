@@ -31,17 +31,17 @@ pub since_none : (first : Writing) (p : Printer) → p.frames ≡ 0 → p.refuse
     → HasPrintedSince p first p first []
 since_none first p frames refused inside out held works = record {
   counted = omega arith;
-  printed = printed_none p.printing p.templates first p refl refl frames refused inside out held works;
+  printed = printed_none p.printing p.message_reader first p refl refl frames refused inside out held works;
 }
 
 pub since_more : (start : Printer) (first mid now : Writing) (p p' : Printer) (frames : List Found)
     (frame : Found) (done : Unit {0}) → HasPrintedSince start first p mid frames
-    → PrintsFrame p.printing p.templates frame p p' mid now (Ok done)
-    → p'.printing ≡ p.printing → p'.templates ≡ p.templates
+    → PrintsFrame p.printing p.message_reader frame p p' mid now (Ok done)
+    → p'.printing ≡ p.printing → p'.message_reader ≡ p.message_reader
     → HasPrintedSince start first p' now (frames ++ frame ∷ [])
 since_more start first mid now p p' frames frame done h prints is under = record {
   counted = omega (arith, h.counted, prints.frames, length-append frames (frame ∷ []));
-  printed = printed_more start.printing start.templates first mid now p p' frames frame done
+  printed = printed_more start.printing start.message_reader first mid now p p' frames frame done
       h.printed prints is under;
 }
 
@@ -54,7 +54,7 @@ pub held_taken : {B : Type 0} (writing : B → Writing) (p p' : Printer) (mid no
     → HasPrintedSince start (writing begin) p' now frames)
 held_taken writing p p' mid now (Ok done) w keeps = λ start begin frames h. record {
   counted = keeps.frames ∙ h.counted;
-  printed = printed_written start.printing start.templates (writing begin) mid now p p' frames done
+  printed = printed_written start.printing start.message_reader (writing begin) mid now p p' frames done
       h.printed w keeps;
 }
 held_taken writing p p' mid now (Err e) w keeps = tt
@@ -68,10 +68,10 @@ pub held_stopped : {B : Type 0} (writing : B → Writing) (p p' : Printer) (mid 
     (r : Result (Unit {0}) ToolFault) → WritesHeld p p' mid now r
     → IfErr r (λ e. (start : Printer) (begin : B) (frames : List Found)
     → HasPrintedSince start (writing begin) p mid frames
-    → Stops (frames_text start.printing start.templates frames) (writing begin) now e)
+    → Stops (frames_text start.printing start.message_reader frames) (writing begin) now e)
 held_stopped writing p p' mid now (Ok done) w = tt
 held_stopped writing p p' mid now (Err e) w = λ start begin frames h.
-    let text = frames_text start.printing start.templates frames in
+    let text = frames_text start.printing start.message_reader frames in
     stops_failed text (writing begin) now e
     (held_fails p.held.items text [] text 0 p.written (writing begin) mid now e
     (sym (append-nil text)) h.printed.text w)

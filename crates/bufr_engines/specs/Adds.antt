@@ -48,10 +48,10 @@ abbrev pub AddsStreams : Entries → ℕ → List Reading → List Reading → A
 AddsStreams tables reads olds news archive counts (Ok done) =
     (streams : List (List ℕ)) × WereReadOut olds news streams
     × HasAdded tables archive counts (frames_of streams)
-AddsStreams tables reads olds news archive counts (Err (faults.ReadFailed source)) =
-    StreamsEndAt HasFailed source olds news
-AddsStreams tables reads olds news archive counts (Err (faults.EndlessInput source)) =
-    StreamsEndAt (IsEndless reads) source olds news
+AddsStreams tables reads olds news archive counts (Err (faults.ReadFailed name)) =
+    StreamsEndAt HasFailed name olds news
+AddsStreams tables reads olds news archive counts (Err (faults.EndlessInput name)) =
+    StreamsEndAt (IsEndless reads) name olds news
 AddsStreams tables reads olds news archive counts (Err faults.OutOfMemory) = Unit {0}
 AddsStreams tables reads olds news archive counts (Err fault) = ⊥
 
@@ -80,10 +80,10 @@ MergesReaders tables reads olds news (Ok archive) =
     (texts : List (List ℕ)) × WereReadOut olds news texts
     × (lists : List (List Report)) × AreTextsOf tables texts lists
     × (archive ≡ archive_of tables (all_of lists))
-MergesReaders tables reads olds news (Err (faults.ReadFailed source)) =
-    ArchivesEndAt tables HasFailed source olds news
-MergesReaders tables reads olds news (Err (faults.EndlessInput source)) =
-    ArchivesEndAt tables (IsEndless reads) source olds news
+MergesReaders tables reads olds news (Err (faults.ReadFailed name)) =
+    ArchivesEndAt tables HasFailed name olds news
+MergesReaders tables reads olds news (Err (faults.EndlessInput name)) =
+    ArchivesEndAt tables (IsEndless reads) name olds news
 MergesReaders tables reads olds news (Err (faults.NotAnArchive input place)) =
     EndsAt (AllArchives tables) (IsNoArchive tables place) input olds news
 MergesReaders tables reads olds news (Err faults.OutOfMemory) = Unit {0}

@@ -42,10 +42,10 @@ Collects tables reads readers readers' writer writer' (Ok tally) =
 Collects tables reads readers readers' writer writer' (Err (faults.WriteFailed written)) =
     (streams : List (List ℕ)) × WereReadOut readers readers' streams
     × FailsAfter written writer writer' (collected_text tables streams)
-Collects tables reads readers readers' writer writer' (Err (faults.ReadFailed source)) =
-    StreamsEndAt HasFailed source readers readers' × (writer' ≡ writer)
-Collects tables reads readers readers' writer writer' (Err (faults.EndlessInput source)) =
-    StreamsEndAt (IsEndless reads) source readers readers' × (writer' ≡ writer)
+Collects tables reads readers readers' writer writer' (Err (faults.ReadFailed name)) =
+    StreamsEndAt HasFailed name readers readers' × (writer' ≡ writer)
+Collects tables reads readers readers' writer writer' (Err (faults.EndlessInput name)) =
+    StreamsEndAt (IsEndless reads) name readers readers' × (writer' ≡ writer)
 Collects tables reads readers readers' writer writer' (Err faults.OutOfMemory) =
     writer' ≡ writer
 Collects tables reads readers readers' writer writer' (Err fault) = ⊥
@@ -87,10 +87,10 @@ Merges tables reads readers readers' writer writer' (Err (faults.WriteFailed wri
     (texts : List (List ℕ)) × WereReadOut readers readers' texts
     × (lists : List (List Report)) × AreTextsOf tables texts lists
     × FailsAfter written writer writer' (merged_text tables lists)
-Merges tables reads readers readers' writer writer' (Err (faults.ReadFailed source)) =
-    ArchivesEndAt tables HasFailed source readers readers' × (writer' ≡ writer)
-Merges tables reads readers readers' writer writer' (Err (faults.EndlessInput source)) =
-    ArchivesEndAt tables (IsEndless reads) source readers readers' × (writer' ≡ writer)
+Merges tables reads readers readers' writer writer' (Err (faults.ReadFailed name)) =
+    ArchivesEndAt tables HasFailed name readers readers' × (writer' ≡ writer)
+Merges tables reads readers readers' writer writer' (Err (faults.EndlessInput name)) =
+    ArchivesEndAt tables (IsEndless reads) name readers readers' × (writer' ≡ writer)
 Merges tables reads readers readers' writer writer' (Err (faults.NotAnArchive input place)) =
     EndsAt (AllArchives tables) (IsNoArchive tables place) input readers readers'
     × (writer' ≡ writer)

@@ -90,10 +90,10 @@ Encodes compressed tables reads reader reader' writer writer' (Err (faults.Listi
 Encodes compressed tables reads reader reader' writer writer' (Err (faults.Encode number why)) =
     (messages : List Message) × ListsMessages tables reader reader' messages
     × IsFirstNotEncoded tables compressed messages number why × (writer' ≡ writer)
-Encodes compressed tables reads reader reader' writer writer' (Err (faults.ReadFailed source)) =
-    (source ≡ Number 1) × HasFailed reader' × (writer' ≡ writer)
-Encodes compressed tables reads reader reader' writer writer' (Err (faults.EndlessInput source)) =
-    (source ≡ Number 1) × IsEndless reads reader' × (writer' ≡ writer)
+Encodes compressed tables reads reader reader' writer writer' (Err (faults.ReadFailed name)) =
+    (name ≡ Number 1) × HasFailed reader' × (writer' ≡ writer)
+Encodes compressed tables reads reader reader' writer writer' (Err (faults.EndlessInput name)) =
+    (name ≡ Number 1) × IsEndless reads reader' × (writer' ≡ writer)
 Encodes compressed tables reads reader reader' writer writer' (Err faults.OutOfMemory) =
     writer' ≡ writer
 Encodes compressed tables reads reader reader' writer writer' (Err fault) = ⊥

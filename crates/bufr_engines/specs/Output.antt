@@ -6,9 +6,9 @@ use Rattle.bufr_tables.specs.Entries.{Entries}
 use Rattle.bufr_frame.specs.declared.frames.Found.{Found}
 use Rattle.bufr_frame.specs.Streams.{cut}
 use Rattle.bufr_message.specs.declared.Decoded.{Decoded}
-use Rattle.bufr_message.specs.declared.Judged.{Judged}
+use Rattle.bufr_message.specs.declared.Summary.{Summary}
 use Rattle.bufr_message.specs.declared.Refused.{Refused}
-use Rattle.bufr_message.specs.Judged.{judged}
+use Rattle.bufr_message.specs.Summary.{summary}
 use Rattle.bufr_message.specs.Messages.{message_of}
 use Rattle.bufr_message.specs.declared.Field.{Field}
 use Rattle.bufr_listing.specs.Listings.{line, field_line, listing}
@@ -35,13 +35,13 @@ place_and_length frame = decimal frame.place ++ 32 ∷ decimal (length frame.byt
 
 -- the line of `check` for a frame that spells a message: the number of its subsets, and the number
 -- of octets of section 4 after the data
-abbrev pub checked_line : Found → Judged → List ℕ
+abbrev pub checked_line : Found → Summary → List ℕ
 checked_line frame said = place_and_length frame ++ codes " ok "
     ++ decimal said.subsets ++ 32 ∷ decimal said.slack_octets ++ 10 ∷ []
 
 -- the line of `check` for a frame: the line of its message, or the refusal
 abbrev pub checked_as : Found → Result Decoded Refused → List ℕ
-checked_as frame (Ok found) = checked_line frame (judged found)
+checked_as frame (Ok found) = checked_line frame (summary found)
 checked_as frame (Err why) = place_and_length frame ++ codes " refused " ++ reason why ++ 10 ∷ []
 
 -- the text of either command for a frame

@@ -7,7 +7,7 @@ use Rattle.bufr_io.specs.declared.fault.ToolFault.TheVariants as faults
 use Rattle.bufr_io.specs.Engines.{WritesAll, FailsAfter, WritesAfter}
 use Rattle.bufr_gather.specs.Archives.{ArchiveView}
 use Rattle.bufr_gather.specs.Texts.{text}
-use Rattle.bufr_engines.specs.declared.parts.Part.{Part}
+use Rattle.bufr_engines.specs.declared.parts.PendingOctets.{PendingOctets}
 
 -- octets of entries, one after the other
 abbrev pub joined : List (List ℕ) → List ℕ
@@ -15,7 +15,7 @@ joined lists = flat_map (λ octets. octets) lists
 
 -- writes some octets after the first `before`; the part has the rest of the octets gathered before
 -- and of these
-pub record Gathers (old new : Writing) (before : ℕ) (gathered : List ℕ) (part : Part)
+pub record Gathers (old new : Writing) (before : ℕ) (gathered : List ℕ) (part : PendingOctets)
     (octets : List ℕ) : Type 0 where
   pub out : List ℕ
   pub wrote : WritesAll old new out
@@ -23,7 +23,7 @@ pub record Gathers (old new : Writing) (before : ℕ) (gathered : List ℕ) (par
   pub all : out ++ part.octets.items ≡ gathered ++ octets
 
 -- gathers the octets, or the writer fails after the first of all of them
-abbrev pub HandsOn : Writing → Writing → ℕ → List ℕ → Part → List ℕ → Result (Unit {0}) ToolFault
+abbrev pub HandsOn : Writing → Writing → ℕ → List ℕ → PendingOctets → List ℕ → Result (Unit {0}) ToolFault
     → Type 0
 HandsOn old new before gathered part octets (Ok done) = Gathers old new before gathered part octets
 HandsOn old new before gathered part octets (Err fault) =

@@ -40,11 +40,11 @@ Prints printing tables reads reader reader' writer writer' (Ok tally) =
     WasReadOut reader' × (stream : List ℕ) × AreAllOf reader stream
     × WritesAll writer writer' (stream_text printing tables stream)
     × (tally ≡ tally_of printing tables stream)
-Prints printing tables reads reader reader' writer writer' (Err (faults.ReadFailed source)) =
-    (source ≡ Number 1) × HasFailed reader' × (read : List ℕ) × HasGiven reader reader' read
+Prints printing tables reads reader reader' writer writer' (Err (faults.ReadFailed name)) =
+    (name ≡ Number 1) × HasFailed reader' × (read : List ℕ) × HasGiven reader reader' read
     × WritesAll writer writer' (frames_text printing tables (sure read))
-Prints printing tables reads reader reader' writer writer' (Err (faults.EndlessInput source)) =
-    (source ≡ Number 1) × IsEndless reads reader' × (read : List ℕ) × HasGiven reader reader' read
+Prints printing tables reads reader reader' writer writer' (Err (faults.EndlessInput name)) =
+    (name ≡ Number 1) × IsEndless reads reader' × (read : List ℕ) × HasGiven reader reader' read
     × WritesAll writer writer' (frames_text printing tables (sure read))
 Prints printing tables reads reader reader' writer writer' (Err (faults.WriteFailed written)) =
     (reader'.failed ≡ false) × (read : List ℕ) × HasGiven reader reader' read
@@ -119,7 +119,7 @@ WritesPart p p' writer writer' (Err fault) =
 -- the command, the tables and the counts stay; lines may move to the writer
 pub record Keeps (p p' : Printer) : Type 0 where
   pub printing : p'.printing ≡ p.printing
-  pub tables : p'.templates ≡ p.templates
+  pub tables : p'.message_reader ≡ p.message_reader
   pub frames : p'.frames ≡ p.frames
   pub refused : p'.refused ≡ p.refused
   pub octets : p'.octets ≡ p.octets
@@ -153,7 +153,7 @@ PrintsFrame printing tables frame p p' writer writer' (Err fault) =
 pub record HasPrinted (printing : Printing) (tables : Entries) (first now : Writing)
     (p : Printer) (frames : List Found) : Type 0 where
   pub printing_is : p.printing ≡ printing
-  pub tables_are : p.templates ≡ tables
+  pub tables_are : p.message_reader ≡ tables
   pub text : WritesAllBut p.held.items (frames_text printing tables frames) 0 p.written
       first now
   pub frames_are : p.frames ≡ length frames
@@ -179,7 +179,7 @@ Stops text first now fault = ⊥
 pub record HasPrintedSince (start : Printer) (first : Writing) (p : Printer) (now : Writing)
     (frames : List Found) : Type 0 where
   pub counted : p.frames ≡ start.frames + length frames
-  pub printed : HasPrinted start.printing start.templates first now p frames
+  pub printed : HasPrinted start.printing start.message_reader first now p frames
 
 -- has printed all frames of a stream of `fed` octets, which has ended
 pub record HasEnded (printing : Printing) (tables : Entries) (first now : Writing) (p : Printer)

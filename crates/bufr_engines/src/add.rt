@@ -3,11 +3,11 @@ ghost use Rattle.bufr_engines.specs.Collects.{Collects};
 ghost use Rattle.bufr_io.specs.Readers.{AreFresh, AreReadAtMost};
 ghost use Rattle.bufr_io.specs.Limits.{most_reads};
 
-use crate::parts::{Part, hand_on};
+use crate::parts::{PendingOctets, hand_on};
 use crate::streams::{FrameCounts, add_streams};
 use bufr_bits::{Sink, Source};
 use bufr_gather::ArchiveBuilder;
-use bufr_io::{Tally, ToolFault, room, write_out};
+use bufr_io::{Tally, ToolFault, read_buffer, write_out};
 use bufr_tables::Tables;
 use std::alloc::Global;
 
@@ -27,25 +27,32 @@ pub fn run_add<S: Source, W: Sink>(
     ensures adds { Collects tables.now reads (map S.reading readers.old)
         (map S.reading readers.new) (W.writing writer.old) (W.writing writer.new) result }
 {
-    let mut room = room(alloc)?;
+    let mut buffer = read_buffer(alloc)?;
     let mut builder = ArchiveBuilder::new(alloc, tables);
     let mut counts = FrameCounts {
         frames: 0,
         refused: 0,
     };
-    add_streams(alloc, reads, readers, &mut room, &mut builder, &mut counts)?;
+    add_streams(
+        alloc,
+        reads,
+        readers,
+        &mut buffer,
+        &mut builder,
+        &mut counts,
+    )?;
     let kept = builder.into_octets()?;
     let reports = kept.len() as u128;
-    room.clear();
-    let mut part = Part {
-        octets: room,
+    buffer.clear();
+    let mut pending = PendingOctets {
+        octets: buffer,
         written: 0,
     };
     let mut left = kept.lent();
     while let Some(octets) = left.next() {
-        hand_on(writer, &mut part, octets)?;
+        hand_on(writer, &mut pending, octets)?;
     }
-    write_out(writer, part.written, &part.octets)?;
+    write_out(writer, pending.written, &pending.octets)?;
     Ok(Tally {
         frames: counts.frames,
         refused: counts.refused,

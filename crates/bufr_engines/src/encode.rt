@@ -9,7 +9,7 @@ use bufr_base::Failure;
 use bufr_bits::{Sink, Source};
 use bufr_io::{Input, Tally, ToolFault, read_all, write_out};
 use bufr_listing_reader::Messages;
-use bufr_message::{EncodeFault, KeptTemplates, Message, keep_and_encode};
+use bufr_message::{EncodeFault, Message, TemplateCache, keep_and_encode};
 use bufr_tables::Tables;
 use std::alloc::Global;
 
@@ -57,7 +57,7 @@ fn octets_of(
 ) -> Result<Encoded, ToolFault>
     ensures { EncodesListing tables.now compressed text.now result }
 {
-    let mut templates = KeptTemplates::new(alloc, tables);
+    let mut templates = TemplateCache::new(alloc, tables);
     let mut octets = Vec::new(alloc);
     let count = add_listed(alloc, tables, &mut templates, compressed, text, &mut octets)?;
     Ok(Encoded { octets, count })
@@ -69,7 +69,7 @@ fn octets_of(
 fn add_listed(
     alloc: Global,
     tables: &Tables,
-    templates: &mut KeptTemplates<'_>,
+    templates: &mut TemplateCache<'_>,
     compressed: bool,
     text: &[u8],
     octets: &mut Vec<u8>,
@@ -128,7 +128,7 @@ fn pass_all(alloc: Global, mut messages: Messages<'_>) -> Result<(), ToolFault>
 /// Adds the octets of a message.
 fn add_octets(
     alloc: Global,
-    templates: &mut KeptTemplates<'_>,
+    templates: &mut TemplateCache<'_>,
     compressed: bool,
     message: Message,
     octets: &mut Vec<u8>,
@@ -148,7 +148,7 @@ fn add_octets(
 /// Encodes a message, compressed if it has that flag or `compressed` is set.
 fn octets_as_asked(
     alloc: Global,
-    templates: &mut KeptTemplates<'_>,
+    templates: &mut TemplateCache<'_>,
     compressed: bool,
     mut message: Message,
 ) -> Result<Vec<u8>, Failure<EncodeFault>>

@@ -12,7 +12,7 @@ ghost use Rattle.bufr_engines.specs.StreamEngines.{HasEnded, HasPrintedSince, Pr
 use crate::printer::Printer;
 use crate::printing::{Printing, hold_tally};
 use bufr_bits::{Sink, Source};
-use bufr_io::{Input, TakesFrames, Tally, ToolFault, room, take_stream, write_out};
+use bufr_io::{Input, TakesFrames, Tally, ToolFault, read_buffer, take_stream, write_out};
 use bufr_tables::Tables;
 use std::alloc::Global;
 
@@ -27,7 +27,7 @@ impl<'t, W: Sink> TakesFrames<W> for Printer<'t> {
     ghost HoldsNone = { λ printer writer. printer.held.items ≡ [] };
 
     ghost HasStopped = { λ first begin printer writer frames fault.
-        Stops (frames_text first.printing first.templates frames) (W.writing begin)
+        Stops (frames_text first.printing first.message_reader frames) (W.writing begin)
         (W.writing writer) fault };
 
     fn take_frame(
@@ -101,15 +101,15 @@ pub(crate) fn print_stream<S: Source, W: Sink>(
     ensures prints { Prints printing tables.now reads (S.reading reader.old) (S.reading reader.new)
         (W.writing writer.old) (W.writing writer.new) result }
 {
-    let mut room = room(alloc)?;
+    let mut buffer = read_buffer(alloc)?;
     let mut printer = Printer::new(alloc, printing, tables);
-    let source = Input::Number(1);
+    let name = Input::Number(1);
     let fed = take_stream(
         alloc,
         reads,
-        source,
+        name,
         reader,
-        &mut room,
+        &mut buffer,
         &mut printer,
         writer,
     )?;

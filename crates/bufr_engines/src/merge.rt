@@ -9,12 +9,12 @@ ghost use Rattle.bufr_engines.specs.Parts.{WritesArchive};
 ghost use Rattle.bufr_io.specs.Readers.{AreFresh, AreReadAtMost};
 ghost use Rattle.bufr_engines.specs.Stacks.{together, AreUnderTables};
 
-use crate::parts::{Part, write_merged};
+use crate::parts::{PendingOctets, write_merged};
 use crate::text_stack::{merge_upper, settle};
 use bufr_base::Failure;
 use bufr_bits::{Sink, Source};
 use bufr_gather::{ArchiveText, NotAnArchive};
-use bufr_io::{Input, Tally, ToolFault, read_all, room};
+use bufr_io::{Input, Tally, ToolFault, read_all, read_buffer};
 use bufr_tables::Tables;
 use std::alloc::Global;
 
@@ -85,13 +85,13 @@ fn write_both<'t, W: Sink>(
 {
     let mut left = lowest.merged_with(alloc, upper)?;
     let reports = left.len() as u128;
-    let mut room = room(alloc)?;
-    room.clear();
-    let mut part = Part {
-        octets: room,
+    let mut buffer = read_buffer(alloc)?;
+    buffer.clear();
+    let mut pending = PendingOctets {
+        octets: buffer,
         written: 0,
     };
-    write_merged(&mut left, &mut part, writer)?;
+    write_merged(&mut left, &mut pending, writer)?;
     Ok(reports)
 }
 

@@ -22,14 +22,14 @@ use bufr_base::{Failure, OutOfMemory};
 use bufr_bits::Sink;
 use bufr_io::{ToolFault, write_after};
 use bufr_listing::laws::{listings_are_joined_parts, subsets_are_joined_lines};
-use bufr_listing::{KeptHeading, end_text, push_subset_line};
+use bufr_listing::{LastHeading, end_text, push_subset_line};
 use bufr_message::laws::subsets_are_small;
 use bufr_message::{Fields, MessageReader, Refused, View};
 use bufr_tables::Tables;
 use std::alloc::Global;
 
 /// The number of held octets at which the printer writes them.
-const PART: usize = 65_536;
+const LONGEST_HELD: usize = 65_536;
 
 /// A printer of the frames of a stream.
 #[derive(Drop)]
@@ -37,7 +37,7 @@ pub(crate) struct Printer<'t> {
     /// What it prints.
     pub(crate) printing: Printing,
     /// The reader of messages.
-    pub(crate) templates: MessageReader<'t>,
+    pub(crate) message_reader: MessageReader<'t>,
     /// All frames that it printed.
     pub(crate) frames: u128,
     /// The refused frames.
@@ -49,13 +49,13 @@ pub(crate) struct Printer<'t> {
     /// The lines that it did not write yet.
     pub(crate) held: Vec<u8>,
     /// The lines of the last message before its first subset.
-    pub(crate) heading: KeptHeading,
+    pub(crate) heading: LastHeading,
 }
 
 impl<'t> Printer<'t> {
     pub(crate) fn new(alloc: Global, printing: Printing, tables: &'t Tables) -> Printer<'t>
         ensures printing { result.printing ≡ printing }
-        ensures tables { result.templates ≡ tables.now }
+        ensures tables { result.message_reader ≡ tables.now }
         ensures frames { result.frames ≡ 0 }
         ensures refused { result.refused ≡ 0 }
         ensures octets { result.octets ≡ 0 }
@@ -64,13 +64,13 @@ impl<'t> Printer<'t> {
     {
         Printer {
             printing,
-            templates: MessageReader::new(alloc, tables),
+            message_reader: MessageReader::new(alloc, tables),
             frames: 0,
             refused: 0,
             octets: 0,
             written: 0,
             held: Vec::new(alloc),
-            heading: KeptHeading::new(alloc),
+            heading: LastHeading::new(alloc),
         }
     }
 
@@ -86,9 +86,9 @@ impl<'t> Printer<'t> {
         if self.held.is_empty() {
             return Ok(());
         }
-        let long = self.held.len() as u128;
+        let length = self.held.len() as u128;
         write_after(writer, self.written, &self.held)?;
-        self.written += long;
+        self.written += length;
         self.held.clear();
         Ok(())
     }
@@ -104,7 +104,7 @@ impl<'t> Printer<'t> {
         ensures short { self.new.written + length self.new.held.items
             < self.old.written + 2 ^ 64 }
     {
-        if self.held.len() < PART {
+        if self.held.len() < LONGEST_HELD {
             return Ok(());
         }
         self.write_held(writer)
@@ -134,7 +134,7 @@ impl<'t> Printer<'t> {
     }
 
     /// Prints the listing of a message. It builds one field at a time. It holds at most the lines
-    /// before the first subset, or `PART` octets, and the line of one field.
+    /// before the first subset, or `LONGEST_HELD` octets, and the line of one field.
     fn print_listing<W: Sink>(
         &mut self,
         alloc: Global,
@@ -177,18 +177,18 @@ impl<'t> Printer<'t> {
         requires fits { self.old.written + 2 ^ 80 ≤ 2 ^ 128 }
         requires lines { AreWholeLines self.old.held.items }
         ensures prints { OnOk result (WritesAllBut self.new.held.items (self.old.held.items
-            ++ frame_text Shown self.old.templates (frame_at place octets.now))
+            ++ frame_text Shown self.old.message_reader (frame_at place octets.now))
             self.old.written self.new.written (W.writing writer.old) (W.writing writer.new)) }
         ensures stops { IfErr result (λ fault. Adds
-            (frame_text Shown self.old.templates (frame_at place octets.now))
+            (frame_text Shown self.old.message_reader (frame_at place octets.now))
             self.old self.new (W.writing writer.old) (W.writing writer.new) (Err fault)) }
         ensures told { IfOk result (λ refused. from_bool refused
-            ≡ frame_refused self.old.templates (frame_at place octets.now)) }
+            ≡ frame_refused self.old.message_reader (frame_at place octets.now)) }
         ensures keeps { Keeps self.old self.new }
         ensures short { self.new.written + 2 ^ 64 ≤ self.old.written + 2 ^ 80 }
     {
         subsets_are_small();
-        match self.templates.read(alloc, octets) {
+        match self.message_reader.read(alloc, octets) {
             Ok(found) => {
                 self.print_listing(alloc, &found, writer)?;
                 Ok(false)
@@ -205,14 +205,14 @@ impl<'t> Printer<'t> {
     /// view. If memory runs out, it holds no line for the frame.
     fn check_frame(&mut self, alloc: Global, place: u64, octets: &[u8]) -> Result<bool, OutOfMemory>
         ensures ok { OnOk result (self.new.held.items ≡ self.old.held.items
-            ++ frame_text Checked self.old.templates (frame_at place octets.now)) }
+            ++ frame_text Checked self.old.message_reader (frame_at place octets.now)) }
         ensures told { IfOk result (λ refused. from_bool refused
-            ≡ frame_refused self.old.templates (frame_at place octets.now)) }
+            ≡ frame_refused self.old.message_reader (frame_at place octets.now)) }
         ensures err { OnErr result (self.new.held.items ≡ self.old.held.items) }
         ensures keeps { Keeps self.old self.new }
         ensures written { self.new.written ≡ self.old.written }
     {
-        match self.templates.check(alloc, octets) {
+        match self.message_reader.check(alloc, octets) {
             Ok(said) => {
                 hold_checked(&mut self.held, place, octets, &said)?;
                 Ok(false)
@@ -244,13 +244,13 @@ impl<'t> Printer<'t> {
         requires fits { self.old.written + 2 ^ 80 ≤ 2 ^ 128 }
         requires lines { AreWholeLines self.old.held.items }
         ensures prints { OnOk result (WritesAllBut self.new.held.items (self.old.held.items
-            ++ frame_text self.old.printing self.old.templates (frame_at place octets.now))
+            ++ frame_text self.old.printing self.old.message_reader (frame_at place octets.now))
             self.old.written self.new.written (W.writing writer.old) (W.writing writer.new)) }
         ensures stops { IfErr result (λ fault. Adds
-            (frame_text self.old.printing self.old.templates (frame_at place octets.now))
+            (frame_text self.old.printing self.old.message_reader (frame_at place octets.now))
             self.old self.new (W.writing writer.old) (W.writing writer.new) (Err fault)) }
         ensures told { IfOk result (λ refused. from_bool refused
-            ≡ frame_refused self.old.templates (frame_at place octets.now)) }
+            ≡ frame_refused self.old.message_reader (frame_at place octets.now)) }
         ensures keeps { Keeps self.old self.new }
         ensures short { self.new.written + 2 ^ 64 ≤ self.old.written + 2 ^ 80 }
     {
@@ -289,11 +289,11 @@ impl<'t> Printer<'t> {
         requires octets { self.old.octets + length octets.now < 2 ^ 64 }
         requires short { self.old.written + length self.old.held.items
             + self.old.frames ≤ 2 ^ 80 * self.old.frames }
-        ensures prints { PrintsFrame self.old.printing self.old.templates
+        ensures prints { PrintsFrame self.old.printing self.old.message_reader
             (frame_at place octets.now) self.old self.new (W.writing writer.old)
             (W.writing writer.new) result }
         ensures printing { self.new.printing ≡ self.old.printing }
-        ensures tables { self.new.templates ≡ self.old.templates }
+        ensures tables { self.new.message_reader ≡ self.old.message_reader }
     {
         let refused = self.print_message(alloc, place, octets, writer)?;
         self.count(octets, refused);

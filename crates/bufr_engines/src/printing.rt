@@ -6,7 +6,7 @@ ghost use Rattle.std.specs.Int.{from_bool};
 ghost use Rattle.bufr_base.specs.Answers.{Gives, result_map};
 ghost use Rattle.bufr_message.specs.declared.Decoded.{Decoded};
 ghost use Rattle.bufr_message.specs.declared.Refused.{Refused};
-ghost use Rattle.bufr_message.specs.Judged.{judged};
+ghost use Rattle.bufr_message.specs.Summary.{summary};
 ghost use Rattle.bufr_engines.specs.Refusals.{refused_as};
 ghost use Rattle.bufr_io.specs.Taking.{frame_at};
 ghost use Rattle.bufr_engines.specs.Output.{checked_as, checked_line, last_text, printed_as};
@@ -17,7 +17,7 @@ use bufr_base::{Failure, OutOfMemory};
 use bufr_expand::Asks;
 use bufr_io::Tally;
 use bufr_listing::{push_field, push_number_field};
-use bufr_message::{Fields, Judged, Refused};
+use bufr_message::{Fields, Refused, Summary};
 use bufr_tables::Fxy;
 use itoa::{Buffer, Integer, write_digits};
 use std::alloc::Global;
@@ -94,7 +94,7 @@ pub(crate) fn hold_checked(
     text: &mut Vec<u8>,
     place: u64,
     octets: &[u8],
-    said: &Judged,
+    said: &Summary,
 ) -> Result<(), OutOfMemory>
     ensures ok { OnOk result (text.new.items
         ≡ text.old.items ++ checked_line (frame_at place octets.now) said.now) }

@@ -64,22 +64,22 @@ pub(crate) fn add_streams<S: Source>(
     alloc: Global,
     reads: u64,
     readers: &mut [S],
-    room: &mut [u8],
+    buffer: &mut [u8],
     builder: &mut ArchiveBuilder<'_>,
     counts: &mut FrameCounts,
 ) -> Result<(), ToolFault>
     requires few { reads ≤ most_reads }
     requires fresh { AreFresh (map S.reading readers.old) }
-    requires some { 0 < length room.old }
-    requires short { length room.old ≤ longest_piece }
+    requires some { 0 < length buffer.old }
+    requires short { length buffer.old ≤ longest_piece }
     requires empty { HasAdded builder.old.tables builder.old counts.old [] }
     ensures bounded { AreReadAtMost reads (map S.reading readers.new) }
     ensures adds { AddsStreams builder.old.tables reads (map S.reading readers.old)
         (map S.reading readers.new) builder.new counts.new result }
 {
     for (index, reader) in readers.iter_mut().enumerate() {
-        let source = Input::Number(index as u128 + 1);
-        take_stream(alloc, reads, source, reader, &mut *room, builder, counts)?;
+        let name = Input::Number(index as u128 + 1);
+        take_stream(alloc, reads, name, reader, &mut *buffer, builder, counts)?;
     }
     Ok(())
 }

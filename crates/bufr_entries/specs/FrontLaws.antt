@@ -117,7 +117,7 @@ keys_agree a b =
     (nat_cmp a.international b.international) (nat_cmp a.local_category b.local_category) _ _
     (places_agree a.station b.station _))
 
-pub told : (a b : Key) (o : Ordering) → ordering_then o (key_order a b) ≡ o
+pub order_of_starts : (a b : Key) (o : Ordering) → ordering_then o (key_order a b) ≡ o
     → o ≡ front_cmp (front_of_key a) (front_of_key b) → o ≡ key_order a b
-told a b o ends is =
+order_of_starts a b o ends is =
     sym ends ∙ ap (λ p. ordering_then p (key_order a b)) is ∙ keys_agree a b

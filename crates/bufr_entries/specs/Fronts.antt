@@ -6,16 +6,16 @@ use Rattle.std.specs.declared.cmp.Ordering.TheVariants.{Less, Equal, Greater}
 use Rattle.bufr_entries.specs.declared.key.Station.{Station}
 use Rattle.bufr_entries.specs.declared.key.Station.TheVariants as stations
 use Rattle.bufr_entries.specs.declared.key.Key.{Key}
-use Rattle.bufr_entries.specs.declared.front.FrontHead.{FrontHead}
-use Rattle.bufr_entries.specs.declared.front.FrontPlace.{FrontPlace}
-use Rattle.bufr_entries.specs.declared.front.FrontPlace.TheVariants.{Wmo, Mobile, Open}
-use Rattle.bufr_entries.specs.declared.front.Front.{Front}
+use Rattle.bufr_entries.specs.declared.key_start.KeyHead.{KeyHead}
+use Rattle.bufr_entries.specs.declared.key_start.StationStart.{StationStart}
+use Rattle.bufr_entries.specs.declared.key_start.StationStart.TheVariants.{Wmo, Mobile, Open}
+use Rattle.bufr_entries.specs.declared.key_start.KeyStart.{KeyStart}
 use Rattle.bufr_entries.specs.KeyOrders.{octets_cmp}
 
 -- ---- the order of fronts
 
 -- by centre and categories
-abbrev pub head_cmp : FrontHead → FrontHead → Ordering
+abbrev pub head_cmp : KeyHead → KeyHead → Ordering
 head_cmp a b =
     ordering_then (nat_cmp a.centre b.centre) (ordering_then (nat_cmp a.category b.category)
     (ordering_then (nat_cmp a.international b.international)
@@ -23,7 +23,7 @@ head_cmp a b =
 
 -- WMO stations come before mobile names, and names go by their first octets; `Equal` leaves the
 -- order open
-abbrev pub place_cmp : FrontPlace → FrontPlace → Ordering
+abbrev pub place_cmp : StationStart → StationStart → Ordering
 place_cmp Wmo Wmo = Equal
 place_cmp Wmo (Mobile _) = Less
 place_cmp Wmo Open = Equal
@@ -33,7 +33,7 @@ place_cmp (Mobile _) Open = Equal
 place_cmp Open p = Equal
 
 -- by centre and categories, and then by station
-abbrev pub front_cmp : Front → Front → Ordering
+abbrev pub front_cmp : KeyStart → KeyStart → Ordering
 front_cmp a b = ordering_then (head_cmp a.head b.head) (place_cmp a.place b.place)
 
 -- ---- the front of a key
@@ -45,13 +45,13 @@ first_octets (suc n) [] = 0 ∷ first_octets n []
 first_octets (suc n) (x ∷ xs) = x ∷ first_octets n xs
 
 -- the station of a front: the first eight octets of a mobile name, and no number
-abbrev pub place_of_station : Station → FrontPlace
+abbrev pub place_of_station : Station → StationStart
 place_of_station (stations.Wmo _ _) = Wmo
 place_of_station (stations.Wigos _ _ _ _) = Open
 place_of_station (stations.Mobile name) = Mobile (first_octets 8 name)
 
 -- the centre and categories of a key
-abbrev pub head_of_key : Key → FrontHead
+abbrev pub head_of_key : Key → KeyHead
 head_of_key k = record {
   centre = k.centre;
   category = k.category;
@@ -60,5 +60,5 @@ head_of_key k = record {
 }
 
 -- the front of a key
-abbrev pub front_of_key : Key → Front
+abbrev pub front_of_key : Key → KeyStart
 front_of_key k = record { head = head_of_key k; place = place_of_station k.station }

@@ -3,9 +3,9 @@ use Rattle.std.specs.Prelude.{◌≡◌, ℕ, Option, Some, None}
 use Rattle.bufr_entries.specs.declared.key.Key.{Key}
 use Rattle.bufr_entries.specs.PackedKeys.{wmo_key}
 use Rattle.bufr_entries.specs.Fronts.{front_of_key}
-use Rattle.bufr_entries.specs.declared.front.FrontPlace.TheVariants as places
-use Rattle.bufr_entries.specs.declared.mark.PackedForm.{PackedForm}
-use Rattle.bufr_entries.specs.declared.mark.PackedForm.TheVariants as forms
+use Rattle.bufr_entries.specs.declared.key_start.StationStart.TheVariants as places
+use Rattle.bufr_entries.specs.declared.packed_slot.PackedForm.{PackedForm}
+use Rattle.bufr_entries.specs.declared.packed_slot.PackedForm.TheVariants as forms
 
 -- what contracts see of a mark
 pub record SlotView : Type 0 where

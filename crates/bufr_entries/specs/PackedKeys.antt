@@ -3,7 +3,7 @@ use Rattle.std.specs.Prelude.{ℕ, ◌+◌, ◌*◌, ◌/◌, ◌%◌, ◌^◌, 
 use Rattle.bufr_entries.specs.declared.key.Key.{Key}
 use Rattle.bufr_entries.specs.declared.key.Moment.{Moment}
 use Rattle.bufr_entries.specs.declared.key.Station.TheVariants.{Wmo}
-use Rattle.bufr_entries.specs.declared.front.FrontHead.{FrontHead}
+use Rattle.bufr_entries.specs.declared.key_start.KeyHead.{KeyHead}
 use Rattle.bufr_entries.specs.declared.packed_key.WmoWords.{WmoWords}
 
 -- `count` bits of a number from bit `from` on; bit 0 is the lowest
@@ -12,7 +12,7 @@ bits number from count = number / 2 ^ from % 2 ^ count
 
 -- the head in the high word: centre in bits 48 to 63, data category in 40 to 47, international
 -- sub-category in 32 to 39, local one in 24 to 31
-abbrev pub wmo_head : ℕ → FrontHead
+abbrev pub wmo_head : ℕ → KeyHead
 wmo_head high = record {
   centre = bits high 48 16;
   category = bits high 40 8;
@@ -47,7 +47,7 @@ wmo_key words sub_centre = record {
 }
 
 -- the key of a WMO station of these parts
-abbrev pub wmo_key_of : FrontHead → ℕ → ℕ → Moment → ℕ → Key
+abbrev pub wmo_key_of : KeyHead → ℕ → ℕ → Moment → ℕ → Key
 wmo_key_of head block number moment sub_centre = record {
   centre = head.centre;
   category = head.category;

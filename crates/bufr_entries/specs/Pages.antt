@@ -7,7 +7,7 @@ use Rattle.std.specs.declared.cmp.Ordering.TheVariants.{Less}
 use Rattle.bufr_entries.specs.Entries.{slot_cmp}
 use Rattle.bufr_entries.specs.Marks.{SlotView}
 use Rattle.bufr_entries.specs.declared.entry.Entry.{Entry}
-use Rattle.bufr_entries.specs.declared.look.Look.{Look}
+use Rattle.bufr_entries.specs.declared.lent_entry.LentEntry.{LentEntry}
 use Rattle.bufr_entries.specs.declared.page.PageEntry.{PageEntry}
 use Rattle.bufr_entries.specs.declared.waiting.WaitingEntry.{WaitingEntry}
 
@@ -20,7 +20,7 @@ abbrev pub mark_of : Entry → SlotView
 mark_of e = record { key = e.key; update = e.update }
 
 -- the entry of a view
-abbrev pub seen : Look → Entry
+abbrev pub seen : LentEntry → Entry
 seen look = marked look.mark.now look.octets.now
 
 -- the entries of a page; their octets follow one another

@@ -7,7 +7,7 @@ ghost use Rattle.bufr_entries.specs.Pages.{flat, marked};
 use crate::entry_octets::EntryOctets;
 use crate::kept_octets::{KeptOctets, count_of};
 use crate::key::Key;
-use crate::mark::PackedSlot;
+use crate::packed_slot::PackedSlot;
 use crate::page::Page;
 use crate::pages_left::PagesLeft;
 use crate::settling::settle;

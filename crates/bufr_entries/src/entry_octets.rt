@@ -10,7 +10,7 @@ pub trait EntryOctets {
     ghost octets: { Self → Option (List ℕ) };
 
     /// Appends the octets to `out`, and returns whether there are any.
-    fn put_behind(&self, alloc: Global, out: &mut Vec<u8>) -> Result<bool, OutOfMemory>
+    fn append_to(&self, alloc: Global, out: &mut Vec<u8>) -> Result<bool, OutOfMemory>
         ensures put { IfOk result (λ b.
             PutsBehind (octets self.now) b out.old.items out.new.items) }
         ensures err { OnErr result (out.new.items ≡ out.old.items) };
@@ -22,7 +22,7 @@ impl EntryOctets for Items<u8> {
 
     ghost octets = { λ a. Some a };
 
-    fn put_behind(&self, _: Global, out: &mut Vec<u8>) -> Result<bool, OutOfMemory> {
+    fn append_to(&self, _: Global, out: &mut Vec<u8>) -> Result<bool, OutOfMemory> {
         out.extend_from_slice(self.as_slice())?;
         Ok(true)
     }

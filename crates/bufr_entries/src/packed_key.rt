@@ -1,10 +1,10 @@
 ghost use Rattle.std.specs.Prelude.{◌≡◌, ℕ, ◌+◌, ◌*◌, ◌≤◌, ◌/◌, ◌%◌, ◌^◌, IfSome};
 ghost use Rattle.bufr_entries.specs.KeyOrders.{key_cmp};
 ghost use Rattle.bufr_entries.specs.PackedKeys.{bits, wmo_head, wmo_moment, wmo_key, wmo_key_of};
-ghost use Rattle.bufr_entries.specs.declared.front.FrontPlace.TheVariants.{Wmo};
+ghost use Rattle.bufr_entries.specs.declared.key_start.StationStart.TheVariants.{Wmo};
 
-use crate::front::{Front, FrontHead, FrontPlace};
 use crate::key::{Key, Moment, Station};
+use crate::key_start::{KeyHead, KeyStart, StationStart};
 use std::cmp::Ordering;
 
 /// A packed key, without its sub-centre, of a WMO station with block and number of two octets each.
@@ -33,7 +33,7 @@ fn two_octets(word: u64, from: u32) -> u16
 
 /// Packs centre, categories, block and the high octet of the number.
 #[inline(always)]
-fn high_word(head: FrontHead, block: u16, number: u16) -> u64
+fn high_word(head: KeyHead, block: u16, number: u16) -> u64
     ensures head { wmo_head result ≡ head }
     ensures block { bits result 8 16 ≡ block }
     ensures number { bits result 0 8 ≡ number / 2 ^ 8 }
@@ -67,13 +67,13 @@ impl WmoWords {
             return None;
         };
         Some(WmoWords {
-            high: high_word(FrontHead::of_key(key), block, number),
+            high: high_word(KeyHead::of_key(key), block, number),
             low: low_word(number, key.moment),
         })
     }
 
     #[inline(always)]
-    pub(crate) fn of_parts(head: FrontHead, block: u16, number: u16, moment: Moment) -> WmoWords
+    pub(crate) fn of_parts(head: KeyHead, block: u16, number: u16, moment: Moment) -> WmoWords
         ensures { (sub_centre : ℕ)
             → wmo_key result sub_centre ≡ wmo_key_of head block number moment sub_centre }
     {
@@ -109,10 +109,10 @@ impl WmoWords {
         }
     }
 
-    fn head(self) -> FrontHead
+    fn head(self) -> KeyHead
         ensures { result ≡ wmo_head self.high }
     {
-        FrontHead {
+        KeyHead {
             centre: two_octets(self.high, 48),
             category: octet(self.high, 40),
             international: octet(self.high, 32),
@@ -120,12 +120,12 @@ impl WmoWords {
         }
     }
 
-    pub(crate) fn front(self) -> Front
+    pub(crate) fn front(self) -> KeyStart
         ensures { result ≡ record { head = wmo_head self.high; place = Wmo } }
     {
-        Front {
+        KeyStart {
             head: self.head(),
-            place: FrontPlace::Wmo,
+            place: StationStart::Wmo,
         }
     }
 

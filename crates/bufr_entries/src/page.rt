@@ -4,8 +4,8 @@ ghost use Rattle.std.specs.Option.{option_map, option_to_list};
 ghost use Rattle.bufr_entries.specs.Keeping.{first_of};
 ghost use Rattle.bufr_entries.specs.Pages.{paged, octets_of, mark_of, seen, EndsBefore};
 
-use crate::look::Look;
-use crate::mark::PackedSlot;
+use crate::lent_entry::LentEntry;
+use crate::packed_slot::PackedSlot;
 use crate::pages_left::PagesLeft;
 use crate::waiting::Waiting;
 use bufr_base::OutOfMemory;
@@ -62,12 +62,12 @@ impl Page {
         }
     }
 
-    pub(crate) fn first(&self) -> Option<Look>
+    pub(crate) fn first(&self) -> Option<LentEntry>
         ensures { option_map seen result ≡ first_of self.now }
     {
         let PageEntry { mark, len } = self.entries.last()?;
         let end = self.from + *len;
-        Some(Look {
+        Some(LentEntry {
             mark,
             octets: &self.octets[self.from..end],
         })
@@ -83,7 +83,7 @@ impl Page {
     }
 
     /// Whether the page is untouched and ends before `next`, if there is one.
-    pub(crate) fn is_whole_before(&self, next: Option<Look>) -> bool
+    pub(crate) fn is_whole_before(&self, next: Option<LentEntry>) -> bool
         ensures { result ≡ true → EndsBefore self.now (option_map seen next.entry) }
     {
         if self.from > 0 {
@@ -93,7 +93,7 @@ impl Page {
             return false;
         };
         let from = self.octets.len() - *len;
-        let last = Look {
+        let last = LentEntry {
             mark,
             octets: &self.octets[from..],
         };

@@ -3,8 +3,8 @@ ghost use Rattle.std.specs.Option.{option_map, option_to_list};
 ghost use Rattle.bufr_entries.specs.Keeping.{first_of};
 ghost use Rattle.bufr_entries.specs.Pages.{flat, mark_of, seen, EndsBefore};
 
-use crate::look::Look;
-use crate::mark::PackedSlot;
+use crate::lent_entry::LentEntry;
+use crate::packed_slot::PackedSlot;
 use crate::page::Page;
 use bufr_base::OutOfMemory;
 use std::alloc::Global;
@@ -48,7 +48,7 @@ fn turn(page: &mut Page, pages: &mut Vec<Page>)
 
 impl PagesLeft {
     /// Looks at the first entry.
-    pub fn first(&self) -> Option<Look>
+    pub fn first(&self) -> Option<LentEntry>
         ensures { option_map seen result ≡ first_of self.now }
     {
         self.page.first()
@@ -70,7 +70,7 @@ impl PagesLeft {
     }
 
     /// Takes the first page whole, if it is untouched and ends before `next`.
-    pub(crate) fn take_page(&mut self, alloc: Global, next: Option<Look>) -> Option<Page>
+    pub(crate) fn take_page(&mut self, alloc: Global, next: Option<LentEntry>) -> Option<Page>
         ensures all { self.old ≡ flat (option_to_list result) ++ self.new }
         ensures before { IfSome result (λ page. EndsBefore page (option_map seen next.entry)) }
     {

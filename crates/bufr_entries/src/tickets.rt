@@ -16,7 +16,7 @@ const PLACES: [u32; 8] = [56, 48, 40, 32, 24, 16, 8, 0];
 
 /// A part of a word: some bits, from a place on.
 #[derive(Clone, Copy, Drop)]
-struct Part {
+struct BitRange {
     from: u32,
     width: u32,
     mask: u64,
@@ -40,7 +40,7 @@ fn differing(entries: &[WaitingEntry]) -> Option<WmoWords> {
 }
 
 /// Lists the differing parts of a word while bits are left for them, and returns the bits left.
-fn parts_of(alloc: Global, differ: u64, room: u32) -> Option<(Vec<Part>, u32)> {
+fn parts_of(alloc: Global, differ: u64, room: u32) -> Option<(Vec<BitRange>, u32)> {
     let mut parts = Vec::new(alloc);
     let mut left = room;
     for from in PLACES {
@@ -51,7 +51,7 @@ fn parts_of(alloc: Global, differ: u64, room: u32) -> Option<(Vec<Part>, u32)> {
         }
         if width > 0 {
             let mask = lowest(width);
-            parts.push(Part { from, width, mask }).ok()?;
+            parts.push(BitRange { from, width, mask }).ok()?;
             left -= width;
         }
     }
@@ -60,7 +60,7 @@ fn parts_of(alloc: Global, differ: u64, room: u32) -> Option<(Vec<Part>, u32)> {
 
 /// Puts the parts of a word after the bits of a ticket.
 #[inline(always)]
-fn append(ticket: u64, word: u64, parts: &[Part]) -> u64 {
+fn append(ticket: u64, word: u64, parts: &[BitRange]) -> u64 {
     let mut longer = ticket;
     for part in parts {
         let bits = word.wrapping_shr(part.from) & part.mask;

@@ -9,8 +9,8 @@ ghost use Rattle.bufr_entries.specs.Pages.{marked, mark_of, seen, waits_in, octe
 
 use crate::entry_octets::EntryOctets;
 use crate::giving_back::take_last;
-use crate::look::Look;
-use crate::mark::PackedSlot;
+use crate::lent_entry::LentEntry;
+use crate::packed_slot::PackedSlot;
 use crate::tickets::follow_tickets;
 use bufr_base::OutOfMemory;
 use std::alloc::Global;
@@ -58,10 +58,10 @@ fn part(octets: &[u8], from: usize, len: usize) -> &[u8]
 }
 
 impl WaitingEntry {
-    pub(crate) fn look<'a>(&'a self, octets: &'a [u8]) -> Look<'a>
+    pub(crate) fn look<'a>(&'a self, octets: &'a [u8]) -> LentEntry<'a>
         ensures { seen result ≡ waits_in octets.now self.now }
     {
-        Look {
+        LentEntry {
             mark: &self.mark,
             octets: part(octets, self.from, self.len),
         }
@@ -203,7 +203,7 @@ impl Waiting {
         let from = self.octets.len();
         self.ahead.clear();
         self.entries.reserve(1)?;
-        let stands = entry.put_behind(alloc, &mut self.octets)?;
+        let stands = entry.append_to(alloc, &mut self.octets)?;
         let len = self.octets.len() - from;
         if !stands {
             return Ok(());
@@ -212,7 +212,7 @@ impl Waiting {
         Ok(())
     }
 
-    pub(crate) fn last(&self) -> Option<Look>
+    pub(crate) fn last(&self) -> Option<LentEntry>
         ensures last { option_map seen result ≡ first_of (reverse self.now) }
         ensures some { MatchOption result (length self.now ≡ 0) (λ _. 0 < length self.now) }
     {
@@ -221,7 +221,7 @@ impl Waiting {
             Some(from) => &self.ahead[from..],
             None => part(&self.octets, last.from, last.len),
         };
-        Some(Look {
+        Some(LentEntry {
             mark: &last.mark,
             octets,
         })

@@ -12,8 +12,8 @@ use Rattle.bufr_expand.specs.declared.node.Node.{Node}
 use Rattle.bufr_expand.specs.declared.node.Node.TheVariants as nodes
 use Rattle.bufr_expand.specs.declared.operators.Operators.{Operators}
 use Rattle.bufr_expand.specs.declared.operators.Spec.{Spec}
-use Rattle.bufr_expand.specs.declared.standing.Open.{Open}
-use Rattle.bufr_expand.specs.declared.standing.State.TheVariants as states
+use Rattle.bufr_expand.specs.declared.walk_state.Open.{Open}
+use Rattle.bufr_expand.specs.declared.walk_state.State.TheVariants as states
 use Rattle.bufr_expand.specs.declared.walk.Walk.{Walk}
 use Rattle.bufr_expand.specs.declared.walk.WalkFault.TheVariants.{TooLarge}
 use Rattle.bufr_expand.specs.Limits.{most_items}

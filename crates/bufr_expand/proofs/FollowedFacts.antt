@@ -11,7 +11,7 @@ use Rattle.bufr_expand.specs.Limits.{most_items}
 use Rattle.bufr_expand.specs.Courses.{Course, ends, stops, asks, asks_if, item, Then}
 use Rattle.bufr_expand.specs.Courses.{course_then}
 use Rattle.bufr_expand.specs.Trees as trees
-use Rattle.bufr_expand.specs.Unrolling.{Told, Unrolled, nothing, item_then, field_then, first_then}
+use Rattle.bufr_expand.specs.Unrolling.{NumberedField, Unrolled, nothing, item_then, field_then, first_then}
 use Rattle.bufr_expand.specs.Unrolling.{UnrollsTo, ItemThen, FieldThen, FirstThen}
 use Rattle.bufr_expand.specs.Unrolling.{Unroll, After}
 use Rattle.bufr_expand.specs.NextFields.{Next, wants, lacks, Begun, item_before, field_before}
@@ -22,14 +22,14 @@ use Rattle.bufr_expand.proofs.PassFacts.{item-below, item-above}
 use Rattle.bufr_expand.proofs.TreeParts.{PartCourse, OfPart, IsKept, tree_kept}
 
 -- the property P of the course after these fields, or Z if it does not ask for them
-unfoldable pub Comes : Type 0 → (Course → Type 0) → Course → List Told → Type 0
+unfoldable pub Comes : Type 0 → (Course → Type 0) → Course → List NumberedField → Type 0
 Comes Z P c [] = P c
 Comes Z P (ends m) (f ∷ fs) = Z
 Comes Z P (stops m fault) (f ∷ fs) = Z
 Comes Z P (asks met d spec more) (f ∷ fs) = (f.fxy ≡ d) × (f.spec ≡ spec)
     × Comes Z P (more f.number) fs
 
-pub come_true : (P : Course → Type 0) (c : Course) (fs : List Told) → Comes ⊥ P c fs
+pub come_true : (P : Course → Type 0) (c : Course) (fs : List NumberedField) → Comes ⊥ P c fs
     → (later : Course) × After c fs later × P later
 unfolding Comes After
 come_true P c [] h = (c, refl, h)
@@ -38,7 +38,7 @@ come_true P (stops m fault) (f ∷ fs) h = absurd h
 come_true P (asks met d spec more) (f ∷ fs) h = let t = come_true P (more f.number) fs h.2 in
     (t.0, (h.0, h.1, t.1), t.2)
 
-pub come_to : (P : Course → Type 0) (c : Course) (fs : List Told) (later : Course)
+pub come_to : (P : Course → Type 0) (c : Course) (fs : List NumberedField) (later : Course)
     → After c fs later → Comes (Unit {0}) P c fs → P later
 unfolding Comes After
 come_to P c [] later a h = subst P a h
@@ -50,13 +50,13 @@ come_to P (asks met d spec more) (f ∷ fs) later a h = come_to P (more f.number
 unfoldable pub Late : Type 0 → (Course → Type 0) → Type 0
 Late Z P = Z × P (stops most_items TooLarge)
 
-stopped : (Z : Type 0) (P : Course → Type 0) (fs : List Told) → Late Z P
+stopped : (Z : Type 0) (P : Course → Type 0) (fs : List NumberedField) → Late Z P
     → Comes Z P (stops most_items TooLarge) fs
 unfolding Comes Late
 stopped Z P [] h = h.1
 stopped Z P (f ∷ fs) h = h.0
 
-in_item : (Z : Type 0) (P : Course → Type 0) (used : ℕ) (c : Course) (fs : List Told)
+in_item : (Z : Type 0) (P : Course → Type 0) (used : ℕ) (c : Course) (fs : List NumberedField)
     → used ≤ most_items → (used < most_items → Comes Z P c fs) → (most_items < used + 1 → Late Z P)
     → Comes Z P (item used c) fs
 in_item Z P used c fs le below above =
@@ -70,23 +70,23 @@ in_item Z P used c fs le below above =
           subst Q full (stopped Z P fs (above (omega arith)))
     ]
 
-pub with_fields : (Z : Type 0) (P : Course → Type 0) (c : Course) (fs gs : List Told) → fs ≡ gs
+pub with_fields : (Z : Type 0) (P : Course → Type 0) (c : Course) (fs gs : List NumberedField) → fs ≡ gs
     → Comes Z P c fs → Comes Z P c gs
-with_fields Z P c fs gs e h = let Q : List Told → Type 0 = λ l. Comes Z P c l in subst Q e h
+with_fields Z P c fs gs e h = let Q : List NumberedField → Type 0 = λ l. Comes Z P c l in subst Q e h
 
 -- the property of what comes after, within the limit of items
-unfoldable pub Ahead : Type 0 → (Course → Type 0) → Then → Operators → ℕ → List Told → Type 0
+unfoldable pub Ahead : Type 0 → (Course → Type 0) → Then → Operators → ℕ → List NumberedField → Type 0
 Ahead Z P after r total gs = (total ≤ most_items → Comes Z P (after r total) gs)
     × (most_items < total → Late Z P)
 
 at_total : (Z : Type 0) (P : Course → Type 0) (after : Then) (r : Operators) (a b : ℕ)
-    (gs : List Told) → a ≡ b
+    (gs : List NumberedField) → a ≡ b
     → Ahead Z P after r a gs → Ahead Z P after r b gs
 at_total Z P after r a b gs e h = let Q : ℕ → Type 0 = λ k. Ahead Z P after r k gs in subst Q e h
 
 -- after the fields of a part its course is what comes after the part
 abbrev pub Follows : Type 0 → (Course → Type 0) → (Unrolled → Type 0) → PartCourse → Type 0
-Follows Z P Here body = (all : Unrolled) (used : ℕ) (after : Then) (gs : List Told) → Here all
+Follows Z P Here body = (all : Unrolled) (used : ℕ) (after : Then) (gs : List NumberedField) → Here all
     → used ≤ most_items
     → Ahead Z P after all.operators (used + all.items) gs
     → Comes Z P (body used after) (all.fields ++ gs)
@@ -150,8 +150,8 @@ first_follows Z P First Rest first rest step then before all used after gs h le 
     subst Q (sym h.in_order) now a
 
 asked_follows : (Z : Type 0) (P : Course → Type 0) (o : Option Spec) (met d : ℕ) (more : ℕ → Course)
-    (f : Told)
-    (fs : List Told) → o ≡ Some f.spec → f.fxy ≡ d → Comes Z P (more f.number) fs
+    (f : NumberedField)
+    (fs : List NumberedField) → o ≡ Some f.spec → f.fxy ≡ d → Comes Z P (more f.number) fs
     → Comes Z P (asks_if o met d more) (f ∷ fs)
 unfolding Comes
 asked_follows Z P o met d more f fs e k h =

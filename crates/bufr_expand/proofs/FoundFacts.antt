@@ -12,7 +12,7 @@ use Rattle.bufr_expand.specs.Limits.{most_items}
 use Rattle.bufr_expand.specs.Courses.{Course, ends, stops, asks, asks_if, item, Then}
 use Rattle.bufr_expand.specs.Courses.{course_then}
 use Rattle.bufr_expand.specs.Trees as trees
-use Rattle.bufr_expand.specs.Unrolling.{Told, Unrolled, nothing, item_then, field_then, first_then}
+use Rattle.bufr_expand.specs.Unrolling.{NumberedField, Unrolled, nothing, item_then, field_then, first_then}
 use Rattle.bufr_expand.specs.Unrolling.{UnrollsTo, ItemThen, FieldThen, FirstThen}
 use Rattle.bufr_expand.specs.Unrolling.{Unroll, After}
 use Rattle.bufr_expand.specs.NextFields.{Next, wants, lacks, Begun, Beginning, IsNext, ItemBefore}
@@ -22,35 +22,35 @@ use Rattle.bufr_expand.proofs.PassFacts.{item-below, item-above}
 use Rattle.bufr_expand.proofs.TreeParts.{PartCourse, OfPart, OfAll, tree_kept}
 
 -- there are no more fields, or the course asks for them
-unfoldable pub Still : Course → ℕ → List Told → Course → Type 0
+unfoldable pub Still : Course → ℕ → List NumberedField → Course → Type 0
 Still c used fields later = (fields ≡ []) ⊎ ((used ≤ most_items) × After c fields later)
 
 -- the fields of some nodes, and the fields after them
-pub record Split (Body : Unrolled → Type 0) (used : ℕ) (after : Then) (fields : List Told)
+pub record Split (Body : Unrolled → Type 0) (used : ℕ) (after : Then) (fields : List NumberedField)
     (later : Course) : Type 0 where
   pub front : Unrolled
-  pub back : List Told
+  pub back : List NumberedField
   pub joined : fields ≡ front.fields ++ back
   pub here : Body front
   pub behind : Still (after front.operators (used + front.items)) (used + front.items) back later
 
 -- the next field is in some nodes, or these nodes come whole before it
-abbrev pub Parted : (Unrolled → Type 0) → (Begun → Type 0) → ℕ → Then → List Told → Course → Type 0
+abbrev pub Parted : (Unrolled → Type 0) → (Begun → Type 0) → ℕ → Then → List NumberedField → Course → Type 0
 Parted Body Begin used after fields later =
     ((next : Next) × (items : ℕ) × Begin (record { fields = fields; next = next; items = items }))
     ⊎ Split Body used after fields later
 
 -- the fields that the course of some nodes asks for split so
 abbrev pub Finds : OfPart
-Finds Body Begin body = (used : ℕ) (after : Then) (fields : List Told) (later : Course)
+Finds Body Begin body = (used : ℕ) (after : Then) (fields : List NumberedField) (later : Course)
     → Still (body used after) used fields later → Parted Body Begin used after fields later
 
-still_at : (after : Then) (r : Operators) (a b : ℕ) (fields : List Told) (later : Course) → a ≡ b
+still_at : (after : Then) (r : Operators) (a b : ℕ) (fields : List NumberedField) (later : Course) → a ≡ b
     → Still (after r a) a fields later → Still (after r b) b fields later
 still_at after r a b fields later e h = let P : ℕ
     → Type 0 = λ k. Still (after r k) k fields later in subst P e h
 
-pub none_told : (n : ℕ) (fields : List Told) (later : Course) (c : Course) → (c ≡ ends n)
+pub none_told : (n : ℕ) (fields : List NumberedField) (later : Course) (c : Course) → (c ≡ ends n)
     ⊎ ((fault : WalkFault) × (c ≡ stops n fault)) → After c fields later → fields ≡ []
 unfolding After
 none_told n [] later c e a = refl
@@ -59,7 +59,7 @@ none_told n (f ∷ fs) later c (inl e) a = let P : Course → Type 0 = λ v. Aft
 none_told n (f ∷ fs) later c (inr e) a = let P : Course → Type 0 = λ v. After v (f ∷ fs) later in
     absurd (subst P e.1 a)
 
-still_item : (used : ℕ) (c : Course) (fields : List Told) (later : Course)
+still_item : (used : ℕ) (c : Course) (fields : List NumberedField) (later : Course)
     → Still (item used c) used fields later → Still c (used + 1) fields later
 unfolding Still
 still_item used c fields later (inl h) = inl h
@@ -72,17 +72,17 @@ still_item used c fields later (inr h) =
     ]
 
 -- the first field, and what is left after it
-record FirstTold (Has : Spec → Type 0) (d met : ℕ) (more : ℕ → Course) (fields : List Told)
+record FirstTold (Has : Spec → Type 0) (d met : ℕ) (more : ℕ → Course) (fields : List NumberedField)
     (later : Course) : Type 0 where
-  first : Told
-  others : List Told
+  first : NumberedField
+  others : List NumberedField
   joined : fields ≡ first ∷ others
   named : first.fxy ≡ d
   told : Has first.spec
   behind : Still (more first.number) met others later
 
 of_asks : (Has : Spec → Type 0) (spec : Spec) → ((s : Spec) → s ≡ spec → Has s)
-    → (d met : ℕ) (more : ℕ → Course) (fields : List Told) (later : Course)
+    → (d met : ℕ) (more : ℕ → Course) (fields : List NumberedField) (later : Course)
     → Still (asks met d spec more) met fields later → (fields ≡ [])
     ⊎ FirstTold Has d met more fields later
 unfolding Still After
@@ -99,7 +99,7 @@ of_asks Has spec has d met more (f ∷ fs) later (inr h) =
       behind = inr (h.0, h.1.2);
     })
 
-of_asked : (o : Option Spec) (d met : ℕ) (more : ℕ → Course) (fields : List Told) (later : Course)
+of_asked : (o : Option Spec) (d met : ℕ) (more : ℕ → Course) (fields : List NumberedField) (later : Course)
     → Still (asks_if o met d more) met fields later → (fields ≡ [])
     ⊎ FirstTold (λ s. o ≡ Some s) d met more fields later
 unfolding Still
@@ -152,7 +152,7 @@ item_finds Rest Begin before rest find used after fields later a =
     ]
 
 -- the beginning of some nodes, by their fields
-abbrev begun_by : Next → ℕ → List Told → Begun
+abbrev begun_by : Next → ℕ → List NumberedField → Begun
 begun_by next items fields = record { fields = fields; next = next; items = items }
 
 first_finds : (First Rest : UnrollsTo) (Begin Behind : Beginning)

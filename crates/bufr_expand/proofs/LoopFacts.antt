@@ -5,9 +5,9 @@ use Rattle.std.proofs.lemmas.List.{take-take, length_push}
 use Rattle.std.proofs.lemmas.List.Sums.{sum_by-take-le}
 use Rattle.std.specs.Vec.{vec_capacity}
 use Rattle.bufr_expand.specs.declared.node.Node.{Node}
-use Rattle.bufr_expand.specs.declared.standing.Open.{Open}
-use Rattle.bufr_expand.specs.declared.standing.State.{State}
-use Rattle.bufr_expand.specs.declared.standing.State.TheVariants as states
+use Rattle.bufr_expand.specs.declared.walk_state.Open.{Open}
+use Rattle.bufr_expand.specs.declared.walk_state.State.{State}
+use Rattle.bufr_expand.specs.declared.walk_state.State.TheVariants as states
 use Rattle.bufr_expand.specs.declared.walk.Walk.{Walk}
 use Rattle.bufr_expand.specs.Places.{repeats, replications, in_front, begins, awaited, IsOpen}
 use Rattle.bufr_expand.specs.Places.{AreOpen}

@@ -8,11 +8,11 @@ use Rattle.bufr_expand.specs.Limits.{most_items}
 use Rattle.bufr_expand.specs.declared.node.Node.{Node}
 use Rattle.bufr_expand.specs.declared.node.Node.TheVariants as nodes
 use Rattle.bufr_expand.specs.declared.operators.Operators.{Operators}
-use Rattle.bufr_expand.specs.declared.standing.Open.{Open}
+use Rattle.bufr_expand.specs.declared.walk_state.Open.{Open}
 use Rattle.bufr_expand.specs.declared.operators.Spec.{Spec}
-use Rattle.bufr_expand.specs.declared.standing.Asked.{Asked}
-use Rattle.bufr_expand.specs.declared.standing.State.{State}
-use Rattle.bufr_expand.specs.declared.standing.State.TheVariants as states
+use Rattle.bufr_expand.specs.declared.walk_state.PendingCount.{PendingCount}
+use Rattle.bufr_expand.specs.declared.walk_state.State.{State}
+use Rattle.bufr_expand.specs.declared.walk_state.State.TheVariants as states
 use Rattle.bufr_expand.specs.declared.walk.Step.{Step}
 use Rattle.bufr_expand.specs.declared.walk.Walk.{Walk}
 use Rattle.bufr_expand.specs.declared.walk.WalkFault.{WalkFault}
@@ -23,7 +23,7 @@ use Rattle.bufr_expand.specs.Courses.{course_then, course}
 use Rattle.bufr_expand.specs.Trees as trees
 use Rattle.bufr_expand.specs.Trees.{tree_of, tree_within}
 use Rattle.bufr_expand.specs.Walks.{tree_between, rest_then, turns_then, behind, behind_all, going}
-use Rattle.bufr_expand.specs.Walks.{told, left_in, left, is_waiting, waits, items_met, Goes}
+use Rattle.bufr_expand.specs.Walks.{after_count, left_in, left, is_waiting, waits, items_met, Goes}
 use Rattle.bufr_expand.specs.Walks.{Counted}
 use Rattle.bufr_expand.proofs.Between.{tree_between-all}
 use Rattle.bufr_expand.proofs.Between.{tree_between-none, between-step, between-parts}
@@ -191,18 +191,18 @@ pub goes_as : (c d : Course) (answer : Result Step WalkFault) (w : Walk) → c �
     → Goes c answer w
 goes_as c d answer w e h = let P : Course → Type 0 = λ v. Goes v answer w in subst P (sym e) h
 
-pub counted : (w v : Walk) (a : Asked) (body : Option ℕ) (n : ℕ) → w.state ≡ states.Waiting a
+pub counted : (w v : Walk) (a : PendingCount) (body : Option ℕ) (n : ℕ) → w.state ≡ states.Waiting a
     → a.body ≡ body
-    → (left v ≡ told body w.nodes.now w.place w.stop w.loops.items n w.operators w.items)
+    → (left v ≡ after_count body w.nodes.now w.place w.stop w.loops.items n w.operators w.items)
     × (waits v ≡ false) × (items_met v ≡ w.items) → Counted (left w) n v
 unfolding left
 counted w v a body n e f h =
     let P : Course → Type 0 = λ c. Counted c n v in
     subst P (sym (ap (λ s. left_in s w.nodes.now w.place w.stop w.loops.items w.operators w.items) e
     ∙ ap (λ b. asks w.items a.fxy a.spec
-    (λ n. told b w.nodes.now w.place w.stop w.loops.items n w.operators w.items)) f)) h
+    (λ n. after_count b w.nodes.now w.place w.stop w.loops.items n w.operators w.items)) f)) h
 
-pub waits_for : (s : State) → is_waiting s ≡ true → ((a : Asked) → s ≡ states.Waiting a → ⊥) → ⊥
+pub waits_for : (s : State) → is_waiting s ≡ true → ((a : PendingCount) → s ≡ states.Waiting a → ⊥) → ⊥
 waits_for states.Going e h = cc
 waits_for (states.Waiting a) e h = h a refl
 waits_for (states.Stopped f) e h = cc

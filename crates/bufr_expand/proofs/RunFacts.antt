@@ -23,12 +23,12 @@ use Rattle.bufr_expand.specs.Courses.{Course, ends, asks, Then, item, asks_if, t
 use Rattle.bufr_expand.specs.Courses.{course_then}
 use Rattle.bufr_expand.specs.Trees as trees
 use Rattle.bufr_expand.specs.Trees.{Tree, tree_of, tree_within}
-use Rattle.bufr_expand.specs.Unrolling.{Told, After}
+use Rattle.bufr_expand.specs.Unrolling.{NumberedField, After}
 use Rattle.bufr_expand.specs.Runs.{HasWidth, AddUp, Leads, no_run, joined_runs, turned_run}
 use Rattle.bufr_expand.specs.Runs.{behind_item, IsFieldRun, BeginsRun, TurnsRun, PassesRun}
 use Rattle.bufr_expand.specs.Runs.{IsInnermost, after_joined}
-use Rattle.bufr_expand.specs.declared.standing.Open.{Open}
-use Rattle.bufr_expand.specs.declared.standing.State.TheVariants.{Going}
+use Rattle.bufr_expand.specs.declared.walk_state.Open.{Open}
+use Rattle.bufr_expand.specs.declared.walk_state.State.TheVariants.{Going}
 use Rattle.bufr_expand.specs.declared.walk.Walk.{Walk}
 use Rattle.bufr_expand.specs.Steady.{IsSteady, steady_turns, steady_then}
 use Rattle.bufr_expand.specs.Walks.{tree_between, rest_then, turns_then, behind, behind_all, going}
@@ -37,7 +37,7 @@ use Rattle.bufr_expand.proofs.Between.{tree_of-repeated}
 use Rattle.bufr_expand.proofs.PassFacts.{item-below, left_going, entered}
 use Rattle.bufr_expand.proofs.SpecFacts.{in_table, effective_found}
 
-bits_joined : (xs ys : List Told) (a b c : ℕ) → c ≡ a + b → AddUp xs a → AddUp ys b
+bits_joined : (xs ys : List NumberedField) (a b c : ℕ) → c ≡ a + b → AddUp xs a → AddUp ys b
     → AddUp (xs ++ ys) c
 unfolding AddUp
 bits_joined [] ys a b c sum h g = let same : b ≡ c = omega (arith, sum, h) in subst (AddUp ys) same g

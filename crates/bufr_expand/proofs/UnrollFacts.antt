@@ -9,7 +9,7 @@ use Rattle.bufr_expand.specs.declared.walk.WalkFault.TheVariants.{TooLarge, Effe
 use Rattle.bufr_expand.specs.OperatorsInForce.{none_in_force}
 use Rattle.bufr_expand.specs.Courses.{Course, ends, stops, asks, course}
 use Rattle.bufr_expand.specs.Trees as trees
-use Rattle.bufr_expand.specs.Unrolling.{Told, SubsetUnrolls, After, Unrolls}
+use Rattle.bufr_expand.specs.Unrolling.{NumberedField, SubsetUnrolls, After, Unrolls}
 use Rattle.bufr_expand.specs.NextFields.{Next, wants, lacks, SubsetBegins, BeginsWithin, MeetsItems}
 use Rattle.bufr_expand.specs.NextFields.{PassesLimit, AsksAfter}
 use Rattle.bufr_expand.proofs.FollowedFacts.{Comes, come_true, come_to, with_fields, Late, Ahead}
@@ -25,7 +25,7 @@ AtEnd : ℕ → Course → Type 0
 AtEnd total c = ((total ≤ most_items) × (c ≡ ends total))
     ⊎ ((most_items < total) × (c ≡ stops most_items TooLarge))
 
-at_field : (t : trees.Tree) (used : ℕ) (fields : List Told) (next : Next) (n : ℕ) (later : Course)
+at_field : (t : trees.Tree) (used : ℕ) (fields : List NumberedField) (next : Next) (n : ℕ) (later : Course)
     → used ≤ most_items → After (course t used) fields later → SubsetBegins t fields next n
     → AtField next (used + n) later
 unfolding Arrives Late AtField
@@ -35,7 +35,7 @@ at_field t used fields next n later le a b =
     (record { fields = fields; next = next; items = n }) used (λ q n. ends n) b le
     (λ c fit s. inl (fit, s), λ over. (tt, inr (over, refl))))
 
-at_end : (t : trees.Tree) (used : ℕ) (fields : List Told) (r : Operators) (n : ℕ) (later : Course)
+at_end : (t : trees.Tree) (used : ℕ) (fields : List NumberedField) (r : Operators) (n : ℕ) (later : Course)
     → used ≤ most_items → After (course t used) fields later → SubsetUnrolls t fields r n
     → AtEnd (used + n) later
 unfolding Ahead Late AtEnd Comes
@@ -47,7 +47,7 @@ at_end t used fields r n later le a u =
     (record { fields = fields; operators = r; items = n }) used (λ q n. ends n) [] u le
     (λ fit. inl (fit, refl), λ over. (tt, inr (over, refl)))))
 
-pub goes_on : (t : trees.Tree) (used : ℕ) (fields : List Told) (later : Course) → used ≤ most_items
+pub goes_on : (t : trees.Tree) (used : ℕ) (fields : List NumberedField) (later : Course) → used ≤ most_items
     → After (course t used) fields later → (n : ℕ) × MeetsItems t fields n
 unfolding Still
 goes_on t used fields later le a =
@@ -61,12 +61,12 @@ goes_on t used fields later le a =
           ] in
           let whole : s.front.fields ≡ fields =
           sym (s.joined ∙ ap (λ l. s.front.fields ++ l) none ∙ append-nil s.front.fields) in
-          let P : List Told → Type 0 = λ l. SubsetUnrolls t l s.front.operators s.front.items in
+          let P : List NumberedField → Type 0 = λ l. SubsetUnrolls t l s.front.operators s.front.items in
           (s.front.items, inr (s.front.operators, subst P whole s.here))
     ]
 
 -- what a course can be after some fields
-data Verdict (t : trees.Tree) (used : ℕ) (fields : List Told) (later : Course) : Type 0 where
+data Verdict (t : trees.Tree) (used : ℕ) (fields : List NumberedField) (later : Course) : Type 0 where
   at_next : (next : Next) → (n : ℕ) → SubsetBegins t fields next n → used + n ≤ most_items
       → Shows later next (used + n) → Verdict t used fields later
   ended : (r : Operators) → (n : ℕ) → SubsetUnrolls t fields r n → used + n ≤ most_items
@@ -74,7 +74,7 @@ data Verdict (t : trees.Tree) (used : ℕ) (fields : List Told) (later : Course)
   too_many : (n : ℕ) → MeetsItems t fields n → most_items < used + n
       → later ≡ stops most_items TooLarge → Verdict t used fields later
 
-verdict : (t : trees.Tree) (used : ℕ) (fields : List Told) (later : Course) → used ≤ most_items
+verdict : (t : trees.Tree) (used : ℕ) (fields : List NumberedField) (later : Course) → used ≤ most_items
     → After (course t used) fields later → Verdict t used fields later
 unfolding AtField AtEnd
 verdict t used fields later le a =
@@ -105,7 +105,7 @@ shown_stops (ends m) d n h = absurd h
 shown_stops (stops m fault) d n h = ap (λ m. stops m fault) h.0 ∙ ap (λ f. stops n f) h.1
 shown_stops (asks met k s more) d n h = absurd h
 
-shown : (t : trees.Tree) (used : ℕ) (fields : List Told) (next : Next) (met : ℕ)
+shown : (t : trees.Tree) (used : ℕ) (fields : List NumberedField) (next : Next) (met : ℕ)
     → BeginsWithin t used fields next met → (later : Course) × After (course t used) fields later
     × Shows later next met
 unfolding Arrives Late
@@ -124,7 +124,7 @@ shown t used fields next met h =
           (no, absurd no),
     ))
 
-next_of : (t : trees.Tree) (used : ℕ) (fields : List Told) (met d : ℕ) (spec : Spec)
+next_of : (t : trees.Tree) (used : ℕ) (fields : List NumberedField) (met d : ℕ) (spec : Spec)
     (more : ℕ → Course) → Verdict t used fields (asks met d spec more)
     → BeginsWithin t used fields (wants d spec) met
 unfolding Shows
@@ -138,7 +138,7 @@ next_of t used fields met d spec more (at_next (lacks k) n b fit h) = absurd h
 next_of t used fields met d spec more (ended r n u fit e) = cc
 next_of t used fields met d spec more (too_many n g over e) = cc
 
-pub asked : (t : trees.Tree) (used : ℕ) (fields : List Told) (met d : ℕ) (spec : Spec)
+pub asked : (t : trees.Tree) (used : ℕ) (fields : List NumberedField) (met d : ℕ) (spec : Spec)
     → used ≤ most_items → AsksAfter (course t used) fields met d spec
     ↔ BeginsWithin t used fields (wants d spec) met
 asked t used fields met d spec le = (
@@ -150,7 +150,7 @@ asked t used fields met d spec le = (
       (p.0, subst P p.1 s.1),
 )
 
-lack_of : (t : trees.Tree) (used : ℕ) (fields : List Told) (met d : ℕ)
+lack_of : (t : trees.Tree) (used : ℕ) (fields : List NumberedField) (met d : ℕ)
     → Verdict t used fields (stops met (EffectiveRange d))
     → BeginsWithin t used fields (lacks d) met
 unfolding Shows
@@ -164,7 +164,7 @@ lack_of t used fields met d (at_next (lacks k) n b fit h) =
 lack_of t used fields met d (ended r n u fit e) = cc
 lack_of t used fields met d (too_many n g over e) = cc
 
-pub lacking : (t : trees.Tree) (used : ℕ) (fields : List Told) (met d : ℕ) → used ≤ most_items
+pub lacking : (t : trees.Tree) (used : ℕ) (fields : List NumberedField) (met d : ℕ) → used ≤ most_items
     → After (course t used) fields (stops met (EffectiveRange d))
     ↔ BeginsWithin t used fields (lacks d) met
 lacking t used fields met d le = (
@@ -175,7 +175,7 @@ lacking t used fields met d le = (
       subst P (shown_stops s.0 d met s.2) s.1,
 )
 
-past_of : (t : trees.Tree) (used : ℕ) (fields : List Told) (met : ℕ)
+past_of : (t : trees.Tree) (used : ℕ) (fields : List NumberedField) (met : ℕ)
     → Verdict t used fields (stops met TooLarge) → PassesLimit t used fields
 unfolding Shows
 past_of t used fields met (at_next (wants k s) n b fit h) = absurd h
@@ -184,7 +184,7 @@ past_of t used fields met (at_next (lacks k) n b fit h) = let e : TooLarge ≡ E
 past_of t used fields met (ended r n u fit e) = cc
 past_of t used fields met (too_many n g over e) = (n, g, over)
 
-past : (t : trees.Tree) (used : ℕ) (fields : List Told) (later : Course) → used ≤ most_items
+past : (t : trees.Tree) (used : ℕ) (fields : List NumberedField) (later : Course) → used ≤ most_items
     → After (course t used) fields later → PassesLimit t used fields
     → later ≡ stops most_items TooLarge
 unfolding AtField AtEnd
@@ -198,7 +198,7 @@ past t used fields later le a h =
           [ inl f ↦ let fit : used + n ≤ most_items = f.0 in absurd (omega arith) | inr f ↦ f.1 ]
     ]
 
-pub too_large : (t : trees.Tree) (used : ℕ) (fields : List Told) (later : Course)
+pub too_large : (t : trees.Tree) (used : ℕ) (fields : List NumberedField) (later : Course)
     → used ≤ most_items → After (course t used) fields later → (later ≡ stops most_items TooLarge)
     ↔ PassesLimit t used fields
 too_large t used fields later le a = (
@@ -208,7 +208,7 @@ too_large t used fields later le a = (
   past t used fields later le a,
 )
 
-end_of : (t : trees.Tree) (used : ℕ) (fields : List Told) (m : ℕ) → Verdict t used fields (ends m)
+end_of : (t : trees.Tree) (used : ℕ) (fields : List NumberedField) (m : ℕ) → Verdict t used fields (ends m)
     → Unrolls t used fields m
 unfolding Shows
 end_of t used fields m (at_next next n b fit h) = absurd h
@@ -216,11 +216,11 @@ end_of t used fields m (ended r n u fit e) = let count : m ≡ used + n = cc in
     (r, n, u, count, omega arith)
 end_of t used fields m (too_many n g over e) = cc
 
-pub unrolled : (t : trees.Tree) (used : ℕ) (fields : List Told) (n : ℕ) → used ≤ most_items
+pub unrolled : (t : trees.Tree) (used : ℕ) (fields : List NumberedField) (n : ℕ) → used ≤ most_items
     → After (course t used) fields (ends n) → Unrolls t used fields n
 unrolled t used fields n le a = end_of t used fields n (verdict t used fields (ends n) le a)
 
-pub allowed : (t : trees.Tree) (used : ℕ) (fields : List Told) (n : ℕ) → Unrolls t used fields n
+pub allowed : (t : trees.Tree) (used : ℕ) (fields : List NumberedField) (n : ℕ) → Unrolls t used fields n
     → After (course t used) fields (ends n)
 unfolding Ahead Late Comes
 allowed t used fields n h =
@@ -240,7 +240,7 @@ pub full : (t : trees.Tree) (used : ℕ) → (t ≡ trees.done → ⊥) → most
     → course t used ≡ stops used TooLarge
 full t used some above = stops_at t none_in_force used (λ q n. ends n) some above
 
-next_asked : (c : Course) (fields others : List Told) (f : Told) (later : Course)
+next_asked : (c : Course) (fields others : List NumberedField) (f : NumberedField) (later : Course)
     → After c (fields ++ f ∷ others) later → (met : ℕ) × AsksAfter c fields met f.fxy f.spec
 unfolding After
 next_asked (ends m) [] others f later a = absurd a
@@ -253,7 +253,7 @@ next_asked (asks met d spec more) (g ∷ gs) others f later a =
     let p = next_asked (more g.number) gs others f later a.2 in
     (p.0, (p.1.0, (a.0, a.1, p.1.1)))
 
-pub front : (t : trees.Tree) (used : ℕ) (fields others : List Told) (f : Told) (n : ℕ)
+pub front : (t : trees.Tree) (used : ℕ) (fields others : List NumberedField) (f : NumberedField) (n : ℕ)
     → Unrolls t used (fields ++ f ∷ others) n → (met : ℕ)
     × BeginsWithin t used fields (wants f.fxy f.spec) met
 front t used fields others f n h =

@@ -9,7 +9,7 @@ use Rattle.bufr_expand.specs.OperatorsInForce.{none_in_force, in_force_after, fa
 use Rattle.bufr_expand.specs.Effects.{Effective, AsInTable}
 use Rattle.bufr_expand.specs.Courses.{Course, asks}
 use Rattle.bufr_expand.specs.Trees as trees
-use Rattle.bufr_expand.specs.Unrolling.{Told, Unrolled, UnrollsTo, Turns, Unroll, SubsetUnrolls}
+use Rattle.bufr_expand.specs.Unrolling.{NumberedField, Unrolled, UnrollsTo, Turns, Unroll, SubsetUnrolls}
 use Rattle.bufr_expand.specs.Unrolling.{After}
 
 -- ---- how an unrolling begins
@@ -21,7 +21,7 @@ pub data Next : Type 0 where
 
 -- the fields before the next one, the next one, and the items up to it
 pub record Begun : Type 0 where
-  pub fields : List Told
+  pub fields : List NumberedField
   pub next : Next
   pub items : ℕ
 
@@ -30,7 +30,7 @@ abbrev pub item_before : Begun → Begun
 item_before later = record { fields = later.fields; next = later.next; items = 1 + later.items }
 
 -- a field, which is one item, before the beginning of an unrolling
-abbrev pub field_before : Told → Begun → Begun
+abbrev pub field_before : NumberedField → Begun → Begun
 field_before field later =
     record { fields = field ∷ later.fields; next = later.next; items = 1 + later.items }
 
@@ -69,7 +69,7 @@ pub record FieldIsNext (fxy : ℕ) (Has : Spec → Type 0) (begun : Begun) : Typ
 -- the field comes first, and then the rest begins; its number may decide the rest
 pub record FieldBefore (fxy : ℕ) (Has : Spec → Type 0) (Rest : ℕ → Beginning) (before : Operators)
     (begun : Begun) : Type 0 where
-  pub field : Told
+  pub field : NumberedField
   pub later : Begun
   pub in_order : begun ≡ field_before field later
   pub descriptor_is : field.fxy ≡ fxy
@@ -123,28 +123,28 @@ Begins (trees.delayed fxy row body rest) before begun =
 -- ---- whole subsets
 
 -- how a subset begins, with no operator in force (94.5.5)
-abbrev pub SubsetBegins : trees.Tree → List Told → Next → ℕ → Type 0
+abbrev pub SubsetBegins : trees.Tree → List NumberedField → Next → ℕ → Type 0
 SubsetBegins tree fields next items =
     Begins tree none_in_force (record { fields = fields; next = next; items = items })
 
 -- the next field of a subset, with `used` items of the message before the subset and `met` up to
 -- the field, at most 16,777,216
-abbrev pub BeginsWithin : trees.Tree → ℕ → List Told → Next → ℕ → Type 0
+abbrev pub BeginsWithin : trees.Tree → ℕ → List NumberedField → Next → ℕ → Type 0
 BeginsWithin tree used fields next met =
     (items : ℕ) × SubsetBegins tree fields next items × (met ≡ used + items) × (met ≤ most_items)
 
 -- `items` items are met up to the next field, or up to the end
-abbrev pub MeetsItems : trees.Tree → List Told → ℕ → Type 0
+abbrev pub MeetsItems : trees.Tree → List NumberedField → ℕ → Type 0
 MeetsItems tree fields items =
     ((next : Next) × SubsetBegins tree fields next items)
     ⊎ ((operators : Operators) × SubsetUnrolls tree fields operators items)
 
 -- an item up to the next field, or up to the end, is above the limit of a message
-abbrev pub PassesLimit : trees.Tree → ℕ → List Told → Type 0
+abbrev pub PassesLimit : trees.Tree → ℕ → List NumberedField → Type 0
 PassesLimit tree used fields = (items : ℕ) × MeetsItems tree fields items
     × (most_items < used + items)
 
 -- after these fields a course asks for this field, item `met`
-abbrev pub AsksAfter : Course → List Told → ℕ → ℕ → Spec → Type 0
+abbrev pub AsksAfter : Course → List NumberedField → ℕ → ℕ → Spec → Type 0
 AsksAfter course fields met fxy spec =
     (more : ℕ → Course) × After course fields (asks met fxy spec more)

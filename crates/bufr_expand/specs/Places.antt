@@ -5,9 +5,9 @@ use Rattle.std.specs.Prelude.{Some, None, count_by}
 use Rattle.std.specs.Coded.{×_prop, Unit-prop, le_prop}
 use Rattle.bufr_expand.specs.declared.node.Node.{Node}
 use Rattle.bufr_expand.specs.declared.node.Node.TheVariants as nodes
-use Rattle.bufr_expand.specs.declared.standing.Open.{Open}
-use Rattle.bufr_expand.specs.declared.standing.State.{State}
-use Rattle.bufr_expand.specs.declared.standing.State.TheVariants as states
+use Rattle.bufr_expand.specs.declared.walk_state.Open.{Open}
+use Rattle.bufr_expand.specs.declared.walk_state.State.{State}
+use Rattle.bufr_expand.specs.declared.walk_state.State.TheVariants as states
 
 -- whether a node is a replication, fixed or delayed
 abbrev pub repeats : Node → Bool

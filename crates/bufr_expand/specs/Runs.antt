@@ -8,14 +8,14 @@ use Rattle.bufr_tables.specs.Elements.{same_kind}
 use Rattle.bufr_expand.specs.declared.operators.Operators.{Operators}
 use Rattle.bufr_expand.specs.declared.operators.Spec.{Spec}
 use Rattle.bufr_expand.specs.declared.run.Run.{Run}
-use Rattle.bufr_expand.specs.declared.standing.Open.{Open}
-use Rattle.bufr_expand.specs.declared.standing.State.TheVariants.{Going}
+use Rattle.bufr_expand.specs.declared.walk_state.Open.{Open}
+use Rattle.bufr_expand.specs.declared.walk_state.State.TheVariants.{Going}
 use Rattle.bufr_expand.specs.declared.walk.Walk.{Walk}
 use Rattle.bufr_expand.specs.Limits.{most_items, most_number_bits}
 use Rattle.bufr_expand.specs.Courses.{Course, ends, stops, asks, Then, turns, course_then}
 use Rattle.bufr_expand.specs.Steady.{IsSteady}
 use Rattle.bufr_expand.specs.Trees.{Tree}
-use Rattle.bufr_expand.specs.Unrolling.{Told, After}
+use Rattle.bufr_expand.specs.Unrolling.{NumberedField, After}
 use Rattle.bufr_expand.specs.Walks.{left, waits, items_met}
 
 -- ---- from one course to another
@@ -28,14 +28,14 @@ pub record HasWidth (spec : Spec) : Type 0 where
   pub few_bits : (spec.kind ≡ kinds.Text → ⊥) → spec.width ≤ most_number_bits
 
 -- the widths of such fields add up to `bits`
-unfoldable pub AddUp : List Told → ℕ → Type 0
+unfoldable pub AddUp : List NumberedField → ℕ → Type 0
 AddUp [] bits = bits ≡ 0
 AddUp (field ∷ fields) bits =
     (others : ℕ) × HasWidth field.spec × AddUp fields others × (bits ≡ field.spec.width + others)
 
 -- a course asks for the fields of a run, none a count, and leaves a later course
 pub record Leads (course : Course) (run : Run) (later : Course) : Type 0 where
-  pub fields : List Told
+  pub fields : List NumberedField
   pub asked : After course fields later
   pub fields_are : length fields ≡ run.fields
   pub bits_are : AddUp fields run.bits
@@ -110,7 +110,7 @@ pub record IsInnermost (w : Walk) (turn : Open) : Type 0 where
 -- ---- a law for proofs about walks
 
 -- fields asked for in two parts are asked for in a row
-pub after_joined : (c d e : Course) (xs ys : List Told) → After c xs d → After d ys e
+pub after_joined : (c d e : Course) (xs ys : List NumberedField) → After c xs d → After d ys e
     → After c (xs ++ ys) e
 unfolding After
 after_joined c d e [] ys h g = subst (λ x. After x ys e) (sym h) g

@@ -12,7 +12,7 @@ use Rattle.bufr_expand.specs.Trees as trees
 -- ---- what nodes are unrolled to
 
 -- a field: its descriptor, its spec, and its number, which counts turns if it is a factor
-pub record Told : Type 0 where
+pub record NumberedField : Type 0 where
   pub fxy : ℕ
   pub spec : Spec
   pub number : ℕ
@@ -20,7 +20,7 @@ pub record Told : Type 0 where
 -- an unrolling of nodes: their fields in order, the operators in force after them, and the number
 -- of items
 pub record Unrolled : Type 0 where
-  pub fields : List Told
+  pub fields : List NumberedField
   pub operators : Operators
   pub items : ℕ
 
@@ -34,7 +34,7 @@ item_then others =
     record { fields = others.fields; operators = others.operators; items = 1 + others.items }
 
 -- a field, which is one item, before an unrolling
-abbrev pub field_then : Told → Unrolled → Unrolled
+abbrev pub field_then : NumberedField → Unrolled → Unrolled
 field_then field others =
     record {
       fields = field ∷ others.fields;
@@ -65,7 +65,7 @@ pub record ItemThen (Rest : UnrollsTo) (before : Operators) (all : Unrolled) : T
 -- a field with a spec that it has, and then the rest; its number may decide the rest
 pub record FieldThen (fxy : ℕ) (Has : Spec → Type 0) (Rest : ℕ → UnrollsTo) (before : Operators)
     (all : Unrolled) : Type 0 where
-  pub field : Told
+  pub field : NumberedField
   pub others : Unrolled
   pub in_order : all ≡ field_then field others
   pub descriptor_is : field.fxy ≡ fxy
@@ -110,13 +110,13 @@ Unroll (trees.delayed fxy row body rest) before all =
 -- ---- whole subsets
 
 -- the unrollings of a subset, which begins with no operator in force (94.5.5)
-abbrev pub SubsetUnrolls : trees.Tree → List Told → Operators → ℕ → Type 0
+abbrev pub SubsetUnrolls : trees.Tree → List NumberedField → Operators → ℕ → Type 0
 SubsetUnrolls tree fields operators items =
     Unroll tree none_in_force (record { fields = fields; operators = operators; items = items })
 
 -- the fields of a subset unroll its tree, with `used` items of the message before them and `met`
 -- after them, at most 16,777,216
-abbrev pub Unrolls : trees.Tree → ℕ → List Told → ℕ → Type 0
+abbrev pub Unrolls : trees.Tree → ℕ → List NumberedField → ℕ → Type 0
 Unrolls tree used fields met =
     (operators : Operators) × (items : ℕ) × SubsetUnrolls tree fields operators items
     × (met ≡ used + items) × (met ≤ most_items)
@@ -124,7 +124,7 @@ Unrolls tree used fields met =
 -- ---- the fields that a course asks for
 
 -- a course asks for these fields in order and leaves a later course once it has their numbers
-unfoldable pub After : Course → List Told → Course → Type 0
+unfoldable pub After : Course → List NumberedField → Course → Type 0
 After course [] later = course ≡ later
 After (ends met) (field ∷ fields) later = ⊥
 After (stops met fault) (field ∷ fields) later = ⊥
@@ -132,5 +132,5 @@ After (asks met fxy spec more) (field ∷ fields) later =
     (field.fxy ≡ fxy) × (field.spec ≡ spec) × After (more field.number) fields later
 
 -- a course asks for these fields and ends after `met` items
-abbrev pub Allows : Course → List Told → ℕ → Type 0
+abbrev pub Allows : Course → List NumberedField → ℕ → Type 0
 Allows course fields met = After course fields (ends met)

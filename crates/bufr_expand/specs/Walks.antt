@@ -7,9 +7,9 @@ use Rattle.bufr_expand.specs.declared.node.Node.{Node}
 use Rattle.bufr_expand.specs.declared.walk.Step.{Step}
 use Rattle.bufr_expand.specs.declared.walk.Step.TheVariants as steps
 use Rattle.bufr_expand.specs.declared.walk.WalkFault.{WalkFault}
-use Rattle.bufr_expand.specs.declared.standing.Open.{Open}
-use Rattle.bufr_expand.specs.declared.standing.State.{State}
-use Rattle.bufr_expand.specs.declared.standing.State.TheVariants as states
+use Rattle.bufr_expand.specs.declared.walk_state.Open.{Open}
+use Rattle.bufr_expand.specs.declared.walk_state.State.{State}
+use Rattle.bufr_expand.specs.declared.walk_state.State.TheVariants as states
 use Rattle.bufr_expand.specs.declared.walk.Walk.{Walk}
 use Rattle.bufr_expand.specs.Limits.{most_items}
 use Rattle.bufr_expand.specs.Trees.{Tree, tree_of}
@@ -45,15 +45,15 @@ abbrev pub going : List Node → ℕ → ℕ → List Open → Then
 going nodes place stop os = rest_then nodes place stop (behind_all nodes os)
 
 -- the course after a count's number: its body is repeated that often
-abbrev pub told : Option ℕ → List Node → ℕ → ℕ → List Open → ℕ → Then
-told None nodes place stop os n = going nodes place stop os
-told (Some from) nodes place stop os n = turns_then nodes n from place stop (behind_all nodes os)
+abbrev pub after_count : Option ℕ → List Node → ℕ → ℕ → List Open → ℕ → Then
+after_count None nodes place stop os n = going nodes place stop os
+after_count (Some from) nodes place stop os n = turns_then nodes n from place stop (behind_all nodes os)
 
 -- the course left, by the state of the walk
 abbrev pub left_in : State → List Node → ℕ → ℕ → List Open → Then
 left_in states.Going nodes place stop os q used = going nodes place stop os q used
 left_in (states.Waiting asked) nodes place stop os q used =
-    asks used asked.fxy asked.spec (λ n. told asked.body nodes place stop os n q used)
+    asks used asked.fxy asked.spec (λ n. after_count asked.body nodes place stop os n q used)
 left_in (states.Stopped fault) nodes place stop os q used = stops used fault
 
 -- the course left to a walk

@@ -20,7 +20,7 @@ ghost use Rattle.bufr_expand.specs.Flat.{HasEnoughLevels};
 ghost use Rattle.bufr_expand.specs.Steady.{IsSteady, EachAsked};
 ghost use Rattle.bufr_expand.specs.Templates.{BuildsExactly, RefusesExactly};
 ghost use Rattle.bufr_expand.specs.Trees.{Tree, done};
-ghost use Rattle.bufr_expand.specs.Unrolling.{Told, After, Allows, Unrolls};
+ghost use Rattle.bufr_expand.specs.Unrolling.{NumberedField, After, Allows, Unrolls};
 ghost use Rattle.bufr_expand.specs.NextFields.{wants, lacks, BeginsWithin, MeetsItems, PassesLimit};
 ghost use Rattle.bufr_expand.specs.NextFields.{AsksAfter};
 
@@ -76,9 +76,9 @@ pub fn specs_are_effective()
 /// The fields that a template asks for unroll its tree, within the limit of items. `unrolled`
 /// assumes that `used` is within it: a template without nodes ends even above.
 pub fn courses_are_unrollings()
-    ensures unrolled { (tree : Tree) (used : ℕ) (fields : List Told) (met : ℕ)
+    ensures unrolled { (tree : Tree) (used : ℕ) (fields : List NumberedField) (met : ℕ)
         → used ≤ most_items → Allows (course tree used) fields met → Unrolls tree used fields met }
-    ensures allowed { (tree : Tree) (used : ℕ) (fields : List Told) (met : ℕ)
+    ensures allowed { (tree : Tree) (used : ℕ) (fields : List NumberedField) (met : ℕ)
         → Unrolls tree used fields met → Allows (course tree used) fields met }
     ensures full { (tree : Tree) (used : ℕ) → (tree ≡ done → ⊥) → most_items ≤ used
         → course tree used ≡ stops used TooLarge }
@@ -87,21 +87,21 @@ pub fn courses_are_unrollings()
 /// After some fields a template asks for the next field of an unrolling, or refuses it for lack of
 /// a spec. It is too large exactly if an item up to there is above the limit.
 pub fn courses_begin_unrollings()
-    ensures asked { (tree : Tree) (used : ℕ) (fields : List Told) (met fxy : ℕ) (spec : Spec)
+    ensures asked { (tree : Tree) (used : ℕ) (fields : List NumberedField) (met fxy : ℕ) (spec : Spec)
         → used ≤ most_items → AsksAfter (course tree used) fields met fxy spec
         ↔ BeginsWithin tree used fields (wants fxy spec) met }
-    ensures lacking { (tree : Tree) (used : ℕ) (fields : List Told) (met fxy : ℕ)
+    ensures lacking { (tree : Tree) (used : ℕ) (fields : List NumberedField) (met fxy : ℕ)
         → used ≤ most_items
         → After (course tree used) fields (stops met (EffectiveRange fxy))
         ↔ BeginsWithin tree used fields (lacks fxy) met }
-    ensures too_large { (tree : Tree) (used : ℕ) (fields : List Told) (later : Course)
+    ensures too_large { (tree : Tree) (used : ℕ) (fields : List NumberedField) (later : Course)
         → used ≤ most_items
         → After (course tree used) fields later
         → (later ≡ stops most_items TooLarge) ↔ PassesLimit tree used fields }
-    ensures goes_on { (tree : Tree) (used : ℕ) (fields : List Told) (later : Course)
+    ensures goes_on { (tree : Tree) (used : ℕ) (fields : List NumberedField) (later : Course)
         → used ≤ most_items
         → After (course tree used) fields later → (items : ℕ) × MeetsItems tree fields items }
-    ensures front { (tree : Tree) (used : ℕ) (fields others : List Told) (field : Told) (end : ℕ)
+    ensures front { (tree : Tree) (used : ℕ) (fields others : List NumberedField) (field : NumberedField) (end : ℕ)
         → Unrolls tree used (fields ++ field ∷ others) end
         → (met : ℕ) × BeginsWithin tree used fields (wants field.fxy field.spec) met }
 {}

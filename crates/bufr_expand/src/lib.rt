@@ -10,9 +10,9 @@ mod node;
 mod operators;
 mod part;
 mod run;
-mod standing;
 mod template;
 mod walk;
+mod walk_state;
 mod worked_values;
 
 pub use asks::Asks;

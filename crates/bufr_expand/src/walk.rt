@@ -14,8 +14,8 @@ use crate::limits::MOST_ITEMS;
 use crate::node::Node;
 use crate::operators::{Operators, Spec, untouched};
 use crate::run::{Run, turns_run};
-use crate::standing::{Asked, Open, State};
 use crate::template::Template;
+use crate::walk_state::{Open, PendingCount, State};
 use bufr_base::OutOfMemory;
 use bufr_tables::{Element, Fxy, Kind};
 use std::alloc::Global;
@@ -67,11 +67,11 @@ impl<'t> Walk<'t> {
     ghost use Rattle.bufr_expand.specs.Limits.{most_items};
     ghost use Rattle.bufr_expand.specs.Trees.{tree_of};
     ghost use Rattle.bufr_expand.specs.Courses.{course, ends, stops, asks, asks_if};
-    ghost use Rattle.bufr_expand.specs.Walks.{left, waits, items_met, steps_left, going, told};
+    ghost use Rattle.bufr_expand.specs.Walks.{left, waits, items_met, steps_left, going, after_count};
     ghost use Rattle.bufr_expand.specs.Walks.{turns_then, behind_all, Goes, Counted, IsBelowCount};
     ghost use Rattle.bufr_expand.specs.Asked.{TellsNone};
     ghost use Rattle.bufr_expand.specs.Runs.{PassesRun};
-    ghost use Rattle.bufr_expand.specs.declared.standing.State.TheVariants.{Going};
+    ghost use Rattle.bufr_expand.specs.declared.walk_state.State.TheVariants.{Going};
     ghost use Rattle.bufr_expand.specs.declared.walk.Step.TheVariants.{Field};
     ghost use Rattle.std.specs.Prelude.{Ok};
 
@@ -228,15 +228,15 @@ impl<'t> Walk<'t> {
     }
 
     /// Returns true if no replication is open and the nodes ahead show that no chosen field is left.
-    pub fn tells_no_more<A: Asks>(&self, asked: &A) -> bool
+    pub fn has_no_more<A: Asks>(&self, asked: &A) -> bool
         ensures { OnTrue result (TellsNone (A.is_asked asked.now) (left self.now)) }
     {
-        self.loops.is_empty() && self.tells_no_more_inside(asked)
+        self.loops.is_empty() && self.has_no_more_inside(asked)
     }
 
     /// Returns true if the nodes ahead, with all those of open replications, show that no chosen
     /// field is left.
-    pub fn tells_no_more_inside<A: Asks>(&self, asked: &A) -> bool
+    pub fn has_no_more_inside<A: Asks>(&self, asked: &A) -> bool
         ensures { OnTrue result (TellsNone (A.is_asked asked.now) (left self.now)) }
     {
         if !matches!(self.state, State::Going)
@@ -284,7 +284,7 @@ impl<'t> Walk<'t> {
                 self.enter(times, from);
                 None
             }
-            Node::Delayed(fxy, element, len) => Some(self.ask(fxy, &element, len)),
+            Node::Delayed(fxy, element, len) => Some(self.begin_count(fxy, &element, len)),
         }
     }
 
@@ -348,7 +348,7 @@ impl<'t> Walk<'t> {
         self.place += 1;
         match spec.kind {
             Kind::Count => {
-                self.state = State::Waiting(Asked {
+                self.state = State::Waiting(PendingCount {
                     fxy,
                     spec,
                     body: None,
@@ -360,7 +360,7 @@ impl<'t> Walk<'t> {
     }
 
     #[tactic(auto, unfolding(crate::specs::Walks::left, crate::specs::Walks::waits, crate::specs::Walks::items_met, crate::specs::Walks::steps_left))]
-    fn ask(&mut self, fxy: Fxy, element: &Element, len: u64) -> Result<Step, WalkFault>
+    fn begin_count(&mut self, fxy: Fxy, element: &Element, len: u64) -> Result<Step, WalkFault>
         requires goes { self.old.state ≡ Going }
         requires more { self.old.place < self.old.stop }
         requires fits { self.old.items < most_items }
@@ -381,7 +381,7 @@ impl<'t> Walk<'t> {
             reference: 0,
             width: element.width,
         };
-        self.state = State::Waiting(Asked {
+        self.state = State::Waiting(PendingCount {
             fxy,
             spec,
             body: Some(from),

@@ -10,7 +10,7 @@ use Rattle.bufr_expand.specs.declared.operators.Spec.{Spec}
 use Rattle.bufr_expand.specs.declared.walk.WalkFault.TheVariants as walks
 use Rattle.bufr_expand.specs.Courses.{Course, ends, stops, asks, course}
 use Rattle.bufr_expand.specs.Trees.{Tree}
-use Rattle.bufr_expand.specs.Unrolling.{Told, After, Allows, Unrolls, SubsetUnrolls}
+use Rattle.bufr_expand.specs.Unrolling.{NumberedField, After, Allows, Unrolls, SubsetUnrolls}
 use Rattle.bufr_expand.specs.NextFields.{Next, wants, lacks, SubsetBegins, BeginsWithin, MeetsItems}
 use Rattle.bufr_expand.specs.NextFields.{PassesLimit, AsksAfter}
 use Rattle.bufr_expand.specs.Limits.{most_items}
@@ -23,35 +23,35 @@ use Rattle.bufr_fields.specs.Asked.{Passes, Begin}
 
 -- each course that allows fields is an unrolling (a law of bufr_expand)
 abbrev pub AreUnrolled : Type 0
-AreUnrolled = (tree : Tree) (used : ℕ) (fields : List Told) (n : ℕ) → used ≤ most_items
+AreUnrolled = (tree : Tree) (used : ℕ) (fields : List NumberedField) (n : ℕ) → used ≤ most_items
     → Allows (course tree used) fields n → Unrolls tree used fields n
 
 -- each unrolling is one that the course allows (a law of bufr_expand)
 abbrev pub AreAllowed : Type 0
-AreAllowed = (tree : Tree) (used : ℕ) (fields : List Told) (n : ℕ) → Unrolls tree used fields n
+AreAllowed = (tree : Tree) (used : ℕ) (fields : List NumberedField) (n : ℕ) → Unrolls tree used fields n
     → Allows (course tree used) fields n
 
 -- the field that the course asks for next comes next in the tree (a law of bufr_expand)
 abbrev pub IsAskedNext : Type 0
-IsAskedNext = (t : Tree) (used : ℕ) (fields : List Told) (met d : ℕ) (spec : Spec)
+IsAskedNext = (t : Tree) (used : ℕ) (fields : List NumberedField) (met d : ℕ) (spec : Spec)
     → used ≤ most_items → AsksAfter (course t used) fields met d spec
     ↔ BeginsWithin t used fields (wants d spec) met
 
 -- the course stops at an element exactly if it comes next and has no spec (a law of bufr_expand)
 abbrev pub IsLackingNext : Type 0
-IsLackingNext = (t : Tree) (used : ℕ) (fields : List Told) (met d : ℕ) → used ≤ most_items
+IsLackingNext = (t : Tree) (used : ℕ) (fields : List NumberedField) (met d : ℕ) → used ≤ most_items
     → After (course t used) fields (stops met (walks.EffectiveRange d))
     ↔ BeginsWithin t used fields (lacks d) met
 
 -- the course is too large exactly if an item is above the limit (a law of bufr_expand)
 abbrev pub IsTooLargeNext : Type 0
-IsTooLargeNext = (t : Tree) (used : ℕ) (fields : List Told) (later : Course) → used ≤ most_items
+IsTooLargeNext = (t : Tree) (used : ℕ) (fields : List NumberedField) (later : Course) → used ≤ most_items
     → After (course t used) fields later → (later ≡ stops most_items walks.TooLarge)
     ↔ PassesLimit t used fields
 
 -- every course meets a number of items (a law of bufr_expand)
 abbrev pub IsOnward : Type 0
-IsOnward = (t : Tree) (used : ℕ) (fields : List Told) (later : Course) → used ≤ most_items
+IsOnward = (t : Tree) (used : ℕ) (fields : List NumberedField) (later : Course) → used ≤ most_items
     → After (course t used) fields later → (n : ℕ) × MeetsItems t fields n
 
 -- the laws of bufr_expand that these proofs cite
@@ -93,7 +93,7 @@ after_passes (asks met d spec more) (f ∷ fields) next h formed = (
 )
 
 -- only one course is left after fields
-pub one_left : (c : Course) (fields : List Told) (a b : Course) → After c fields a
+pub one_left : (c : Course) (fields : List NumberedField) (a b : Course) → After c fields a
     → After c fields b → a ≡ b
 unfolding After
 one_left c [] a b h k = sym h ∙ k
@@ -176,7 +176,7 @@ begun_after laws tree used fields le b =
 
 -- ---- no room
 
-next_anyway : Laws → (tree : Tree) (used k n : ℕ) (fields : List Told) (next : Next)
+next_anyway : Laws → (tree : Tree) (used k n : ℕ) (fields : List NumberedField) (next : Next)
     → used ≤ most_items → used + k ≤ most_items → SubsetBegins tree fields next k
     → After (course tree used) fields (stops n walks.TooLarge) → ⊥
 next_anyway laws tree used k n fields (wants d spec) le room begins stopped =
@@ -190,7 +190,7 @@ next_anyway laws tree used k n fields (lacks d) le room begins stopped =
     one_left (course tree used) fields _ _ stopped r in
     cc
 
-end_anyway : Laws → (tree : Tree) (used k n : ℕ) (fields : List Told) (r : Operators)
+end_anyway : Laws → (tree : Tree) (used k n : ℕ) (fields : List NumberedField) (r : Operators)
     → used + k ≤ most_items → SubsetUnrolls tree fields r k
     → After (course tree used) fields (stops n walks.TooLarge) → ⊥
 end_anyway laws tree used k n fields r room unrolled stopped =
@@ -199,7 +199,7 @@ end_anyway laws tree used k n fields r room unrolled stopped =
     one_left (course tree used) fields _ _ stopped a in
     cc
 
-anyway : Laws → (tree : Tree) (used k n : ℕ) (fields : List Told) → used ≤ most_items
+anyway : Laws → (tree : Tree) (used k n : ℕ) (fields : List NumberedField) → used ≤ most_items
     → used + k ≤ most_items → MeetsItems tree fields k
     → After (course tree used) fields (stops n walks.TooLarge) → ⊥
 anyway laws tree used k n fields le room (inl next) stopped =
@@ -208,7 +208,7 @@ anyway laws tree used k n fields le room (inr end) stopped =
     end_anyway laws tree used k n fields end.0 room end.1 stopped
 
 -- a course that is too large meets an item above the limit
-pub limit_passed : Laws → (tree : Tree) (used n : ℕ) (fields : List Told) → used ≤ most_items
+pub limit_passed : Laws → (tree : Tree) (used n : ℕ) (fields : List NumberedField) → used ≤ most_items
     → After (course tree used) fields (stops n walks.TooLarge) → PassesLimit tree used fields
 limit_passed laws tree used n fields le stopped =
     let g = laws.goes_on tree used fields _ le stopped in

@@ -6,7 +6,7 @@ use Rattle.bufr_tables.specs.declared.element.Kind.TheVariants as kinds
 use Rattle.bufr_expand.specs.declared.operators.Operators.{Operators}
 use Rattle.bufr_expand.specs.declared.operators.Spec.{Spec}
 use Rattle.bufr_expand.specs.Trees.{Tree}
-use Rattle.bufr_expand.specs.Unrolling.{Told, SubsetUnrolls}
+use Rattle.bufr_expand.specs.Unrolling.{NumberedField, SubsetUnrolls}
 use Rattle.bufr_expand.specs.Limits.{most_items}
 use Rattle.bufr_fields.specs.declared.field.Raw.{Raw}
 use Rattle.bufr_fields.specs.declared.field.Raw.TheVariants.{Number, Text}
@@ -24,7 +24,7 @@ pub data HasForm (spec : Spec) : Raw → Type 0 where
       → n < 2 ^ spec.width → HasForm spec (Number n)
 
 -- a field as unrollings have it: its descriptor, its spec, and its number in case it is a factor
-abbrev pub told_of : Field → Told
+abbrev pub told_of : Field → NumberedField
 told_of f = record { fxy = f.fxy; spec = f.spec; number = number_of f.raw }
 
 -- the fields of a subset fit a template: they unroll its tree, with no operator in force at the

@@ -7,7 +7,7 @@ ghost use Rattle.bufr_frame.specs.NextFrames.{taken_in, IsRestOf, IsNextFrame, I
 ghost use Rattle.bufr_frame.specs.NextFrames.{StandsAfter, AreSureNext, AreLast, StandsWithAll};
 
 use crate::frames::Found;
-use crate::kept::append_and_scan;
+use crate::held::append_and_scan;
 use crate::lent_frame::{FrameOctets, LentFrame};
 use crate::looks::Look;
 use crate::next_frame::{NextFrame, Taken};

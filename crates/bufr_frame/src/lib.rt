@@ -17,7 +17,7 @@ pub use pieces::frames_of_pieces;
 
 mod framers;
 mod frames;
-mod kept;
+mod held;
 pub mod laws;
 mod lent_frame;
 mod looks;

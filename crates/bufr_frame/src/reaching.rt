@@ -5,7 +5,7 @@ ghost use Rattle.bufr_frame.specs.Starts.{agrees, bufr, start_of};
 ghost use Rattle.bufr_frame.specs.Reaches.{Extends, KeepsMore, Reaches, HandsOver};
 
 use crate::frames::Found;
-use crate::kept::let_go;
+use crate::held::let_go;
 use crate::places::{HEAD, MARK, Start, agrees, missing, start_of};
 use crate::scans::{next_mark, next_start};
 use bufr_base::OutOfMemory;

@@ -39,43 +39,43 @@ puts_where_ok (Err e) tables entries new old x y seen same put = put
 
 -- ---- messages: for `ArchiveBuilder::add_message`
 
-pub builder_adds : (templates after : Entries) (entries : List Entry) (old new : ArchiveView)
-    (octets : List ℕ) (d : Decoded) → record { tables = templates; entries = entries } ≡ old
-    → after ≡ templates → message_of templates octets ≡ Ok d
-    → spelt_entries (reports_of d.message) ≡ report_entries templates (reports_of d.message)
+pub builder_adds : (message_reader after : Entries) (entries : List Entry) (old new : ArchiveView)
+    (octets : List ℕ) (d : Decoded) → record { tables = message_reader; entries = entries } ≡ old
+    → after ≡ message_reader → message_of message_reader octets ≡ Ok d
+    → spelt_entries (reports_of d.message) ≡ report_entries message_reader (reports_of d.message)
     → new ≡ taken_in (record { tables = after; entries = entries })
     (spelt_entries (reports_of d.message))
     → (d : Decoded) × (message_of old.tables octets ≡ Ok d)
     × (new ≡ taken_in old (report_entries old.tables (reports_of d.message)))
-builder_adds templates after entries old new octets d seen same is own added = (
+builder_adds message_reader after entries old new octets d seen same is own added = (
   d,
   subst (λ (a : ArchiveView). message_of a.tables octets ≡ Ok d) seen is,
   added
       ∙ ap (λ (t : Entries). taken_in (record { tables = t; entries = entries })
       (spelt_entries (reports_of d.message))) same
-      ∙ ap (taken_in (record { tables = templates; entries = entries })) own
+      ∙ ap (taken_in (record { tables = message_reader; entries = entries })) own
       ∙ ap (λ (a : ArchiveView). taken_in a (report_entries a.tables (reports_of d.message))) seen,
 )
 
 -- memory runs out after some reports
-pub adds_first : (templates after : Entries) (entries : List Entry) (old new : ArchiveView)
+pub adds_first : (message_reader after : Entries) (entries : List Entry) (old new : ArchiveView)
     (octets : List ℕ) (d : Decoded) (done : ℕ)
-    → record { tables = templates; entries = entries } ≡ old
-    → after ≡ templates → message_of templates octets ≡ Ok d
-    → spelt_entries (reports_of d.message) ≡ report_entries templates (reports_of d.message)
+    → record { tables = message_reader; entries = entries } ≡ old
+    → after ≡ message_reader → message_of message_reader octets ≡ Ok d
+    → spelt_entries (reports_of d.message) ≡ report_entries message_reader (reports_of d.message)
     → done ≤ length (spelt_entries (reports_of d.message))
     → new ≡ taken_in (record { tables = after; entries = entries })
     (take done (spelt_entries (reports_of d.message)))
     → AddsFirst old new (entries_told old.tables octets) done
-adds_first templates after entries old new octets d done seen same is own few added =
-    let told : entries_told templates octets ≡ spelt_entries (reports_of d.message) =
-    ap (λ r. report_entries templates (reports_read r)) is ∙ sym own in
-    let first : AddsFirst (record { tables = templates; entries = entries }) new
+adds_first message_reader after entries old new octets d done seen same is own few added =
+    let told : entries_told message_reader octets ≡ spelt_entries (reports_of d.message) =
+    ap (λ r. report_entries message_reader (reports_read r)) is ∙ sym own in
+    let first : AddsFirst (record { tables = message_reader; entries = entries }) new
     (spelt_entries (reports_of d.message)) done = record {
       few = few;
       archive = added ∙ ap (λ (t : Entries). taken_in (record { tables = t; entries = entries })
           (take done (spelt_entries (reports_of d.message)))) same;
     } in
     subst (λ (a : ArchiveView). AddsFirst a new (entries_told a.tables octets) done) seen
-    (subst (λ rs. AddsFirst (record { tables = templates; entries = entries }) new rs done)
+    (subst (λ rs. AddsFirst (record { tables = message_reader; entries = entries }) new rs done)
     (sym told) first)

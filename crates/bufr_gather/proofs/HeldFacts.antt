@@ -12,7 +12,7 @@ use Rattle.bufr_entries.specs.declared.entry.Entry.{Entry}
 use Rattle.bufr_entries.specs.Entries.{slot_cmp, kept}
 use Rattle.bufr_entries.specs.Marks.{SlotView}
 use Rattle.bufr_entries.specs.Orders.{kept-are, kept-kept}
-use Rattle.bufr_gather.specs.declared.merged_octets.Origin.{Origin}
+use Rattle.bufr_gather.specs.declared.merged_octets.EntrySource.{EntrySource}
 use Rattle.bufr_gather.specs.declared.merging_texts.Unmerged.{Unmerged}
 use Rattle.bufr_gather.specs.declared.reading.ReadEntry.{ReadEntry}
 use Rattle.bufr_gather.specs.Archives.{ArchiveView, merged}
@@ -26,7 +26,7 @@ use Rattle.bufr_base.specs.declared.failure.Failure.{Failure}
 use Rattle.bufr_base.specs.declared.failure.Failure.TheVariants.{Fault, OutOfMemory}
 use Rattle.bufr_gather.specs.ReportEntries.{IsReportEntry, entry_in}
 use Rattle.bufr_gather.specs.ReportLaws.{ReportsAreEntries}
-use Rattle.bufr_gather.specs.Texts.{text, mark_of, marks_of, right_entry, judged, entries_read}
+use Rattle.bufr_gather.specs.Texts.{text, mark_of, marks_of, right_entry, summary, entries_read}
 use Rattle.bufr_gather.specs.ReadFacts.{ReadSoFar, read_more, read_all, read_stops}
 use Rattle.bufr_gather.specs.TextFacts.{kept_each, read_are_texts, texts_are_read}
 use Rattle.bufr_gather.proofs.TextMergeFacts.{merged_are}
@@ -137,24 +137,24 @@ seen_read tables octets marks = by (entries_read (entry_in tables) octets)
     by (Ok es) told = refl
     by (Err place) told = absurd cc
 
-pub text_read : (templates tables : Entries) (lent shrunk octets : List ℕ) (marks : List SlotView)
-    → templates ≡ tables → lent ≡ shrunk → shrunk ≡ octets
-    → marks_or (entries_read (entry_in templates) lent) ≡ Ok marks
+pub text_read : (message_reader tables : Entries) (lent shrunk octets : List ℕ) (marks : List SlotView)
+    → message_reader ≡ tables → lent ≡ shrunk → shrunk ≡ octets
+    → marks_or (entries_read (entry_in message_reader) lent) ≡ Ok marks
     → archive_read tables octets ≡ Ok (seen tables (entries_in tables shrunk))
-text_read templates tables lent shrunk octets marks same is was told =
+text_read message_reader tables lent shrunk octets marks same is was told =
     ap (archive_read tables) (sym (is ∙ was))
     ∙ seen_read tables lent marks
     (subst (λ (t : Entries). marks_or (entries_read (entry_in t) lent) ≡ Ok marks) same told)
     ∙ ap (λ (o : List ℕ). Ok (seen tables (entries_in tables o))) is
 
-text_fails : (templates tables : Entries) (lent octets : List ℕ) (e : Failure NotAnArchive)
-    → templates ≡ tables → lent ≡ octets
-    → Fails e (marks_or (entries_read (entry_in templates) lent))
+text_fails : (message_reader tables : Entries) (lent octets : List ℕ) (e : Failure NotAnArchive)
+    → message_reader ≡ tables → lent ≡ octets
+    → Fails e (marks_or (entries_read (entry_in message_reader) lent))
     → Fails e (archive_read tables octets)
-text_fails templates tables lent octets e same is told =
+text_fails message_reader tables lent octets e same is told =
     by e (entries_read (entry_in tables) octets)
     (subst (λ (t : Entries). Fails e (marks_or (entries_read (entry_in t) octets))) same
-    (subst (λ (o : List ℕ). Fails e (marks_or (entries_read (entry_in templates) o))) is told))
+    (subst (λ (o : List ℕ). Fails e (marks_or (entries_read (entry_in message_reader) o))) is told))
   where
     by : (e : Failure NotAnArchive) (x : Result (List Entry) ℕ) → Fails e (marks_or x)
         → Fails e (archive_or tables x)
@@ -163,16 +163,16 @@ text_fails templates tables lent octets e same is told =
     by (Fault f) (Err place) told =
         let place_is : record { place = place } ≡ f = cc in ap Err place_is
 
-pub text_stops : (templates tables : Entries) (lent octets : List ℕ) (e : Failure NotAnArchive)
+pub text_stops : (message_reader tables : Entries) (lent octets : List ℕ) (e : Failure NotAnArchive)
     (x : Result ArchiveView (Failure NotAnArchive)) → IsErrAnd x (λ y. y ≡ e)
-    → templates ≡ tables → lent ≡ octets
-    → Fails e (marks_or (entries_read (entry_in templates) lent))
+    → message_reader ≡ tables → lent ≡ octets
+    → Fails e (marks_or (entries_read (entry_in message_reader) lent))
     → Gives (λ a. a) x (archive_read tables octets)
-text_stops templates tables lent octets e (Err f) handed same is told =
-    text_fails templates tables lent octets f same is
+text_stops message_reader tables lent octets e (Err f) handed same is told =
+    text_fails message_reader tables lent octets f same is
     (subst (λ (g : Failure NotAnArchive).
-    Fails g (marks_or (entries_read (entry_in templates) lent))) (sym handed) told)
-text_stops templates tables lent octets e (Ok a) handed same is told = absurd handed
+    Fails g (marks_or (entries_read (entry_in message_reader) lent))) (sym handed) told)
+text_stops message_reader tables lent octets e (Ok a) handed same is told = absurd handed
 
 module _ (laws : ReportsAreEntries) (tables : Entries) where
   -- ---- merged texts
@@ -220,7 +220,7 @@ held_none tables octets marks (e ∷ es) t none =
     let many = held_many tables octets marks (e ∷ es) t in absurd (omega arith)
 
 nothing_in : (tables : Entries) → entries_in tables [] ≡ []
-unfolding judged
+unfolding summary
 nothing_in tables = refl
 
 pub held_nothing : (tables : Entries) (octets : List ℕ) (marks : List SlotView) → octets ≡ []
@@ -237,7 +237,7 @@ seen_nothing tables octets is = ap (entries_in tables) is ∙ nothing_in tables
 
 pub merged_held : ReportsAreEntries → (tables others : Entries)
     (left right left' right' octets : List ℕ) (own more marks : List SlotView)
-    (origins : List Origin) → tables ≡ others → left' ≡ left → right' ≡ right
+    (origins : List EntrySource) → tables ≡ others → left' ≡ left → right' ≡ right
     → IsTextOf tables left own (entries_in tables left)
     → IsTextOf others right more (entries_in others right)
     → HandOutMerged (entries_in tables left) (entries_in others right) origins

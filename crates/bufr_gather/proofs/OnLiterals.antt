@@ -15,12 +15,12 @@ use Rattle.bufr_sections.specs.Sections.{envelope_of}
 use Rattle.bufr_sections.specs.Spelt.{spelt_or}
 use Rattle.bufr_message.specs.Messages.{message_in, message_of}
 use Rattle.bufr_message.specs.Encodings.{data_bits_or, code}
-use Rattle.bufr_gather.specs.Texts.{judged}
+use Rattle.bufr_gather.specs.Texts.{summary}
 
 -- unfolds them
 unfoldable pub archives_on_literals : Unit {0}
 unfolding bin number numbers number_at numbers_at at expand_list expand_within tree_within turns
     course_then fields_at subsets_at items_of items_of_all columns_at columns_of fewest_bits
     sections spelling room_in room_of section_at head4_of head3_of descriptors_of description_of
-    sections_of envelope_of spelt_or message_in message_of data_bits_or code judged
+    sections_of envelope_of spelt_or message_in message_of data_bits_or code summary
 archives_on_literals = tt

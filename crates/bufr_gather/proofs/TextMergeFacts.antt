@@ -14,14 +14,14 @@ use Rattle.bufr_entries.specs.Entries.{slot_cmp, rank_cmp, kept}
 use Rattle.bufr_entries.specs.Keeping.{first_of}
 use Rattle.bufr_entries.specs.Marks.{SlotView}
 use Rattle.bufr_entries.specs.Orders.{slots_total}
-use Rattle.bufr_gather.specs.declared.merged_octets.Origin.{Origin}
-use Rattle.bufr_gather.specs.declared.merged_octets.Origin.TheVariants.{Left, Right, LeftOfBoth}
-use Rattle.bufr_gather.specs.declared.merged_octets.Origin.TheVariants.{RightOfBoth}
+use Rattle.bufr_gather.specs.declared.merged_octets.EntrySource.{EntrySource}
+use Rattle.bufr_gather.specs.declared.merged_octets.EntrySource.TheVariants.{Left, Right, LeftOfBoth}
+use Rattle.bufr_gather.specs.declared.merged_octets.EntrySource.TheVariants.{RightOfBoth}
 use Rattle.bufr_gather.specs.declared.merging_texts.Unmerged.{Unmerged}
 use Rattle.bufr_gather.specs.declared.merging_texts.KnownEntry.{KnownEntry}
 use Rattle.bufr_gather.specs.ArchiveTexts.{AreInOrder, AreLeft, known, order_of_firsts, greater_of}
 use Rattle.bufr_gather.specs.ArchiveTexts.{ComesFirst, FirstTaken, TakesFirst, AreMerged}
-use Rattle.bufr_gather.specs.MergedOctets.{first_octets, behind_first, octets_or_none}
+use Rattle.bufr_gather.specs.MergedOctets.{first_octets, octets_after_first, octets_or_none}
 use Rattle.bufr_gather.specs.MergedOctets.{handed_out, marks_out, HandOutMerged}
 use Rattle.bufr_gather.specs.ReportLaws.{ReportsAreEntries}
 use Rattle.bufr_gather.specs.Texts.{text, mark_of, marks_of, front_of}
@@ -66,7 +66,7 @@ pub front_left : ReportsAreEntries → (tables : Entries) (marks others : List S
     → AreInOrder tables es → marks ≡ marks_of es → octets ≡ text es
     → marks ≡ entry.mark.now ∷ others → front ≡ first_octets octets
     → left.first ≡ Some entry → entry.bytes.now ≡ front → left.marks.now ≡ others
-    → left.behind.now ≡ behind_first octets → AreLeft tables es left
+    → left.behind.now ≡ octets_after_first octets → AreLeft tables es left
 front_left laws tables marks others octets front [] left entry a are is first some at own marked
     behind = let none : entry.mark.now ∷ others ≡ [] = sym first ∙ are in absurd cc
 front_left laws tables marks others octets front (e ∷ es) left entry a are is first some at own
@@ -206,7 +206,7 @@ greater_comes e f es fs true = (refl, f, refl)
 greater_comes e f es fs false = (refl, e, refl)
 
 pub both_taken : (tables : Entries) (es fs : List Entry) (left left' right right' : Unmerged)
-    (origin : Origin) → AreLeft tables es left → AreLeft tables fs right
+    (origin : EntrySource) → AreLeft tables es left → AreLeft tables fs right
     → order_of_firsts (option_map known left.first) (option_map known right.first) ≡ Equal
     → origin ≡ greater_of (option_map known left.first) (option_map known right.first)
     → AreLeft tables (drop 1 es) left' → AreLeft tables (drop 1 fs) right'
@@ -247,27 +247,27 @@ module _ (laws : ReportsAreEntries) (tables : Entries) where
       ap octets_or_none (front_is e.bytes (text es) ((laws tables).frame e a.each.0))
 
   behind_is : (e : Entry) (es : List Entry) → AreInOrder tables (e ∷ es)
-      → behind_first (text (e ∷ es)) ≡ text es
+      → octets_after_first (text (e ∷ es)) ≡ text es
   behind_is e es a =
       drop_at e.bytes (text es) (length (first_octets (text (e ∷ es))))
       (ap length (sym (first_is e es a)))
 
-  pub hands_first : (origin : Origin) (es fs : List Entry) (e : Entry) (left right : List Entry)
+  pub hands_first : (origin : EntrySource) (es fs : List Entry) (e : Entry) (left right : List Entry)
       → AreInOrder tables es → AreInOrder tables fs → ComesFirst origin es fs e left right
-      → (more : List Origin) → handed_out (origin ∷ more) (text es) (text fs)
+      → (more : List EntrySource) → handed_out (origin ∷ more) (text es) (text fs)
       ≡ e.bytes ∷ handed_out more (text left) (text right)
   hands_first Left es fs e left right a b comes more =
       let first = subst (AreInOrder tables) comes.0 a in
       ap (λ (es : List Entry). handed_out (Left ∷ more) (text es) (text fs)) comes.0
       ∙ ap (λ (fs : List Entry). handed_out (Left ∷ more) (text (e ∷ left)) (text fs)) comes.1
-      ∙ ap (λ (o : List ℕ). o ∷ handed_out more (behind_first (text (e ∷ left))) (text right))
+      ∙ ap (λ (o : List ℕ). o ∷ handed_out more (octets_after_first (text (e ∷ left))) (text right))
       (first_is e left first)
       ∙ ap (λ (o : List ℕ). e.bytes ∷ handed_out more o (text right)) (behind_is e left first)
   hands_first Right es fs e left right a b comes more =
       let first = subst (AreInOrder tables) comes.1 b in
       ap (λ (es : List Entry). handed_out (Right ∷ more) (text es) (text fs)) comes.0
       ∙ ap (λ (fs : List Entry). handed_out (Right ∷ more) (text left) (text fs)) comes.1
-      ∙ ap (λ (o : List ℕ). o ∷ handed_out more (text left) (behind_first (text (e ∷ right))))
+      ∙ ap (λ (o : List ℕ). o ∷ handed_out more (text left) (octets_after_first (text (e ∷ right))))
       (first_is e right first)
       ∙ ap (λ (o : List ℕ). e.bytes ∷ handed_out more (text left) o) (behind_is e right first)
   hands_first LeftOfBoth es fs e left right a b comes more =
@@ -277,9 +277,9 @@ module _ (laws : ReportsAreEntries) (tables : Entries) where
       ap (λ (es : List Entry). handed_out (LeftOfBoth ∷ more) (text es) (text fs)) comes.0
       ∙ ap (λ (fs : List Entry). handed_out (LeftOfBoth ∷ more) (text (e ∷ left)) (text fs))
       comes.2
-      ∙ ap (λ (o : List ℕ). o ∷ handed_out more (behind_first (text (e ∷ left)))
-      (behind_first (text (f ∷ right)))) (first_is e left first)
-      ∙ ap (λ (o : List ℕ). e.bytes ∷ handed_out more o (behind_first (text (f ∷ right))))
+      ∙ ap (λ (o : List ℕ). o ∷ handed_out more (octets_after_first (text (e ∷ left)))
+      (octets_after_first (text (f ∷ right)))) (first_is e left first)
+      ∙ ap (λ (o : List ℕ). e.bytes ∷ handed_out more o (octets_after_first (text (f ∷ right))))
       (behind_is e left first)
       ∙ ap (λ (o : List ℕ). e.bytes ∷ handed_out more (text left) o) (behind_is f right other)
   hands_first RightOfBoth es fs e left right a b comes more =
@@ -289,14 +289,14 @@ module _ (laws : ReportsAreEntries) (tables : Entries) where
       ap (λ (fs : List Entry). handed_out (RightOfBoth ∷ more) (text es) (text fs)) comes.0
       ∙ ap (λ (es : List Entry). handed_out (RightOfBoth ∷ more) (text es) (text (e ∷ right)))
       comes.2
-      ∙ ap (λ (o : List ℕ). o ∷ handed_out more (behind_first (text (f ∷ left)))
-      (behind_first (text (e ∷ right)))) (first_is e right first)
-      ∙ ap (λ (o : List ℕ). e.bytes ∷ handed_out more o (behind_first (text (e ∷ right))))
+      ∙ ap (λ (o : List ℕ). o ∷ handed_out more (octets_after_first (text (f ∷ left)))
+      (octets_after_first (text (e ∷ right)))) (first_is e right first)
+      ∙ ap (λ (o : List ℕ). e.bytes ∷ handed_out more o (octets_after_first (text (e ∷ right))))
       (behind_is f left other)
       ∙ ap (λ (o : List ℕ). e.bytes ∷ handed_out more (text left) o) (behind_is e right first)
 
-marks_first : (origin : Origin) (es fs : List Entry) (e : Entry) (left right : List Entry)
-    → ComesFirst origin es fs e left right → (more : List Origin)
+marks_first : (origin : EntrySource) (es fs : List Entry) (e : Entry) (left right : List Entry)
+    → ComesFirst origin es fs e left right → (more : List EntrySource)
     → marks_out (origin ∷ more) (marks_of es) (marks_of fs)
     ≡ mark_of e ∷ marks_out more (marks_of left) (marks_of right)
 marks_first Left es fs e left right comes more =
@@ -321,21 +321,21 @@ octets_of es = map (λ (e : Entry). e.bytes) es
 -- ---- step by step
 
 -- the origins of the entries before are known, and these entries are left
-pub record ToldSoFar (tables : Entries) (es fs : List Entry) (origins : List Origin)
+pub record ToldSoFar (tables : Entries) (es fs : List Entry) (origins : List EntrySource)
     (left right : Unmerged) (most at : ℕ) : Type 0 where
   pub done : List Entry
   pub left_behind : List Entry
   pub right_behind : List Entry
   pub are_kept : kept (es ++ fs) ≡ done ++ kept (left_behind ++ right_behind)
-  pub hands : (more : List Origin) → handed_out (origins ++ more) (text es) (text fs)
+  pub hands : (more : List EntrySource) → handed_out (origins ++ more) (text es) (text fs)
       ≡ octets_of done ++ handed_out more (text left_behind) (text right_behind)
-  pub marks : (more : List Origin) → marks_out (origins ++ more) (marks_of es) (marks_of fs)
+  pub marks : (more : List EntrySource) → marks_out (origins ++ more) (marks_of es) (marks_of fs)
       ≡ marks_of done ++ marks_out more (marks_of left_behind) (marks_of right_behind)
   pub few : at + (length left_behind + length right_behind) ≤ most
   pub left_are : AreLeft tables left_behind left
   pub right_are : AreLeft tables right_behind right
 
-pub told_none : (tables : Entries) (es fs : List Entry) (origins : List Origin)
+pub told_none : (tables : Entries) (es fs : List Entry) (origins : List EntrySource)
     (left right : Unmerged) (most : ℕ) → origins ≡ [] → AreLeft tables es left
     → AreLeft tables fs right → length es + length fs ≤ most
     → ToldSoFar tables es fs origins left right most 0
@@ -345,16 +345,16 @@ told_none tables es fs origins left right most none l r few = record {
   right_behind = fs;
   are_kept = refl;
   hands = λ more.
-      ap (λ (os : List Origin). handed_out (os ++ more) (text es) (text fs)) none;
+      ap (λ (os : List EntrySource). handed_out (os ++ more) (text es) (text fs)) none;
   marks = λ more.
-      ap (λ (os : List Origin). marks_out (os ++ more) (marks_of es) (marks_of fs)) none;
+      ap (λ (os : List EntrySource). marks_out (os ++ more) (marks_of es) (marks_of fs)) none;
   few = omega arith;
   left_are = l;
   right_are = r;
 }
 
-told_more : ReportsAreEntries → (tables : Entries) (es fs : List Entry) (origins : List Origin)
-    (origin : Origin) (left right left' right' : Unmerged) (most at : ℕ)
+told_more : ReportsAreEntries → (tables : Entries) (es fs : List Entry) (origins : List EntrySource)
+    (origin : EntrySource) (left right left' right' : Unmerged) (most at : ℕ)
     → (s : ToldSoFar tables es fs origins left right most at)
     → FirstTaken tables s.left_behind s.right_behind left' right' origin
     → ToldSoFar tables es fs (origins ++ origin ∷ []) left' right' most (at + 1)
@@ -372,7 +372,7 @@ told_more laws tables es fs origins origin left right left' right' most at s t =
           ∙ sym (append_assoc s.done (t.taken ∷ []) rest);
       hands = λ more.
           let behind = handed_out more (text t.left_behind) (text t.right_behind) in
-          ap (λ (os : List Origin). handed_out os (text es) (text fs))
+          ap (λ (os : List EntrySource). handed_out os (text es) (text fs))
           (append_assoc origins (origin ∷ []) more)
           ∙ s.hands (origin ∷ more)
           ∙ ap (λ (os : List (List ℕ)). octets_of s.done ++ os) (first more)
@@ -381,7 +381,7 @@ told_more laws tables es fs origins origin left right left' right' most at s t =
           (sym (map-append (λ (e : Entry). e.bytes) s.done (t.taken ∷ [])));
       marks = λ more.
           let behind = marks_out more (marks_of t.left_behind) (marks_of t.right_behind) in
-          ap (λ (os : List Origin). marks_out os (marks_of es) (marks_of fs))
+          ap (λ (os : List EntrySource). marks_out os (marks_of es) (marks_of fs))
           (append_assoc origins (origin ∷ []) more)
           ∙ s.marks (origin ∷ more)
           ∙ ap (λ (ms : List SlotView). marks_of s.done ++ ms)
@@ -395,7 +395,7 @@ told_more laws tables es fs origins origin left right left' right' most at s t =
       right_are = t.right_are;
     }
 
-told_done : (tables : Entries) (es fs : List Entry) (origins : List Origin)
+told_done : (tables : Entries) (es fs : List Entry) (origins : List EntrySource)
     (left right : Unmerged) (most at : ℕ)
     → (s : ToldSoFar tables es fs origins left right most at)
     → s.left_behind ≡ [] → s.right_behind ≡ [] → HandOutMerged es fs origins
@@ -405,10 +405,10 @@ told_done tables es fs origins left right most at s none none_too =
     ∙ ap (λ (ks : List Entry). s.done ++ kept (ks ++ s.right_behind)) none
     ∙ ap (λ (ks : List Entry). s.done ++ kept ks) none_too ∙ append-nil s.done in
     record {
-      octets = ap (λ (os : List Origin). handed_out os (text es) (text fs))
+      octets = ap (λ (os : List EntrySource). handed_out os (text es) (text fs))
           (sym (append-nil origins))
           ∙ s.hands [] ∙ append-nil (octets_of s.done) ∙ ap octets_of (sym all);
-      marks = ap (λ (os : List Origin). marks_out os (marks_of es) (marks_of fs))
+      marks = ap (λ (os : List EntrySource). marks_out os (marks_of es) (marks_of fs))
           (sym (append-nil origins))
           ∙ s.marks [] ∙ append-nil (marks_of s.done) ∙ ap marks_of (sym all);
     }
@@ -417,7 +417,7 @@ empty : (es : List Entry) → length es ≡ 0 → es ≡ []
 empty [] none = refl
 empty (e ∷ es) none = absurd (omega arith)
 
-pub told_all : (tables : Entries) (es fs : List Entry) (origins : List Origin)
+pub told_all : (tables : Entries) (es fs : List Entry) (origins : List EntrySource)
     (left right : Unmerged) (most at : ℕ) → ToldSoFar tables es fs origins left right most at
     → most ≤ at → HandOutMerged es fs origins
 told_all tables es fs origins left right most at s all =
@@ -426,13 +426,13 @@ told_all tables es fs origins left right most at s all =
     (empty s.left_behind (omega arith)) (empty s.right_behind (omega arith))
 
 -- a step from two rests to two others
-abbrev pub Takes : Unmerged → Unmerged → Unmerged → Unmerged → Option Origin → Type 0
+abbrev pub Takes : Unmerged → Unmerged → Unmerged → Unmerged → Option EntrySource → Type 0
 Takes left right left' right' found =
     (tables : Entries) (es fs : List Entry) → AreLeft tables es left → AreLeft tables fs right
     → TakesFirst tables es fs left' right' found
 
-pub told_stops : (tables : Entries) (es fs : List Entry) (origins : List Origin)
-    (left right left' right' : Unmerged) (found : Option Origin) (most at : ℕ)
+pub told_stops : (tables : Entries) (es fs : List Entry) (origins : List EntrySource)
+    (left right left' right' : Unmerged) (found : Option EntrySource) (most at : ℕ)
     → ToldSoFar tables es fs origins left right most at
     → Takes left right left' right' found → found ≡ None → HandOutMerged es fs origins
 told_stops tables es fs origins left right left' right' found most at s takes none =
@@ -442,8 +442,8 @@ told_stops tables es fs origins left right left' right' found most at s takes no
     told_done tables es fs origins left right most at s n.0 n.1
 
 pub told_goes_on : ReportsAreEntries → (tables : Entries) (es fs : List Entry)
-    (origins origins' : List Origin) (origin : Origin) (left right left' right' : Unmerged)
-    (found : Option Origin) (most at : ℕ) → ToldSoFar tables es fs origins left right most at
+    (origins origins' : List EntrySource) (origin : EntrySource) (left right left' right' : Unmerged)
+    (found : Option EntrySource) (most at : ℕ) → ToldSoFar tables es fs origins left right most at
     → Takes left right left' right' found → found ≡ Some origin
     → origins' ≡ origins ++ origin ∷ []
     → ToldSoFar tables es fs origins' left' right' most (at + 1)
@@ -452,7 +452,7 @@ told_goes_on laws tables es fs origins origins' origin left right left' right' f
     let n : TakesFirst tables s.left_behind s.right_behind left' right' (Some origin) =
     subst (TakesFirst tables s.left_behind s.right_behind left' right') some
     (takes tables s.left_behind s.right_behind s.left_are s.right_are) in
-    subst (λ (os : List Origin). ToldSoFar tables es fs os left' right' most (at + 1)) (sym is)
+    subst (λ (os : List EntrySource). ToldSoFar tables es fs os left' right' most (at + 1)) (sym is)
     (told_more laws tables es fs origins origin left right left' right' most at s n)
 
 -- ---- the octets joined
@@ -461,7 +461,7 @@ joined_text : (es : List Entry) → flat_map (λ (o : List ℕ). o) (octets_of e
 joined_text [] = refl
 joined_text (e ∷ es) = ap (λ (xs : List ℕ). e.bytes ++ xs) (joined_text es)
 
-pub merged_are : (es fs : List Entry) (origins : List Origin) (octets : List ℕ)
+pub merged_are : (es fs : List Entry) (origins : List EntrySource) (octets : List ℕ)
     (marks : List SlotView) → HandOutMerged es fs origins
     → octets ≡ flat_map (λ (o : List ℕ). o) (handed_out origins (text es) (text fs))
     → marks ≡ marks_out origins (marks_of es) (marks_of fs) → AreMerged es fs octets marks

@@ -14,9 +14,9 @@ use Rattle.bufr_entries.specs.Marks.{SlotView}
 use Rattle.bufr_gather.specs.declared.reading.NotAnArchive.{NotAnArchive}
 use Rattle.bufr_gather.specs.declared.merging_texts.KnownEntry.{KnownEntry}
 use Rattle.bufr_gather.specs.declared.merging_texts.Unmerged.{Unmerged}
-use Rattle.bufr_gather.specs.declared.merged_octets.Origin.{Origin}
-use Rattle.bufr_gather.specs.declared.merged_octets.Origin.TheVariants.{Left, Right, LeftOfBoth}
-use Rattle.bufr_gather.specs.declared.merged_octets.Origin.TheVariants.{RightOfBoth}
+use Rattle.bufr_gather.specs.declared.merged_octets.EntrySource.{EntrySource}
+use Rattle.bufr_gather.specs.declared.merged_octets.EntrySource.TheVariants.{Left, Right, LeftOfBoth}
+use Rattle.bufr_gather.specs.declared.merged_octets.EntrySource.TheVariants.{RightOfBoth}
 use Rattle.bufr_gather.specs.Texts.{text, marks_of, entries_read}
 use Rattle.bufr_gather.specs.ReportEntries.{IsReportEntry, entry_in}
 
@@ -70,13 +70,13 @@ order_of_firsts None (Some f) = Greater
 order_of_firsts (Some e) (Some f) = slot_cmp e f
 
 -- the origin of the entry of greater rank, of two with one slot
-abbrev pub greater_of : Option Entry → Option Entry → Origin
+abbrev pub greater_of : Option Entry → Option Entry → EntrySource
 greater_of e None = LeftOfBoth
 greater_of None (Some f) = RightOfBoth
 greater_of (Some e) (Some f) = if is_gt (rank_cmp e f) then LeftOfBoth else RightOfBoth
 
 -- e is the first entry with this origin, and after it these are left of both lists
-abbrev pub ComesFirst : Origin → List Entry → List Entry → Entry → List Entry → List Entry → Type 0
+abbrev pub ComesFirst : EntrySource → List Entry → List Entry → Entry → List Entry → List Entry → Type 0
 ComesFirst Left es fs e left right = (es ≡ e ∷ left) × (fs ≡ right)
 ComesFirst Right es fs e left right = (es ≡ left) × (fs ≡ e ∷ right)
 ComesFirst LeftOfBoth es fs e left right =
@@ -86,7 +86,7 @@ ComesFirst RightOfBoth es fs e left right =
 
 -- the next kept entry of two lists, with all entries of its slot, is gone, and these are left
 pub record FirstTaken (tables : Entries) (es fs : List Entry) (left right : Unmerged)
-    (origin : Origin) : Type 0 where
+    (origin : EntrySource) : Type 0 where
   pub taken : Entry
   pub left_behind : List Entry
   pub right_behind : List Entry
@@ -97,7 +97,7 @@ pub record FirstTaken (tables : Entries) (es fs : List Entry) (left right : Unme
   pub right_are : AreLeft tables right_behind right
 
 -- an entry is taken so, or nothing is left of both lists
-abbrev pub TakesFirst : Entries → List Entry → List Entry → Unmerged → Unmerged → Option Origin
+abbrev pub TakesFirst : Entries → List Entry → List Entry → Unmerged → Unmerged → Option EntrySource
     → Type 0
 TakesFirst tables es fs left right None = (es ≡ []) × (fs ≡ [])
 TakesFirst tables es fs left right (Some origin) = FirstTaken tables es fs left right origin

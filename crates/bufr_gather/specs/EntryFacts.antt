@@ -11,7 +11,7 @@ use Rattle.bufr_frame.specs.Cuts.{IsOneFrame}
 use Rattle.bufr_entries.specs.declared.entry.Entry.{Entry}
 use Rattle.bufr_sections.specs.Sections.{AreOctets}
 use Rattle.bufr_report_keys.specs.Usable.{◌>>=◌}
-use Rattle.bufr_gather.specs.MergedOctets.{octets_or_none, first_octets, behind_first}
+use Rattle.bufr_gather.specs.MergedOctets.{octets_or_none, first_octets, octets_after_first}
 use Rattle.bufr_gather.specs.Texts.{comes_after, front_of, right_entry}
 use Rattle.bufr_gather.specs.EntryLaws.{HasEntryLaws}
 
@@ -66,7 +66,7 @@ from_on xs n =
     let size = length-drop n xs in take_all (length xs - n) (drop n xs) (omega arith)
 
 pub behind_them : (xs front : List ℕ) → first_octets xs ≡ front
-    → drop (length front) xs ≡ behind_first xs
+    → drop (length front) xs ≡ octets_after_first xs
 behind_them xs front is = ap (λ (f : List ℕ). drop (length f) xs) (sym is)
 
 -- ---- steps of a chain

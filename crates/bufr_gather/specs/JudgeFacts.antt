@@ -7,7 +7,7 @@ use Rattle.std.proofs.lemmas.List.{drop_at}
 use Rattle.std.proofs.lemmas.List.Elements.{All-from_recursion}
 use Rattle.bufr_base.specs.Answers.{result_map}
 use Rattle.bufr_entries.specs.declared.entry.Entry.{Entry}
-use Rattle.bufr_gather.specs.Texts.{text, comes_after, right_entry, entry_then, judged}
+use Rattle.bufr_gather.specs.Texts.{text, comes_after, right_entry, entry_then, summary}
 use Rattle.bufr_gather.specs.EntryLaws.{HasEntryLaws}
 use Rattle.bufr_gather.specs.EntryFacts as facts
 
@@ -80,34 +80,34 @@ module _ (is_entry : Entry → Type 0) (entry_in : List ℕ → Option Entry)
   -- ---- right entries are taken
 
   judged_skip : (before : Option Entry) (xs ys : List ℕ) (place : ℕ)
-      → judged entry_in before place (length xs) (xs ++ ys)
-      ≡ judged entry_in before (place + length xs) 0 ys
-  unfolding judged
+      → summary entry_in before place (length xs) (xs ++ ys)
+      ≡ summary entry_in before (place + length xs) 0 ys
+  unfolding summary
   judged_skip before [] ys place =
-      ap (λ p. judged entry_in before p 0 ys) (let e : place ≡ place + 0 = omega arith in e)
+      ap (λ p. summary entry_in before p 0 ys) (let e : place ≡ place + 0 = omega arith in e)
   judged_skip before (x ∷ xs) ys place =
       judged_skip before xs ys (place + 1)
-      ∙ ap (λ p. judged entry_in before p 0 ys)
+      ∙ ap (λ p. summary entry_in before p 0 ys)
       (let e : place + 1 + length xs ≡ place + suc (length xs) = omega arith in e)
 
   judged_right : (before : Option Entry) (place : ℕ) (e : Entry) (b more : List ℕ) → e.bytes ≡ b
       → 0 < length b → right_entry entry_in before (b ++ more) ≡ Some e
-      → judged entry_in before place 0 (b ++ more)
-      ≡ result_map (λ es. e ∷ es) (judged entry_in (Some e) (place + length b) 0 more)
-  unfolding judged
+      → summary entry_in before place 0 (b ++ more)
+      ≡ result_map (λ es. e ∷ es) (summary entry_in (Some e) (place + length b) 0 more)
+  unfolding summary
   judged_right before place e [] more same long right = absurd (omega arith)
   judged_right before place e (x ∷ b) more same long right =
       let size : length e.bytes - 1 ≡ length b =
       ap (λ (b : List ℕ). length b - 1) same
       ∙ (let n : suc (length b) - 1 ≡ length b = omega arith in n) in
       let on : place + 1 + length b ≡ place + suc (length b) = omega arith in
-      let next : judged entry_in (Some e) (place + 1) (length b) (b ++ more)
-      ≡ judged entry_in (Some e) (place + suc (length b)) 0 more =
+      let next : summary entry_in (Some e) (place + 1) (length b) (b ++ more)
+      ≡ summary entry_in (Some e) (place + suc (length b)) 0 more =
       judged_skip (Some e) b more (place + 1)
-      ∙ ap (λ p. judged entry_in (Some e) p 0 more) on in
+      ∙ ap (λ p. summary entry_in (Some e) p 0 more) on in
       ap (λ (x : Option Entry). entry_then x place
-      (λ e. judged entry_in (Some e) (place + 1) (length e.bytes - 1) (b ++ more))) right
-      ∙ ap (λ k. result_map (λ es. e ∷ es) (judged entry_in (Some e) (place + 1) k
+      (λ e. summary entry_in (Some e) (place + 1) (length e.bytes - 1) (b ++ more))) right
+      ∙ ap (λ k. result_map (λ es. e ∷ es) (summary entry_in (Some e) (place + 1) k
       (b ++ more))) size
       ∙ ap (result_map (λ es. e ∷ es)) next
 
@@ -116,12 +116,12 @@ module _ (is_entry : Entry → Type 0) (entry_in : List ℕ → Option Entry)
 
   pub judged_past : (before : Option Entry) (place : ℕ) (es : List Entry) (more : List ℕ)
       → IsRun is_entry before es
-      → judged entry_in before place 0 (text es ++ more)
-      ≡ result_map (λ fs. es ++ fs) (judged entry_in (last_of before es)
+      → summary entry_in before place 0 (text es ++ more)
+      ≡ result_map (λ fs. es ++ fs) (summary entry_in (last_of before es)
       (place + length (text es)) 0 more)
   judged_past before place [] more run =
-      ap (λ p. judged entry_in before p 0 more) (let e : place ≡ place + 0 = omega arith in e)
-      ∙ sym (map_none (judged entry_in before (place + 0) 0 more))
+      ap (λ p. summary entry_in before p 0 more) (let e : place ≡ place + 0 = omega arith in e)
+      ∙ sym (map_none (summary entry_in before (place + 0) 0 more))
   judged_past before place (e ∷ es) more run =
       let long = long_entry e run.0 in
       let right = facts.right_is is_entry entry_in laws before e (text es ++ more) run.0 run.1 in
@@ -129,19 +129,19 @@ module _ (is_entry : Entry → Type 0) (entry_in : List ℕ → Option Entry)
       let rest = judged_past (Some e) (place + length e.bytes) es more run.2 in
       let there : place + length e.bytes + length (text es) ≡ place + length (text (e ∷ es)) =
       omega (arith, length-append e.bytes (text es)) in
-      ap (judged entry_in before place 0) (append_assoc e.bytes (text es) more)
+      ap (summary entry_in before place 0) (append_assoc e.bytes (text es) more)
       ∙ step ∙ ap (result_map (λ fs. e ∷ fs)) rest
-      ∙ map_more e es (judged entry_in (last_of (Some e) es)
+      ∙ map_more e es (summary entry_in (last_of (Some e) es)
       (place + length e.bytes + length (text es)) 0 more)
       ∙ ap (λ p. result_map (λ fs. (e ∷ es) ++ fs)
-      (judged entry_in (last_of (Some e) es) p 0 more)) there
+      (summary entry_in (last_of (Some e) es) p 0 more)) there
 
   -- ---- taken entries are right
 
   pub judged_takes : (before : Option Entry) (place skip : ℕ) (xs : List ℕ) (es : List Entry)
-      → EachOctet xs → judged entry_in before place skip xs ≡ Ok es
+      → EachOctet xs → summary entry_in before place skip xs ≡ Ok es
       → IsRun is_entry before es × (drop skip xs ≡ text es)
-  unfolding judged
+  unfolding summary
   judged_takes before place zero [] es a h =
       let none : [] ≡ es = cc in (subst (IsRun is_entry before) none tt, ap text none)
   judged_takes before place (suc skip) [] es a h =
@@ -150,7 +150,7 @@ module _ (is_entry : Entry → Type 0) (entry_in : List ℕ → Option Entry)
       judged_takes before (place + 1) skip xs es a.1 h
   judged_takes before place zero (x ∷ xs) es a h =
       let t = then_ok (right_entry entry_in before (x ∷ xs)) place
-      (λ e. judged entry_in (Some e) (place + 1) (length e.bytes - 1) xs) es h in
+      (λ e. summary entry_in (Some e) (place + 1) (length e.bytes - 1) xs) es h in
       let k = facts.right_takes is_entry entry_in laws before (x ∷ xs) t.0
       (All-from_recursion (λ x. x < 2 ^ 8) (x ∷ xs) a) t.2 in
       let rest = judged_takes (Some t.0) (place + 1) (length t.0.bytes - 1) xs t.1 a.1 t.3 in
@@ -203,9 +203,9 @@ module _ (is_entry : Entry → Type 0) (entry_in : List ℕ → Option Entry)
       }
 
   pub judged_stops : (before : Option Entry) (place skip : ℕ) (xs : List ℕ) (stop : ℕ)
-      → EachOctet xs → judged entry_in before place skip xs ≡ Err stop
+      → EachOctet xs → summary entry_in before place skip xs ≡ Err stop
       → Stops before (drop skip xs) (place + skip) stop
-  unfolding judged
+  unfolding summary
   judged_stops before place zero [] stop a h = absurd cc
   judged_stops before place (suc skip) [] stop a h = absurd cc
   judged_stops before place (suc skip) (x ∷ xs) stop a h =
@@ -216,7 +216,7 @@ module _ (is_entry : Entry → Type 0) (entry_in : List ℕ → Option Entry)
       let zero_on : place ≡ place + 0 = omega arith in
       subst (λ p. Stops before (x ∷ xs) p stop) zero_on
       (elim (then_err (right_entry entry_in before (x ∷ xs)) place
-      (λ e. judged entry_in (Some e) (place + 1) (length e.bytes - 1) xs) stop h) [
+      (λ e. summary entry_in (Some e) (place + 1) (length e.bytes - 1) xs) stop h) [
         | inl e ↦ none_taken before x xs place stop e
         | inr t ↦ one_taken before x xs place stop t.0
             (facts.right_takes is_entry entry_in laws before (x ∷ xs) t.0

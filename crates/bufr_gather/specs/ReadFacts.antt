@@ -9,7 +9,7 @@ use Rattle.bufr_base.specs.Answers.{result_map}
 use Rattle.bufr_entries.specs.declared.entry.Entry.{Entry}
 use Rattle.bufr_entries.specs.Entries.{kept}
 use Rattle.bufr_sections.specs.Sections.{AreOctets}
-use Rattle.bufr_gather.specs.Texts.{text, comes_after, right_entry, entry_then, judged}
+use Rattle.bufr_gather.specs.Texts.{text, comes_after, right_entry, entry_then, summary}
 use Rattle.bufr_gather.specs.Texts.{entries_read}
 use Rattle.bufr_tables.specs.Entries.{Entries}
 use Rattle.bufr_gather.specs.EntryLaws.{HasEntryLaws}
@@ -126,16 +126,16 @@ module _ (is_entry : Entry → Type 0) (entry_in : List ℕ → Option Entry)
   pub read_all : (octets : List ℕ) (es : List Entry) (before : Option Entry) (place : ℕ)
       (rest : List ℕ) → ReadSoFar is_entry octets es before place rest → length rest ≡ 0
       → entries_read entry_in octets ≡ Ok es
-  unfolding judged
+  unfolding summary
   read_all octets es before place [] s none =
-      ap (judged entry_in None 0 0) s.parts
+      ap (summary entry_in None 0 0) s.parts
       ∙ judging.judged_past is_entry entry_in laws None 0 es [] s.run ∙ ap Ok (append-nil es)
   read_all octets es before place (x ∷ rest) s none = absurd (omega arith)
 
   pub read_stops : (octets : List ℕ) (es : List Entry) (before : Option Entry) (place : ℕ)
       (rest : List ℕ) → ReadSoFar is_entry octets es before place rest → 0 < length rest
       → right_entry entry_in before rest ≡ None → entries_read entry_in octets ≡ Err place
-  unfolding judged
+  unfolding summary
   read_stops octets es before place [] s some none = absurd (omega arith)
   read_stops octets es before place (x ∷ rest) s some none =
       let wrong : right_entry entry_in (last_of None es) (x ∷ rest) ≡ None =
@@ -143,8 +143,8 @@ module _ (is_entry : Entry → Type 0) (entry_in : List ℕ → Option Entry)
       let here = 0 + length (text es) in
       let at : here ≡ place =
       (let z : 0 + length (text es) ≡ length (text es) = omega arith in z) ∙ sym s.there in
-      ap (judged entry_in None 0 0) s.parts
+      ap (summary entry_in None 0 0) s.parts
       ∙ judging.judged_past is_entry entry_in laws None 0 es (x ∷ rest) s.run
       ∙ ap (λ (o : Option Entry). result_map (λ fs. es ++ fs) (entry_then o here
-      (λ e. judged entry_in (Some e) (here + 1) (length e.bytes - 1) rest))) wrong
+      (λ e. summary entry_in (Some e) (here + 1) (length e.bytes - 1) rest))) wrong
       ∙ ap Err at

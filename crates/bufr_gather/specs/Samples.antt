@@ -37,8 +37,8 @@ abbrev pub text_told : List ℕ → List ℕ
 text_told stream = text_of sample (told sample stream)
 
 -- the entries of a text, or the place where it breaks
-abbrev pub judged : List ℕ → Result (List Entry) ℕ
-judged octets = entries_read (entry_in sample) octets
+abbrev pub summary : List ℕ → Result (List Entry) ℕ
+summary octets = entries_read (entry_in sample) octets
 
 -- the entries of the reports of two messages
 abbrev pub entries_of_both : List ℕ → List ℕ → List Entry

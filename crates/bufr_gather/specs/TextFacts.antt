@@ -15,7 +15,7 @@ use Rattle.bufr_entries.specs.Entries.{slot_cmp, kept}
 use Rattle.bufr_entries.specs.Keeping.{Has}
 use Rattle.bufr_entries.specs.Orders.{slots_total, kept-are, kept-sorted}
 use Rattle.bufr_sections.specs.Sections.{AreOctets}
-use Rattle.bufr_gather.specs.Texts.{text, IsEntryText, comes_after, judged, entries_read}
+use Rattle.bufr_gather.specs.Texts.{text, IsEntryText, comes_after, summary, entries_read}
 use Rattle.bufr_gather.specs.EntryLaws.{HasEntryLaws}
 use Rattle.bufr_gather.specs.TextLaws.{TextsAreRead, ReadAreTexts, RefusedBreakThere}
 use Rattle.bufr_gather.specs.JudgeFacts.{last_of, map_failed}
@@ -105,10 +105,10 @@ module _ (is_entry : Entry → Type 0) (entry_in : List ℕ → Option Entry)
   -- ---- what is read
 
   pub texts_are_read : TextsAreRead is_entry entry_in
-  unfolding judged
+  unfolding summary
   texts_are_read es a =
       let ks = kept es in
-      ap (judged entry_in None 0 0) (sym (append-nil (text ks)))
+      ap (summary entry_in None 0 0) (sym (append-nil (text ks)))
       ∙ judging.judged_past is_entry entry_in laws None 0 ks [] (run_of_kept es a)
       ∙ ap Ok (append-nil ks)
 
@@ -128,8 +128,8 @@ module _ (is_entry : Entry → Type 0) (entry_in : List ℕ → Option Entry)
       sym (take-append-drop n octets) ∙ ap (λ (f : List ℕ). f ++ drop n octets) t.says in
       let past = judging.judged_past is_entry entry_in laws None 0 es (drop n octets) run in
       let inner = map_failed (λ fs. es ++ fs)
-      (judged entry_in (last_of None es) (0 + length (text es)) 0 (drop n octets)) place
-      (sym past ∙ ap (judged entry_in None 0 0) (sym parts) ∙ err) in
+      (summary entry_in (last_of None es) (0 + length (text es)) 0 (drop n octets)) place
+      (sym past ∙ ap (summary entry_in None 0 0) (sym parts) ∙ err) in
       let each = recursion_from_All (λ x. x < 2 ^ 8) (drop n octets)
       (All-drop (λ x. x < 2 ^ 8) n octets all) in
       let stop = judging.judged_stops is_entry entry_in laws (last_of None es)

@@ -74,14 +74,14 @@ entry_then (Some e) place more = result_map (λ es. e ∷ es) (more e)
 
 -- the entries from a place on, after `skip` more octets of the entry before, or the place of the
 -- first wrong entry
-unfoldable pub judged : (List ℕ → Option Entry) → Option Entry → ℕ → ℕ → List ℕ
+unfoldable pub summary : (List ℕ → Option Entry) → Option Entry → ℕ → ℕ → List ℕ
     → Result (List Entry) ℕ
-judged entry_in before place skip [] = Ok []
-judged entry_in before place (suc skip) (x ∷ xs) = judged entry_in before (place + 1) skip xs
-judged entry_in before place zero (x ∷ xs) =
+summary entry_in before place skip [] = Ok []
+summary entry_in before place (suc skip) (x ∷ xs) = summary entry_in before (place + 1) skip xs
+summary entry_in before place zero (x ∷ xs) =
     entry_then (right_entry entry_in before (x ∷ xs)) place
-    (λ e. judged entry_in (Some e) (place + 1) (length e.bytes - 1) xs)
+    (λ e. summary entry_in (Some e) (place + 1) (length e.bytes - 1) xs)
 
 -- the entries of a text, or the place of the first wrong entry
 abbrev pub entries_read : (List ℕ → Option Entry) → List ℕ → Result (List Entry) ℕ
-entries_read entry_in octets = judged entry_in None 0 0 octets
+entries_read entry_in octets = summary entry_in None 0 0 octets

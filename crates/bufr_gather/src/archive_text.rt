@@ -15,7 +15,7 @@ ghost use Rattle.bufr_gather.specs.Texts.{text, mark_of, entries_read};
 
 use crate::laws::reports_are_entries;
 use crate::merged_marks::merged_marks;
-use crate::merged_octets::{MergedOctets, Origin};
+use crate::merged_octets::{EntrySource, MergedOctets};
 use crate::merging_texts::{Unmerged, take_first};
 use crate::reading::{NotAnArchive, ReadEntry, right_entry};
 use bufr_base::{Failure, OutOfMemory};
@@ -81,8 +81,8 @@ impl<'t> ArchiveText<'t> {
         written_messages_are_spelt();
         let mut octets = octets;
         octets.shrink_to_fit();
-        let mut templates = MessageReader::for_elements(alloc, tables, key_elements());
-        let marks = read_marks(alloc, &mut templates, &octets)?;
+        let mut message_reader = MessageReader::for_elements(alloc, tables, key_elements());
+        let marks = read_marks(alloc, &mut message_reader, &octets)?;
         Ok(ArchiveText {
             tables,
             octets,
@@ -124,7 +124,7 @@ impl<'t> ArchiveText<'t> {
         &self,
         alloc: Global,
         other: &ArchiveText<'t>,
-    ) -> Result<Vec<Origin>, OutOfMemory>
+    ) -> Result<Vec<EntrySource>, OutOfMemory>
         requires { self.now.tables ≡ other.now.tables }
         ensures { IfOk result (λ origins.
             HandOutMerged self.now.entries other.now.entries origins.items) }
@@ -176,7 +176,7 @@ impl<'t> ArchiveText<'t> {
 
 fn joined_octets(
     alloc: Global,
-    origins: &[Origin],
+    origins: &[EntrySource],
     left: &[u8],
     right: &[u8],
 ) -> Result<Vec<u8>, OutOfMemory>
@@ -200,22 +200,22 @@ fn push_mark(marks: &mut Vec<PackedSlot>, last: Option<ReadEntry>) -> Result<(),
 /// Fills an empty vector with the marks of a text's entries.
 fn push_marks(
     alloc: Global,
-    templates: &mut MessageReader<'_>,
+    message_reader: &mut MessageReader<'_>,
     octets: &[u8],
     marks: &mut Vec<PackedSlot>,
 ) -> Result<(), Failure<NotAnArchive>>
     requires { marks.old.items ≡ [] }
-    ensures same { templates.new ≡ templates.old }
+    ensures same { message_reader.new ≡ message_reader.old }
     ensures octets { AreOctets octets.now }
     ensures marks { Gives (λ _. marks.new.items) result
-        (marks_or (entries_read (entry_in templates.old) octets.now)) }
+        (marks_or (entries_read (entry_in message_reader.old) octets.now)) }
 {
     reports_are_entries();
     let mut before: Option<ReadEntry> = None;
     let mut place: usize = 0;
     let mut rest = octets;
     while rest.len() > 0 {
-        let Some(entry) = right_entry(alloc, templates, &before, rest)? else {
+        let Some(entry) = right_entry(alloc, message_reader, &before, rest)? else {
             let place = place as u64;
             return Err(Failure::Fault(NotAnArchive { place }));
         };
@@ -230,16 +230,16 @@ fn push_marks(
 
 fn read_marks(
     alloc: Global,
-    templates: &mut MessageReader<'_>,
+    message_reader: &mut MessageReader<'_>,
     octets: &[u8],
 ) -> Result<Vec<PackedSlot>, Failure<NotAnArchive>>
-    ensures same { templates.new ≡ templates.old }
+    ensures same { message_reader.new ≡ message_reader.old }
     ensures octets { AreOctets octets.now }
     ensures marks { Gives (λ marks. marks.items) result
-        (marks_or (entries_read (entry_in templates.old) octets.now)) }
+        (marks_or (entries_read (entry_in message_reader.old) octets.now)) }
 {
     let mut marks = Vec::new(alloc);
-    push_marks(alloc, templates, octets, &mut marks)?;
+    push_marks(alloc, message_reader, octets, &mut marks)?;
     marks.shrink_to_fit();
     Ok(marks)
 }

@@ -25,7 +25,7 @@ use std::marker::Model;
 #[derive(Drop)]
 pub struct ArchiveBuilder<'t> {
     alloc: Global,
-    templates: MessageReader<'t>,
+    message_reader: MessageReader<'t>,
     entries: ShelfBuilder,
 }
 
@@ -35,7 +35,7 @@ impl<'t> Model for ArchiveBuilder<'t> {
 
     ghost Value = { ArchiveView };
 
-    ghost view = { λ g. record { tables = g.templates; entries = kept g.entries } };
+    ghost view = { λ g. record { tables = g.message_reader; entries = kept g.entries } };
 }
 
 impl<'t> ArchiveBuilder<'t> {
@@ -45,7 +45,7 @@ impl<'t> ArchiveBuilder<'t> {
     {
         ArchiveBuilder {
             alloc,
-            templates: MessageReader::for_elements(alloc, tables, key_elements()),
+            message_reader: MessageReader::for_elements(alloc, tables, key_elements()),
             entries: ShelfBuilder::new(alloc),
         }
     }
@@ -58,7 +58,7 @@ impl<'t> ArchiveBuilder<'t> {
         canonical_messages_are_own();
         written_messages_are_spelt();
         // Lends the view from the result, since moving it out would copy it.
-        let read = self.templates.read(self.alloc, octets);
+        let read = self.message_reader.read(self.alloc, octets);
         let view = match &read {
             Ok(view) => view,
             Err(Failure::Fault(why)) => return Err(AddFault::Refused(*why)),
@@ -91,11 +91,11 @@ impl<'t> ArchiveBuilder<'t> {
         ensures entries { kept result.1 ≡ self.entry.entries }
     {
         let ArchiveBuilder {
-            templates,
+            message_reader,
             entries,
             ..
         } = self;
-        (templates, entries)
+        (message_reader, entries)
     }
 
     /// Returns the canonical messages of the archive, in order of slots; joined they are its text.

@@ -2,16 +2,16 @@
 ghost use Rattle.std.specs.Prelude.{◌≡◌, ◌≤◌, ◌++◌, ◌∷◌, [], List, length, reverse};
 ghost use Rattle.std.specs.Option.{option_to_list};
 ghost use Rattle.std.specs.Vec.{vec_capacity};
-ghost use Rattle.bufr_gather.specs.declared.merged_octets.Origin.{Origin as AnOrigin};
+ghost use Rattle.bufr_gather.specs.declared.merged_octets.EntrySource.{EntrySource as AnOrigin};
 ghost use Rattle.bufr_gather.specs.MergedOctets.{marks_out};
 
-use crate::merged_octets::Origin;
+use crate::merged_octets::EntrySource;
 use bufr_entries::PackedSlot;
 
 /// Takes the mark of the next entry from the ends of two reversed lists, and drops the mark of the
 /// entry that it beats.
 fn take_mark(
-    origin: Origin,
+    origin: EntrySource,
     left: &mut Vec<PackedSlot>,
     right: &mut Vec<PackedSlot>,
 ) -> Option<PackedSlot>
@@ -21,13 +21,13 @@ fn take_mark(
         ++ marks_out more (reverse left.new.items) (reverse right.new.items) }
 {
     match origin {
-        Origin::Left => left.pop(),
-        Origin::Right => right.pop(),
-        Origin::LeftOfBoth => {
+        EntrySource::Left => left.pop(),
+        EntrySource::Right => right.pop(),
+        EntrySource::LeftOfBoth => {
             let _other = right.pop();
             left.pop()
         }
-        Origin::RightOfBoth => {
+        EntrySource::RightOfBoth => {
             let _other = left.pop();
             right.pop()
         }
@@ -36,7 +36,7 @@ fn take_mark(
 
 /// Moves the marks of the entries with these origins into `room`.
 pub(crate) fn merged_marks(
-    origins: &[Origin],
+    origins: &[EntrySource],
     mut left: Vec<PackedSlot>,
     mut right: Vec<PackedSlot>,
     mut room: Vec<PackedSlot>,

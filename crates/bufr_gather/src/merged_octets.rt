@@ -11,7 +11,7 @@ use std::marker::Model;
 
 /// A text that a kept entry is from: it alone has an entry of the slot, or both have one.
 #[derive(Clone, Copy, Drop, PartialEq, Eq)]
-pub(crate) enum Origin {
+pub(crate) enum EntrySource {
     Left,
     Right,
     LeftOfBoth,
@@ -22,7 +22,7 @@ pub(crate) enum Origin {
 /// texts. Contracts see the octets left.
 #[derive(Drop)]
 pub struct MergedOctets<'a> {
-    origins: Vec<Origin>,
+    origins: Vec<EntrySource>,
     left: &'a [u8],
     right: &'a [u8],
 }
@@ -38,7 +38,7 @@ impl<'a> Model for MergedOctets<'a> {
 }
 
 impl<'a> MergedOctets<'a> {
-    pub(crate) fn new(mut origins: Vec<Origin>, left: &'a [u8], right: &'a [u8]) -> Self
+    pub(crate) fn new(mut origins: Vec<EntrySource>, left: &'a [u8], right: &'a [u8]) -> Self
         ensures { result ≡ handed_out origins.items left.now right.now }
     {
         origins.reverse();
@@ -63,23 +63,23 @@ impl<'a> MergedOctets<'a> {
     {
         let origin = self.origins.pop()?;
         match origin {
-            Origin::Left => {
+            EntrySource::Left => {
                 let (left, behind_left) = split_first(self.left);
                 self.left = behind_left;
                 Some(left)
             }
-            Origin::Right => {
+            EntrySource::Right => {
                 let (right, behind_right) = split_first(self.right);
                 self.right = behind_right;
                 Some(right)
             }
-            Origin::LeftOfBoth => {
+            EntrySource::LeftOfBoth => {
                 let (left, behind_left) = split_first(self.left);
                 self.left = behind_left;
                 self.right = split_first(self.right).1;
                 Some(left)
             }
-            Origin::RightOfBoth => {
+            EntrySource::RightOfBoth => {
                 let (right, behind_right) = split_first(self.right);
                 self.left = split_first(self.left).1;
                 self.right = behind_right;

@@ -7,7 +7,7 @@ ghost use Rattle.bufr_gather.specs.ArchiveTexts.{AreInOrder, AreLeft, TakesFirst
 ghost use Rattle.bufr_gather.specs.Texts.{text, marks_of};
 
 use crate::laws::reports_are_entries;
-use crate::merged_octets::Origin;
+use crate::merged_octets::EntrySource;
 use crate::reading::split_first;
 use bufr_entries::PackedSlot;
 use std::cmp::Ordering;
@@ -50,27 +50,30 @@ impl<'a> Unmerged<'a> {
 }
 
 /// Finds which of the two first entries has the greater rank; both have one slot.
-fn greater_of(left: &Unmerged, right: &Unmerged) -> Origin
+fn greater_of(left: &Unmerged, right: &Unmerged) -> EntrySource
     ensures { result ≡ greater_of (option_map known left.now.first)
         (option_map known right.now.first) }
 {
     let Some(other) = &right.first else {
-        return Origin::LeftOfBoth;
+        return EntrySource::LeftOfBoth;
     };
     let Some(entry) = &left.first else {
-        return Origin::RightOfBoth;
+        return EntrySource::RightOfBoth;
     };
     let order = entry.mark.update().cmp(&other.mark.update());
     if order.then(entry.bytes.cmp(other.bytes)).is_gt() {
-        Origin::LeftOfBoth
+        EntrySource::LeftOfBoth
     } else {
-        Origin::RightOfBoth
+        EntrySource::RightOfBoth
     }
 }
 
 /// Takes the next kept entry of two texts, and returns its origin. Of two entries of one slot it
 /// takes the one of greater rank and skips the other.
-pub(crate) fn take_first<'a>(left: &mut Unmerged<'a>, right: &mut Unmerged<'a>) -> Option<Origin>
+pub(crate) fn take_first<'a>(
+    left: &mut Unmerged<'a>,
+    right: &mut Unmerged<'a>,
+) -> Option<EntrySource>
     ensures { (tables : Entries) (es fs : List AnEntry)
         → AreLeft tables es left.old → AreLeft tables fs right.old
         → TakesFirst tables es fs left.new right.new result }
@@ -87,11 +90,11 @@ pub(crate) fn take_first<'a>(left: &mut Unmerged<'a>, right: &mut Unmerged<'a>) 
                 return None;
             };
             *left = Unmerged::of_text(left.marks, left.behind);
-            Some(Origin::Left)
+            Some(EntrySource::Left)
         }
         Ordering::Greater => {
             *right = Unmerged::of_text(right.marks, right.behind);
-            Some(Origin::Right)
+            Some(EntrySource::Right)
         }
         Ordering::Equal => {
             let origin = greater_of(left, right);

@@ -1,7 +1,7 @@
 //! An archive's text, read from the left.
 ghost use Rattle.std.specs.Prelude.{◌≡◌, IfOk};
 ghost use Rattle.std.specs.Option.{option_map};
-ghost use Rattle.bufr_gather.specs.MergedOctets.{first_octets, behind_first};
+ghost use Rattle.bufr_gather.specs.MergedOctets.{first_octets, octets_after_first};
 ghost use Rattle.bufr_gather.specs.Texts.{right_entry};
 ghost use Rattle.bufr_gather.specs.Reading.{read};
 ghost use Rattle.bufr_gather.specs.ReportEntries.{entry_in};
@@ -34,7 +34,7 @@ pub struct ReadEntry<'a> {
 /// Splits octets after the message that begins here, at the total length that it announces.
 pub(crate) fn split_first(octets: &[u8]) -> (&[u8], &[u8])
     ensures first { result.0.now ≡ first_octets octets.now }
-    ensures behind { result.1.now ≡ behind_first octets.now }
+    ensures behind { result.1.now ≡ octets_after_first octets.now }
 {
     let [_, _, _, _, a, b, c, ..] = octets else {
         return (&octets[..0], octets);
@@ -49,17 +49,17 @@ pub(crate) fn split_first(octets: &[u8]) -> (&[u8], &[u8])
 /// Finds the right entry that begins here, if there is one.
 pub fn right_entry<'a>(
     alloc: Global,
-    templates: &mut MessageReader<'_>,
+    message_reader: &mut MessageReader<'_>,
     before: &Option<ReadEntry>,
     octets: &'a [u8],
 ) -> Result<Option<ReadEntry<'a>>, OutOfMemory>
-    ensures same { templates.new ≡ templates.old }
+    ensures same { message_reader.new ≡ message_reader.old }
     ensures is { IfOk result (λ found. option_map read found
-        ≡ right_entry (entry_in templates.old) (option_map read before.now) octets.now) }
+        ≡ right_entry (entry_in message_reader.old) (option_map read before.now) octets.now) }
 {
     reports_are_entries();
     let (front, _) = split_first(octets);
-    let Some(entry) = entry_in(alloc, templates, front)? else {
+    let Some(entry) = entry_in(alloc, message_reader, front)? else {
         return Ok(None);
     };
     let Some(before) = before else {

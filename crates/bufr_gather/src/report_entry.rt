@@ -100,14 +100,14 @@ fn own_entry<'a>(
 /// Reads octets as an entry, if they are the canonical message of their one report.
 pub(crate) fn entry_in<'a>(
     alloc: Global,
-    templates: &mut MessageReader<'_>,
+    message_reader: &mut MessageReader<'_>,
     octets: &'a [u8],
 ) -> Result<Option<ReadEntry<'a>>, OutOfMemory>
-    ensures same { templates.new ≡ templates.old }
+    ensures same { message_reader.new ≡ message_reader.old }
     ensures is { IfOk result (λ found.
-        option_map read found ≡ entry_in templates.old octets.now) }
+        option_map read found ≡ entry_in message_reader.old octets.now) }
 {
-    let view = match templates.read(alloc, octets) {
+    let view = match message_reader.read(alloc, octets) {
         Ok(view) => view,
         Err(Failure::Fault(_)) => return Ok(None),
         Err(Failure::OutOfMemory) => return Err(OutOfMemory),
@@ -129,18 +129,18 @@ impl<'a> MessageReports<'a> {
     /// Reads the reports of the message that octets spell.
     pub fn of_octets(
         alloc: Global,
-        templates: &mut MessageReader<'_>,
+        message_reader: &mut MessageReader<'_>,
         octets: &'a [u8],
     ) -> Result<Self, Failure<Refused>>
-        ensures same { templates.new ≡ templates.old }
-        ensures is { Gives (λ s. s.view) result (message_of templates.old octets.now) }
+        ensures same { message_reader.new ≡ message_reader.old }
+        ensures is { Gives (λ s. s.view) result (message_of message_reader.old octets.now) }
         ensures entries { IfOk result (λ s. spelt_entries (reports_of s.view.message)
-            ≡ report_entries templates.old (reports_of s.view.message)) }
+            ≡ report_entries message_reader.old (reports_of s.view.message)) }
     {
         reports_have_canonical_messages();
         canonical_messages_are_own();
         written_messages_are_spelt();
-        let view = templates.read(alloc, octets)?;
+        let view = message_reader.read(alloc, octets)?;
         Ok(MessageReports { view })
     }
 }
@@ -192,7 +192,7 @@ pub(crate) struct ReportOctets<'r, 'a> {
 impl EntryOctets for ReportOctets<'_, '_> {
     ghost octets = { λ s. spelt_at (reports_of s.view.now.message) s.index };
 
-    fn put_behind(&self, alloc: Global, out: &mut Vec<u8>) -> Result<bool, OutOfMemory> {
+    fn append_to(&self, alloc: Global, out: &mut Vec<u8>) -> Result<bool, OutOfMemory> {
         if self.index >= self.view.count() {
             return Ok(false);
         }

@@ -1,5 +1,5 @@
 ghost use Rattle.std.specs.Prelude.{◌≡◌, ◌++◌, ◌∷◌, [], Some, None, Ok, Err, codes};
-ghost use Rattle.bufr_gather.specs.Samples.{keys_in, updates_in, text_of_both, text_told, judged, entries_of_both, key_of_original, original, updated, warmer, month_13, distinct, key_of_distinct, other_sub_centre, next_station, text_of_both_before};
+ghost use Rattle.bufr_gather.specs.Samples.{keys_in, updates_in, text_of_both, text_told, summary, entries_of_both, key_of_original, original, updated, warmer, month_13, distinct, key_of_distinct, other_sub_centre, next_station, text_of_both_before};
 
 /// Keys and update sequence numbers of whole messages.
 #[tactic(auto, unfolding(crate::proofs::OnLiterals::archives_on_literals))]
@@ -38,10 +38,10 @@ pub fn texts_from_before()
 /// Texts read, and the place of the first entry that is not right.
 #[tactic(auto, unfolding(crate::proofs::OnLiterals::archives_on_literals))]
 pub fn reading()
-    ensures read { judged (updated ++ month_13) ≡ Ok (entries_of_both updated month_13) }
-    ensures empty { judged [] ≡ Ok [] }
-    ensures not_in_order { judged (month_13 ++ updated) ≡ Err 62 }
-    ensures one_slot_twice { judged (original ++ updated) ≡ Err 62 }
-    ensures cut_short { judged (updated ++ codes "BU") ≡ Err 62 }
-    ensures no_frame { judged (0 ∷ updated) ≡ Err 0 }
+    ensures read { summary (updated ++ month_13) ≡ Ok (entries_of_both updated month_13) }
+    ensures empty { summary [] ≡ Ok [] }
+    ensures not_in_order { summary (month_13 ++ updated) ≡ Err 62 }
+    ensures one_slot_twice { summary (original ++ updated) ≡ Err 62 }
+    ensures cut_short { summary (updated ++ codes "BU") ≡ Err 62 }
+    ensures no_frame { summary (0 ∷ updated) ≡ Err 0 }
 {}

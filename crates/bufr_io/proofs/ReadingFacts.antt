@@ -78,14 +78,14 @@ given_kept None mid new read so_far kept = tt
 given_kept (Some all) mid new read so_far kept =
     (so_far.0, so_far.1, (let h = rw so_far.2 at kept in h))
 
-pub reads_endless : (source : Input) (most : ℕ) (first now : Reading) (pieces : Pieces)
-    (octets : List ℕ) → HasRead source most first now pieces octets → pieces.most ≤ pieces.made
-    → ReadsOn source most first now pieces octets (Err (faults.EndlessInput pieces.source))
-reads_endless source most first now pieces octets h all =
+pub reads_endless : (name : Input) (most : ℕ) (first now : Reading) (pieces : Pieces)
+    (octets : List ℕ) → HasRead name most first now pieces octets → pieces.most ≤ pieces.made
+    → ReadsOn name most first now pieces octets (Err (faults.EndlessInput pieces.name))
+reads_endless name most first now pieces octets h all =
     let allowed = h.allowed in
     let most_is = h.most_is in
     let made : pieces.made ≡ most = omega arith in (
-      h.source_is,
+      h.name_is,
       record {
         reads = h.goes_on.reads ∙ made;
         works = h.goes_on.works;
@@ -94,25 +94,25 @@ reads_endless source most first now pieces octets h all =
       h.goes_on.so_far,
     )
 
-pub reads_failed : (source : Input) (most : ℕ) (first mid now : Reading) (pieces after : Pieces)
-    (octets : List ℕ) → HasRead source most first mid pieces octets → pieces.made < pieces.most
+pub reads_failed : (name : Input) (most : ℕ) (first mid now : Reading) (pieces after : Pieces)
+    (octets : List ℕ) → HasRead name most first mid pieces octets → pieces.made < pieces.most
     → FailedRead mid now
-    → ReadsOn source most first now after octets (Err (faults.ReadFailed pieces.source))
-reads_failed source most first mid now pieces after octets h few f =
+    → ReadsOn name most first now after octets (Err (faults.ReadFailed pieces.name))
+reads_failed name most first mid now pieces after octets h few f =
     let most_is = h.most_is in
     let before = h.goes_on.reads in
     let more = f.reads in (
-      h.source_is,
+      h.name_is,
       f.failed,
       given_kept first.left mid.left now.left octets h.goes_on.so_far f.left,
       omega arith,
     )
 
-pub reads_ends : (source : Input) (most : ℕ) (first mid now : Reading) (pieces : Pieces)
-    (octets given : List ℕ) → HasRead source most first mid pieces octets
+pub reads_ends : (name : Input) (most : ℕ) (first mid now : Reading) (pieces : Pieces)
+    (octets given : List ℕ) → HasRead name most first mid pieces octets
     → pieces.made < pieces.most → Gave mid now given → length given ≡ 0
-    → ReadsOn source most first now (record pieces { made = pieces.made + 1 }) octets (Ok None)
-reads_ends source most first mid now pieces octets given h few gave none =
+    → ReadsOn name most first now (record pieces { made = pieces.made + 1 }) octets (Ok None)
+reads_ends name most first mid now pieces octets given h few gave none =
     let most_is = h.most_is in
     let before = h.goes_on.reads in
     let more = gave.reads in
@@ -124,13 +124,13 @@ reads_ends source most first mid now pieces octets given h few gave none =
       omega arith,
     )
 
-pub reads_more : (source : Input) (most : ℕ) (first mid now : Reading) (pieces : Pieces)
-    (octets given : List ℕ) → HasRead source most first mid pieces octets
+pub reads_more : (name : Input) (most : ℕ) (first mid now : Reading) (pieces : Pieces)
+    (octets given : List ℕ) → HasRead name most first mid pieces octets
     → pieces.made < pieces.most → Gave mid now given → 0 < length given
     → length given ≤ longest_piece
-    → HasRead source most first now (record pieces { made = pieces.made + 1 }) (octets ++ given)
+    → HasRead name most first now (record pieces { made = pieces.made + 1 }) (octets ++ given)
     × (0 < length given)
-reads_more source most first mid now pieces octets given h few gave some room =
+reads_more name most first mid now pieces octets given h few gave some room =
     let most_is = h.most_is in
     let short = h.short in
     let whole = length-append octets given in (
@@ -139,14 +139,14 @@ reads_more source most first mid now pieces octets given h few gave some room =
         short = omega arith;
         allowed = omega arith;
         most_is = h.most_is;
-        source_is = h.source_is;
+        name_is = h.name_is;
       },
       some,
     )
 
-pub no_more : (source : Input) (most : ℕ) (old new : Reading) (pieces : Pieces) (octets : List ℕ)
-    (e : ToolFault) → ReadsOn source most old new pieces octets (Err e)
-    → ReadsAll source most old new (Err e)
-no_more source most old new pieces octets (faults.ReadFailed which) r = (r.0, r.1)
-no_more source most old new pieces octets (faults.EndlessInput which) r = (r.0, r.1)
-no_more source most old new pieces octets e r = absurd r
+pub no_more : (name : Input) (most : ℕ) (old new : Reading) (pieces : Pieces) (octets : List ℕ)
+    (e : ToolFault) → ReadsOn name most old new pieces octets (Err e)
+    → ReadsAll name most old new (Err e)
+no_more name most old new pieces octets (faults.ReadFailed which) r = (r.0, r.1)
+no_more name most old new pieces octets (faults.EndlessInput which) r = (r.0, r.1)
+no_more name most old new pieces octets e r = absurd r

@@ -176,34 +176,34 @@ rest_stopped Stopped stream fault stopped = record {
 -- ---- between two reads
 
 -- the reader gave these octets, `count` in all, the taker has their sure frames and holds nothing back
-pub record Between (Taken : List Found → Type 0) (HoldsNone : Type 0) (source : Input) (most : ℕ)
+pub record Between (Taken : List Found → Type 0) (HoldsNone : Type 0) (name : Input) (most : ℕ)
     (old now : Reading) (pieces : Pieces) (framer : Framing) (count : ℕ) : Type 0 where
   pub read : List ℕ
-  pub so_far : HasRead source most old now pieces read
+  pub so_far : HasRead name most old now pieces read
   pub counted : count ≡ length read
   pub sure_taken : HasSure Taken framer read
   pub none : HoldsNone
 
-pub nothing_read : (Taken : List Found → Type 0) (HoldsNone : Type 0) (source : Input) (most : ℕ)
+pub nothing_read : (Taken : List Found → Type 0) (HoldsNone : Type 0) (name : Input) (most : ℕ)
     (reader : Reading) (framer : Framing) → IsFresh reader → Stands framer [] 0 → Taken []
     → HoldsNone
-    → Between Taken HoldsNone source most reader reader
-    (record { made = 0; most = most; source = source }) framer 0
-nothing_read Taken HoldsNone source most reader framer fresh stands taken none = record {
+    → Between Taken HoldsNone name most reader reader
+    (record { made = 0; most = most; name = name }) framer 0
+nothing_read Taken HoldsNone name most reader framer fresh stands taken none = record {
   read = [];
-  so_far = HasRead_none source most reader fresh;
+  so_far = HasRead_none name most reader fresh;
   counted = refl;
   sure_taken = record { handed = handed_first framer stands; taken = taken };
   none = none;
 }
 
-pub unread_bounded : (source : Input) (reads : ℕ) (old new : Reading) (after : Pieces)
-    (read : List ℕ) (e : ToolFault) → ReadsOn source reads old new after read (Err e)
+pub unread_bounded : (name : Input) (reads : ℕ) (old new : Reading) (after : Pieces)
+    (read : List ℕ) (e : ToolFault) → ReadsOn name reads old new after read (Err e)
     → new.reads ≤ reads
-unread_bounded source reads old new after read (faults.ReadFailed which) r = r.3
-unread_bounded source reads old new after read (faults.EndlessInput which) r =
+unread_bounded name reads old new after read (faults.ReadFailed which) r = r.3
+unread_bounded name reads old new after read (faults.EndlessInput which) r =
     let all = r.1.reads in omega arith
-unread_bounded source reads old new after read e r = absurd r
+unread_bounded name reads old new after read e r = absurd r
 
 pub ok_of : {A E : Type 0} (r : Result A E) (P Q : Type 0) → OnOk r P → (P → Q) → OnOk r Q
 ok_of (Ok x) P Q p f = f p

@@ -18,34 +18,34 @@ pub record GoesOn (old new : Reading) (octets : List ℕ) (count : ℕ) : Type 0
 
 -- has read pieces of an input in some of `most` reads: the reader goes on, and gave these octets,
 -- at most `longest_piece` a read
-pub record HasRead (source : Input) (most : ℕ) (old now : Reading) (pieces : Pieces)
+pub record HasRead (name : Input) (most : ℕ) (old now : Reading) (pieces : Pieces)
     (octets : List ℕ) : Type 0 where
   pub goes_on : GoesOn old now octets pieces.made
   pub short : length octets ≤ longest_piece * pieces.made
   pub allowed : pieces.made ≤ most
   pub most_is : pieces.most ≡ most
-  pub source_is : pieces.source ≡ source
+  pub name_is : pieces.name ≡ name
 
 -- reads one piece more after these octets; or a read meets the end, and they are all; or a read
 -- fails, or all allowed reads returned octets
 abbrev pub ReadsOn : Input → ℕ → Reading → Reading → Pieces → List ℕ
     → Result (Option (List ℕ)) ToolFault → Type 0
-ReadsOn source most old new pieces octets (Ok (Some piece)) =
-    HasRead source most old new pieces (octets ++ piece) × (0 < length piece)
-ReadsOn source most old new pieces octets (Ok None) =
+ReadsOn name most old new pieces octets (Ok (Some piece)) =
+    HasRead name most old new pieces (octets ++ piece) × (0 < length piece)
+ReadsOn name most old new pieces octets (Ok None) =
     WasReadOut new × AreAllOf old octets × HasGiven old new octets × (new.reads ≤ most)
     × (pieces.made ≤ most)
-ReadsOn source most old new pieces octets (Err (faults.ReadFailed which)) =
-    (which ≡ source) × HasFailed new × HasGiven old new octets × (new.reads ≤ most)
-ReadsOn source most old new pieces octets (Err (faults.EndlessInput which)) =
-    (which ≡ source) × IsEndless most new × HasGiven old new octets
-ReadsOn source most old new pieces octets (Err fault) = ⊥
+ReadsOn name most old new pieces octets (Err (faults.ReadFailed which)) =
+    (which ≡ name) × HasFailed new × HasGiven old new octets × (new.reads ≤ most)
+ReadsOn name most old new pieces octets (Err (faults.EndlessInput which)) =
+    (which ≡ name) × IsEndless most new × HasGiven old new octets
+ReadsOn name most old new pieces octets (Err fault) = ⊥
 
 -- all octets of the reader, if it tells them, or the fault
 abbrev pub ReadsAll : Input → ℕ → Reading → Reading → Result (List ℕ) ToolFault → Type 0
-ReadsAll source reads old new (Ok octets) = WasReadOut new × AreAllOf old octets
-ReadsAll source reads old new (Err (faults.ReadFailed which)) = (which ≡ source) × HasFailed new
-ReadsAll source reads old new (Err (faults.EndlessInput which)) = (which ≡ source)
+ReadsAll name reads old new (Ok octets) = WasReadOut new × AreAllOf old octets
+ReadsAll name reads old new (Err (faults.ReadFailed which)) = (which ≡ name) × HasFailed new
+ReadsAll name reads old new (Err (faults.EndlessInput which)) = (which ≡ name)
     × IsEndless reads new
-ReadsAll source reads old new (Err faults.OutOfMemory) = Unit {0}
-ReadsAll source reads old new (Err fault) = ⊥
+ReadsAll name reads old new (Err faults.OutOfMemory) = Unit {0}
+ReadsAll name reads old new (Err fault) = ⊥

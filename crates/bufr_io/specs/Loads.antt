@@ -34,10 +34,10 @@ abbrev pub Loads : ℕ → Reading → Reading → Reading → Reading → Resul
 Loads reads b b' d d' (Ok tables) = WasReadOut b' × WasReadOut d'
     × IfSome b.left (λ text. table_b text ≡ Ok tables.elements)
     × IfSome d.left (λ text. table_d text ≡ Ok tables.sequences)
-Loads reads b b' d d' (Err (faults.ReadFailed source)) = FailsAt source HasFailed b b' d d'
-Loads reads b b' d d' (Err (faults.EndlessInput source)) = FailsAt source
+Loads reads b b' d d' (Err (faults.ReadFailed name)) = FailsAt name HasFailed b b' d d'
+Loads reads b b' d d' (Err (faults.EndlessInput name)) = FailsAt name
     (IsEndless reads) b b' d d'
-Loads reads b b' d d' (Err (faults.Table source fault)) = IsFaultOf source fault b b' d d'
+Loads reads b b' d d' (Err (faults.Table name fault)) = IsFaultOf name fault b b' d d'
 Loads reads b b' d d' (Err faults.OutOfMemory) = Unit {0}
 Loads reads b b' d d' (Err fault) = ⊥
 
@@ -46,12 +46,12 @@ Loads reads b b' d d' (Err fault) = ⊥
 -- the table of a file read to its end, or the fault
 abbrev pub LoadsTable : {T : Type 0} → (List ℕ → Result T TableFault) → Input → ℕ → Reading
     → Reading → Result T ToolFault → Type 0
-LoadsTable parse source reads r r' (Ok table) = WasReadOut r'
+LoadsTable parse name reads r r' (Ok table) = WasReadOut r'
     × IfSome r.left (λ text. parse text ≡ Ok table)
-LoadsTable parse source reads r r' (Err (faults.ReadFailed which)) = (which ≡ source) × HasFailed r'
-LoadsTable parse source reads r r' (Err (faults.EndlessInput which)) = (which ≡ source)
+LoadsTable parse name reads r r' (Err (faults.ReadFailed which)) = (which ≡ name) × HasFailed r'
+LoadsTable parse name reads r r' (Err (faults.EndlessInput which)) = (which ≡ name)
     × IsEndless reads r'
-LoadsTable parse source reads r r' (Err (faults.Table which fault)) = (which ≡ source)
+LoadsTable parse name reads r r' (Err (faults.Table which fault)) = (which ≡ name)
     × WasReadOut r' × IfSome r.left (λ text. parse text ≡ Err fault)
-LoadsTable parse source reads r r' (Err faults.OutOfMemory) = Unit {0}
-LoadsTable parse source reads r r' (Err fault) = ⊥
+LoadsTable parse name reads r r' (Err faults.OutOfMemory) = Unit {0}
+LoadsTable parse name reads r r' (Err fault) = ⊥

@@ -15,7 +15,7 @@ use Rattle.bufr_io.specs.Readers.{AreReadBefore, AreReadTo, AreTold, WereReadOut
 -- ---- streams that are told
 
 -- those of the first readers and those of the others
-pub record Told (front after : List Reading) (all : List (List ℕ)) : Type 0 where
+pub record ReadStreams (front after : List Reading) (all : List (List ℕ)) : Type 0 where
   pub first : List (List ℕ)
   pub others : List (List ℕ)
   pub parted : all ≡ first ++ others
@@ -24,7 +24,7 @@ pub record Told (front after : List Reading) (all : List (List ℕ)) : Type 0 wh
 
 -- the streams of readers, in two parts
 pub told_parted : (front after : List Reading) (all : List (List ℕ)) → AreTold (front ++ after) all
-    → Told front after all
+    → ReadStreams front after all
 told_parted [] after all told = record {
   first = [];
   others = all;

@@ -16,9 +16,9 @@ pub HasGiven_none : (r : Reading) → HasGiven r r []
 HasGiven_none r = given_none r.left
 
 -- an engine has read no piece before the first read
-pub HasRead_none : (source : Input) (most : ℕ) (reader : Reading) → IsFresh reader
-    → HasRead source most reader reader (record { made = 0; most = most; source = source }) []
-HasRead_none source most reader fresh = record {
+pub HasRead_none : (name : Input) (most : ℕ) (reader : Reading) → IsFresh reader
+    → HasRead name most reader reader (record { made = 0; most = most; name = name }) []
+HasRead_none name most reader fresh = record {
   goes_on =
       record {
         so_far = HasGiven_none reader;
@@ -30,5 +30,5 @@ HasRead_none source most reader fresh = record {
   short = omega arith;
   allowed = omega arith;
   most_is = refl;
-  source_is = refl;
+  name_is = refl;
 }

@@ -48,24 +48,24 @@ TakesPiece Taken HoldsNone Stopped framer stream (Err fault) =
 -- sure frames and holds nothing back; or it stopped among the sure frames of the octets read; or
 -- among all frames after the end.
 pub data EndsEarly (Taken : List Found → Type 0) (HoldsNone : Type 0)
-    (Stopped : List Found → ToolFault → Type 0) (source : Input) (reads : ℕ) (old new : Reading)
+    (Stopped : List Found → ToolFault → Type 0) (name : Input) (reads : ℕ) (old new : Reading)
     (fault : ToolFault) : Type 0 where
-  unread : (pieces : Pieces) (read : List ℕ) → ReadsOn source reads old new pieces read (Err fault)
+  unread : (pieces : Pieces) (read : List ℕ) → ReadsOn name reads old new pieces read (Err fault)
       → Taken (sure read) → HoldsNone
-      → EndsEarly Taken HoldsNone Stopped source reads old new fault
+      → EndsEarly Taken HoldsNone Stopped name reads old new fault
   at_piece : (read : List ℕ) (count : ℕ) → GoesOn old new read count
       → StopsAmong Stopped (sure read) fault
-      → EndsEarly Taken HoldsNone Stopped source reads old new fault
+      → EndsEarly Taken HoldsNone Stopped name reads old new fault
   at_end : (stream : List ℕ) → WasReadOut new → AreAllOf old stream → HasGiven old new stream
       → StopsAmong Stopped (cut stream) fault
-      → EndsEarly Taken HoldsNone Stopped source reads old new fault
+      → EndsEarly Taken HoldsNone Stopped name reads old new fault
 
 -- reads a stream to its end, takes in all its frames and returns its length in octets; or ends
 -- early
 abbrev pub TakesStream : (List Found → Type 0) → Type 0 → (List Found → ToolFault → Type 0) → Input
     → ℕ → Reading → Reading → Result ℕ ToolFault → Type 0
-TakesStream Taken HoldsNone Stopped source reads old new (Ok long) =
+TakesStream Taken HoldsNone Stopped name reads old new (Ok long) =
     WasReadOut new × (stream : List ℕ) × AreAllOf old stream × HasGiven old new stream
     × Taken (cut stream) × (long ≡ length stream) × (length stream < longest_piece * reads)
-TakesStream Taken HoldsNone Stopped source reads old new (Err fault) =
-    EndsEarly Taken HoldsNone Stopped source reads old new fault
+TakesStream Taken HoldsNone Stopped name reads old new (Err fault) =
+    EndsEarly Taken HoldsNone Stopped name reads old new fault

@@ -10,7 +10,7 @@ use bufr_bits::Sink;
 use std::alloc::Global;
 
 /// The length at which `put` writes rows.
-const PART: usize = 65_536;
+const LONGEST_HELD: usize = 65_536;
 
 /// A text of rows that wait to be written together.
 #[derive(Drop)]
@@ -41,7 +41,7 @@ impl HeldRows {
         ensures works { OnOk result ((W.writing writer.new).failed ≡ false) }
     {
         self.held.extend_from_slice(row)?;
-        if self.held.len() < PART {
+        if self.held.len() < LONGEST_HELD {
             return Ok(());
         }
         self.write(writer)

@@ -21,8 +21,8 @@ pub const LONGEST_PIECE: usize = 65_536;
 pub const MOST_READS: u64 = 4_294_967_296;
 
 /// Makes room for one read.
-pub fn room(alloc: Global) -> Result<Vec<u8>, OutOfMemory>
-    ensures { IfOk result (λ room. vec_len room ≡ longest_piece) }
+pub fn read_buffer(alloc: Global) -> Result<Vec<u8>, OutOfMemory>
+    ensures { IfOk result (λ buffer. vec_len buffer ≡ longest_piece) }
 {
     vec![in alloc; 0u8; LONGEST_PIECE]
 }
@@ -35,7 +35,7 @@ pub struct Pieces {
     /// The most reads.
     pub most: u64,
     /// The input.
-    pub source: Input,
+    pub name: Input,
 }
 
 impl Pieces {
@@ -43,29 +43,29 @@ impl Pieces {
     pub fn next<'r, S: Source>(
         &mut self,
         reader: &mut S,
-        room: &'r mut [u8],
+        buffer: &'r mut [u8],
     ) -> Result<Option<&'r [u8]>, ToolFault>
         requires works { (S.reading reader.old).failed ≡ false }
         requires counted { (S.reading reader.old).reads ≡ self.old.made }
-        requires some { 0 < length room.old }
-        requires short { length room.old ≤ longest_piece }
+        requires some { 0 < length buffer.old }
+        requires short { length buffer.old ≤ longest_piece }
         ensures counts { OnOk result (self.new.made ≡ self.old.made + 1) }
-        ensures reads { (source : InputKind) (most : ℕ) (first : Reading) (octets : List ℕ)
-            → HasRead source most first (S.reading reader.old) self.old octets
-            → ReadsOn source most first (S.reading reader.new) self.new octets
+        ensures reads { (name : InputKind) (most : ℕ) (first : Reading) (octets : List ℕ)
+            → HasRead name most first (S.reading reader.old) self.old octets
+            → ReadsOn name most first (S.reading reader.new) self.new octets
             (result_map (option_map (λ piece. piece.now)) result) }
     {
         if self.made >= self.most {
-            return Err(ToolFault::EndlessInput(self.source));
+            return Err(ToolFault::EndlessInput(self.name));
         }
         self.made += 1;
-        let Ok(given) = reader.read(&mut *room) else {
-            return Err(ToolFault::ReadFailed(self.source));
+        let Ok(given) = reader.read(&mut *buffer) else {
+            return Err(ToolFault::ReadFailed(self.name));
         };
         if given == 0 {
             return Ok(None);
         }
-        Ok(Some(&room[..given]))
+        Ok(Some(&buffer[..given]))
     }
 }
 
@@ -73,23 +73,23 @@ impl Pieces {
 pub fn read_all<S: Source>(
     alloc: Global,
     reads: u64,
-    source: Input,
+    name: Input,
     reader: &mut S,
 ) -> Result<Vec<u8>, ToolFault>
     requires few { reads ≤ most_reads }
     requires fresh { IsFresh (S.reading reader.old) }
     ensures bounded { (S.reading reader.new).reads ≤ reads }
-    ensures all { ReadsAll source reads (S.reading reader.old) (S.reading reader.new)
+    ensures all { ReadsAll name reads (S.reading reader.old) (S.reading reader.new)
         (result_map (λ octets. octets.items) result) }
 {
-    let mut room = room(alloc)?;
+    let mut buffer = read_buffer(alloc)?;
     let mut octets = Vec::new(alloc);
     let mut pieces = Pieces {
         made: 0,
         most: reads,
-        source,
+        name,
     };
-    while let Some(piece) = pieces.next(reader, &mut room)? {
+    while let Some(piece) = pieces.next(reader, &mut buffer)? {
         octets.extend_from_slice(piece)?;
     }
     Ok(octets)

@@ -15,7 +15,7 @@ mod taking;
 pub use fault::{Input, Tally, ToolFault};
 pub use files::{Unopened, file_of, files_of, inputs_of, unopened_path};
 pub use held_rows::HeldRows;
-pub use input::{LONGEST_PIECE, MOST_READS, Pieces, read_all, room};
+pub use input::{LONGEST_PIECE, MOST_READS, Pieces, read_all, read_buffer};
 pub use lazy_input::LazyInput;
 pub use lazy_output::LazyOutput;
 pub use output::{write_after, write_out};

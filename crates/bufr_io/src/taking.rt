@@ -108,31 +108,31 @@ fn take_piece<O, T: TakesFrames<O>>(
 pub fn take_stream<O, S: Source, T: TakesFrames<O>>(
     alloc: Global,
     reads: u64,
-    source: Input,
+    name: Input,
     reader: &mut S,
-    room: &mut [u8],
+    buffer: &mut [u8],
     taker: &mut T,
     out: &mut O,
 ) -> Result<u64, ToolFault>
     requires few { reads ≤ most_reads }
     requires fresh { IsFresh (S.reading reader.old) }
-    requires some { 0 < length room.old }
-    requires short { length room.old ≤ longest_piece }
+    requires some { 0 < length buffer.old }
+    requires short { length buffer.old ≤ longest_piece }
     requires none_taken { T.HasTaken taker.old out.old taker.old out.old [] }
     requires none_held { T.HoldsNone taker.old out.old }
     ensures bounded { (S.reading reader.new).reads ≤ reads }
     ensures takes { TakesStream (T.HasTaken taker.old out.old taker.new out.new)
-        (T.HoldsNone taker.new out.new) (T.HasStopped taker.old out.old taker.new out.new) source
+        (T.HoldsNone taker.new out.new) (T.HasStopped taker.old out.old taker.new out.new) name
         reads (S.reading reader.old) (S.reading reader.new) result }
 {
     let mut framer = Framer::new(alloc);
     let mut pieces = Pieces {
         made: 0,
         most: reads,
-        source,
+        name,
     };
     let mut length = 0;
-    while let Some(piece) = pieces.next(reader, &mut *room)? {
+    while let Some(piece) = pieces.next(reader, &mut *buffer)? {
         length += piece.len() as u64;
         take_piece(alloc, piece, &mut framer, taker, out)?;
     }

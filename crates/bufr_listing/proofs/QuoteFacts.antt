@@ -11,7 +11,7 @@ use Rattle.bufr_fields.specs.declared.field.Raw.TheVariants.{Number, Text}
 use Rattle.bufr_fields.specs.declared.field.Field.{Field}
 use Rattle.bufr_fields.specs.declared.field.Decimal.{Decimal}
 use Rattle.bufr_fields.specs.Values.{is_missing, value, value_by, text_of}
-use Rattle.bufr_listing.specs.Listings.{stands_for_itself, quoted_octet, number_word, raw_word}
+use Rattle.bufr_listing.specs.Listings.{is_literal, quoted_octet, number_word, raw_word}
 use Rattle.bufr_listing.specs.Listings.{value_word}
 
 -- ---- the value of a number
@@ -59,16 +59,16 @@ both_second : (a b : Bool) → (a && b) ≡ true → b ≡ true
 both_second true b h = h
 both_second false b h = absurd cc
 
-printed_itself : (c : ℕ) → stands_for_itself c ≡ true → quoted_octet c ≡ c ∷ []
+printed_itself : (c : ℕ) → is_literal c ≡ true → quoted_octet c ≡ c ∷ []
 printed_itself c h = rw h refl
 
 -- octets that all appear as themselves need no change
-pub printed_themselves : (octets : List ℕ) → list_all stands_for_itself octets ≡ true
+pub printed_themselves : (octets : List ℕ) → list_all is_literal octets ≡ true
     → flat_map quoted_octet octets ≡ octets
 printed_themselves [] h = refl
 printed_themselves (c ∷ cs) h =
-    let first = both_first (stands_for_itself c) (list_all stands_for_itself cs) h in
-    let rest = both_second (stands_for_itself c) (list_all stands_for_itself cs) h in
+    let first = both_first (is_literal c) (list_all is_literal cs) h in
+    let rest = both_second (is_literal c) (list_all is_literal cs) h in
     (λ i. printed_itself c first i ++ printed_themselves cs rest i)
 
 pub between_quotes : (old first mid octets printed : List ℕ) → octets ≡ printed

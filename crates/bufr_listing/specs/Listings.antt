@@ -32,12 +32,12 @@ joined ls = flat_map line ls
 
 -- whether an octet appears as itself between quotes: 0x20 to 0x7E, but not the quote and the
 -- backslash
-abbrev pub stands_for_itself : ℕ → Bool
-stands_for_itself c = nat_le 32 c && nat_le c 126 && not (c == 34) && not (c == 92)
+abbrev pub is_literal : ℕ → Bool
+is_literal c = nat_le 32 c && nat_le c 126 && not (c == 34) && not (c == 92)
 
 -- an octet between quotes: itself, or a backslash and two lower hexadecimal digits
 abbrev pub quoted_octet : ℕ → List ℕ
-quoted_octet c = if stands_for_itself c then c ∷ [] else 92 ∷ encode_lower (c ∷ [])
+quoted_octet c = if is_literal c then c ∷ [] else 92 ∷ encode_lower (c ∷ [])
 
 -- characters between quotes
 abbrev pub quoted : List ℕ → List ℕ

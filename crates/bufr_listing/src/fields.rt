@@ -8,7 +8,7 @@ ghost use Rattle.bufr_listing.specs.Listings.{line, joined, quoted_octet, quoted
 ghost use Rattle.bufr_listing.specs.Listings.{value_word, field_line, subset_line, subset_lines};
 
 use crate::decimals::write_sum;
-use crate::titles::title;
+use crate::descriptor_texts::descriptor_and_space;
 use bufr_base::OutOfMemory;
 use bufr_fields::{Decimal, Field, NumberField, Raw, Subset};
 use bufr_tables::{Fxy, Kind};
@@ -83,7 +83,7 @@ fn write_line(row: &mut [u8], field: NumberField) -> Option<usize>
 {
     let NumberField { fxy, spec, number } = field;
     let end = write_value(row, NumberField { fxy, spec, number })?;
-    write_octets(row, end, &title(fxy))
+    write_octets(row, end, &descriptor_and_space(fxy))
 }
 
 /// Writes the word for the value of a field with a number before the line's end.
@@ -138,7 +138,7 @@ fn push_any_field(text: &mut Vec<u8>, field: &Field) -> Result<(), OutOfMemory>
     ensures err { OnErr result (text.new.items ≡ text.old.items) }
 {
     let held = text.len();
-    text.extend_from_slice(&title(field.fxy))?;
+    text.extend_from_slice(&descriptor_and_space(field.fxy))?;
     let added = push_value(text, field);
     if added.is_err() {
         text.truncate(held);
@@ -175,7 +175,7 @@ fn push_quoted(text: &mut Vec<u8>, octets: &[u8]) -> Result<(), OutOfMemory>
     ensures kept { OnErr result (take (length text.old.items) text.new.items ≡ text.old.items) }
 {
     text.push(b'"')?;
-    if octets.iter().all(|octet| stands_for_itself(*octet)) {
+    if octets.iter().all(|octet| is_literal(*octet)) {
         text.extend_from_slice(octets)?;
         return text.extend_from_slice(b"\"\n");
     }
@@ -186,8 +186,8 @@ fn push_quoted(text: &mut Vec<u8>, octets: &[u8]) -> Result<(), OutOfMemory>
 }
 
 /// Whether an octet appears as itself between quotes.
-pub fn stands_for_itself(octet: u8) -> bool
-    ensures { result ≡ listings.stands_for_itself octet }
+pub fn is_literal(octet: u8) -> bool
+    ensures { result ≡ listings.is_literal octet }
 {
     octet >= 32 && octet <= 126 && octet != b'"' && octet != b'\\'
 }
@@ -197,7 +197,7 @@ fn push_octet(text: &mut Vec<u8>, octet: u8) -> Result<(), OutOfMemory>
     ensures ok { OnOk result (text.new.items ≡ text.old.items ++ quoted_octet octet) }
     ensures err { OnErr result (text.new.items ≡ text.old.items) }
 {
-    if stands_for_itself(octet) {
+    if is_literal(octet) {
         text.push(octet)?;
         return Ok(());
     }

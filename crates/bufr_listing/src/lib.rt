@@ -3,21 +3,21 @@
 #![tactic(auto)]
 
 mod decimals;
+mod descriptor_texts;
 mod fault;
 mod fields;
 mod heading;
-mod kept_heading;
+mod last_heading;
 pub mod laws;
 mod text;
-mod titles;
 mod worked_values;
 mod writer;
 
 pub use decimals::write_sum;
+pub use descriptor_texts::descriptor_and_space;
 pub use fault::{Cause, ListingFault};
-pub use fields::{push_field, push_number_field, push_subset, push_subset_line, stands_for_itself};
+pub use fields::{is_literal, push_field, push_number_field, push_subset, push_subset_line};
 pub use heading::push_heading;
-pub use kept_heading::KeptHeading;
+pub use last_heading::LastHeading;
 pub use text::{end_text, subset_text, text_of};
-pub use titles::title;
 pub use writer::{ListingWriteFault, write};

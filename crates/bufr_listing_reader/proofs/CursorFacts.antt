@@ -100,9 +100,9 @@ behind_by false false text line rest e f h =
     subst (λ (x : List ℕ × List ℕ). Behind text x.0 x.1) is
     (record { lines = lines_one text f e; shorter = grind (arith, nat_tests) })
 
-pub behind_first : (text line rest : List ℕ) → first_line_of text ≡ Some (line, rest)
+pub after_first : (text line rest : List ℕ) → first_line_of text ≡ Some (line, rest)
     → Behind text line rest
-behind_first text line rest h =
+after_first text line rest h =
     behind_by (length text == 0) (nat_lt (line_end text) (length text)) text line rest refl refl h
 
 nothing_by : (empty within : Bool) (text : List ℕ) → (length text == 0) ≡ empty

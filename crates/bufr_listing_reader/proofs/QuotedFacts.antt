@@ -12,7 +12,7 @@ use Rattle.std.proofs.lemmas.Option.{same_Some, cond_some}
 use Rattle.std.proofs.lemmas.Bool.Decides.{nat_tests}
 use Rattle.hex.specs.Hex.{hex_digit_value, lower_digits, encode_with}
 use Rattle.hex.proofs.HexLemmas.{IsDigits-lower_digits}
-use Rattle.bufr_listing.specs.Listings.{stands_for_itself, quoted_octet}
+use Rattle.bufr_listing.specs.Listings.{is_literal, quoted_octet}
 use Rattle.bufr_listing_reader.specs.Lines.{lower_digit}
 use Rattle.bufr_listing_reader.specs.RawWords.{lower_value, pair_of, escaped, escaped_octet, first_octet}
 use Rattle.bufr_listing_reader.specs.RawWords.{then_octets, octets_before}
@@ -91,7 +91,7 @@ escaped_is : (high low a b c : ℕ) (more rest : List ℕ) → lower_value high 
     → OctetFront (92 ∷ high ∷ low ∷ more) c rest
 unfolding encode_with
 escaped_is high low a b c more rest is_high is_low h =
-    elim (cases_Bool (stands_for_itself (16 * a + b))) [
+    elim (cases_Bool (is_literal (16 * a + b))) [
       | inl e ↦
           absurd (let own : escaped (Some (16 * a + b)) more ≡ None = rw e refl in cc (sym own ∙ h))
       | inr e ↦
@@ -131,7 +131,7 @@ behind_backslash (high ∷ []) rest c h = absurd cc
 behind_backslash (high ∷ low ∷ more) rest c h =
     pair_is high low c more rest (lower_value high) (lower_value low) refl refl h
 
-plain_small : (c : ℕ) → stands_for_itself c ≡ true → c < 256
+plain_small : (c : ℕ) → is_literal c ≡ true → c < 256
 plain_small c h = grind (arith, nat_tests)
 
 front_is : (text rest : List ℕ) (c : ℕ) → first_octet text ≡ Some (c, rest) → OctetFront text c rest
@@ -143,7 +143,7 @@ front_is (x ∷ behind) rest c h =
           subst (λ y. OctetFront (y ∷ behind) c rest) (sym (eqb-true x 92 e))
           (behind_backslash behind rest c (sym own ∙ h))
       | inr e ↦
-          elim (cases_Bool (stands_for_itself x)) [
+          elim (cases_Bool (is_literal x)) [
             | inl p ↦
                 let own : first_octet (x ∷ behind) ≡ Some (x, behind) = rw (p, e) refl in
                 let same : (x, behind) ≡ (c, rest) =
@@ -156,7 +156,7 @@ front_is (x ∷ behind) rest c h =
           ]
     ]
 
-plain_no_backslash : (c : ℕ) → stands_for_itself c ≡ true → (c == 92) ≡ false
+plain_no_backslash : (c : ℕ) → is_literal c ≡ true → (c == 92) ≡ false
 plain_no_backslash c h =
     not-true (c == 92) (and_parts (nat_le 32 c && nat_le c 126 && not (c == 34))
     (not (c == 92)) h).1
@@ -165,7 +165,7 @@ front_back : (c : ℕ) (more : List ℕ) → c < 256 → first_octet (quoted_oct
     (c, more)
 unfolding encode_with
 front_back c more small =
-    elim (cases_Bool (stands_for_itself c)) [
+    elim (cases_Bool (is_literal c)) [
       | inl p ↦
           let printed : quoted_octet c ≡ c ∷ [] = rw p refl in
           let own : first_octet (c ∷ more) ≡ Some (c, more) = rw (p, plain_no_backslash c p) refl in

@@ -36,7 +36,7 @@ use Rattle.bufr_listing.specs.Listings.{field_line, subset_lines, end_line, line
 use Rattle.bufr_listing.specs.Listings.{flags_line, descriptors_line}
 use Rattle.bufr_listing.specs.Listings.{octets_line, local_lines, section2_line, section2_lines}
 use Rattle.bufr_listing.specs.Listings.{section1_numbers, time_numbers, numbers_line}
-use Rattle.bufr_listing.specs.Listings.{joined, stands_for_itself, quoted_octet, quoted, number_word}
+use Rattle.bufr_listing.specs.Listings.{joined, is_literal, quoted_octet, quoted, number_word}
 use Rattle.bufr_listing.specs.Listings.{value_word, heading_lines, listing}
 use Rattle.bufr_listing_reader.specs.Lines.{texts}
 use Rattle.bufr_listing_reader.specs.Lines.{is_skipped, lower_digit, as_printed, has_octets, first_word}
@@ -247,7 +247,7 @@ descriptors_shown (d ∷ ds) some =
 -- ---- fields
 
 octet_plain : (c : ℕ) → c < 256 → IsPlain (quoted_octet c)
-octet_plain c small = by_test (stands_for_itself c)
+octet_plain c small = by_test (is_literal c)
     (λ e. leb-true 32 c (and_parts _ _ (and_parts _ _ (and_parts _ _ e).0).0).0)
   where
     by_test : (b : Bool) → (b ≡ true → 32 ≤ c)

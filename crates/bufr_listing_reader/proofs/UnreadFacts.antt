@@ -16,7 +16,7 @@ use Rattle.bufr_listing_reader.specs.Lines.{Line, is_skipped, as_printed, counti
 use Rattle.bufr_listing_reader.specs.Reading.{MessageRead, message_read, messages_read, messages_listed}
 use Rattle.bufr_listing_reader.specs.Unread.{Unread, behind, nothing, stopped, unread_from, unread_by}
 use Rattle.bufr_listing_reader.specs.Unread.{unread, unread_in, or_fault, all_of, HandsOutMessage}
-use Rattle.bufr_listing_reader.proofs.CursorFacts.{Behind, behind_first, no_first}
+use Rattle.bufr_listing_reader.proofs.CursorFacts.{Behind, after_first, no_first}
 use Rattle.bufr_listing_reader.proofs.MessageSteps.{message_shorter}
 
 -- ---- at once
@@ -148,7 +148,7 @@ few_first : (n : ℕ) (text : List ℕ) (o : Option (List ℕ × List ℕ)) → 
     → length (lines text) ≤ length text
 few_first n text None e short few = omega (arith, ap length (no_first text e))
 few_first n text (Some (line, rest)) e short few =
-    let b : Behind text line rest = behind_first text line rest e in
+    let b : Behind text line rest = after_first text line rest e in
     omega (arith, ap length b.lines, b.shorter, few rest b.shorter)
 
 few_lines_by : (n : ℕ) (text : List ℕ) → length text ≤ n → length (lines text) ≤ length text

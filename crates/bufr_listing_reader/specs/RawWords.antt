@@ -14,7 +14,7 @@ use Rattle.bufr_fields.specs.declared.field.Raw.TheVariants.{Number, Text}
 use Rattle.bufr_fields.specs.declared.field.Decimal.{Decimal}
 use Rattle.bufr_fields.specs.DecimalTexts.{decimal_of}
 use Rattle.bufr_fields.specs.Limits.{most_raw_bits, most_decimal_scale}
-use Rattle.bufr_listing.specs.Listings.{stands_for_itself}
+use Rattle.bufr_listing.specs.Listings.{is_literal}
 use Rattle.bufr_listing_reader.specs.FieldLines.{is_missing_word}
 
 -- ---- texts
@@ -34,7 +34,7 @@ pair_of _ _ = None
 -- an octet from its digits, and the text after it; none that appears as itself
 abbrev pub escaped : Option ℕ → List ℕ → Option (ℕ × List ℕ)
 escaped None behind = None
-escaped (Some c) behind = if stands_for_itself c then None else Some (c, behind)
+escaped (Some c) behind = if is_literal c then None else Some (c, behind)
 
 -- the octet after a backslash
 abbrev pub escaped_octet : List ℕ → Option (ℕ × List ℕ)
@@ -46,7 +46,7 @@ abbrev pub first_octet : List ℕ → Option (ℕ × List ℕ)
 first_octet [] = None
 first_octet (c ∷ behind) =
     if c == 92 then escaped_octet behind
-    else if stands_for_itself c then Some (c, behind) else None
+    else if is_literal c then Some (c, behind) else None
 
 -- an octet before others, if there are others
 abbrev pub then_octets : ℕ → Option (List ℕ) → Option (List ℕ)

@@ -19,7 +19,7 @@ ghost use Rattle.bufr_listing_reader.specs.Reading.{read_descriptors, Described,
 use crate::line_words::{Words, begins};
 use crate::lines::{Lines, TextLine};
 use bufr_base::{Failure, Items};
-use bufr_data::KeptTemplates;
+use bufr_data::TemplateCache;
 use bufr_expand::Template;
 use bufr_listing::{Cause, ListingFault};
 use bufr_tables::Fxy;
@@ -58,7 +58,7 @@ pub(crate) fn read_numbers(
     if !begins(line.text, title) {
         return Err(bad_line(line));
     }
-    let words = Words::behind_first(line.text);
+    let words = Words::after_first(line.text);
     let found = words.numbers(alloc, limits)?;
     match found {
         Some(numbers) => Ok(numbers),
@@ -115,7 +115,7 @@ fn octets_of(alloc: Global, line: TextLine, title: &[u8]) -> Result<Vec<u8>, Fai
     ensures { let text = as_printed line.entry.text.now in Gives (λ v. v.items) result
         (read_octets title.now (length (words_of text) == 2) line.entry.number text) }
 {
-    let Some(digits) = Words::behind_first(line.text).only() else {
+    let Some(digits) = Words::after_first(line.text).only() else {
         return Err(bad_line(line));
     };
     match hex::decode(alloc, digits) {
@@ -177,7 +177,7 @@ pub(crate) fn read_flags(lines: &mut Lines) -> Result<Flags, Failure<ListingFaul
 /// Reads the line of the descriptors. Returns also their template.
 pub(crate) fn read_descriptors(
     alloc: Global,
-    templates: &mut KeptTemplates<'_>,
+    templates: &mut TemplateCache<'_>,
     lines: &mut Lines,
 ) -> Result<(Vec<Fxy>, Template), Failure<ListingFault>>
     ensures read { Gives {Y = Described × List Line}
@@ -204,7 +204,7 @@ fn descriptors_of(alloc: Global, line: TextLine) -> Result<Vec<Fxy>, Failure<Lis
     if !begins(line.text, b"descriptors") {
         return Err(bad_line(line));
     }
-    match Words::behind_first(line.text).descriptors(alloc)? {
+    match Words::after_first(line.text).descriptors(alloc)? {
         Some(descriptors) if !descriptors.is_empty() => Ok(descriptors),
         _ => Err(bad_line(line)),
     }
@@ -213,7 +213,7 @@ fn descriptors_of(alloc: Global, line: TextLine) -> Result<Vec<Fxy>, Failure<Lis
 /// Builds the template of a line's descriptors. L3 at this line if they have none.
 fn template_of(
     alloc: Global,
-    templates: &mut KeptTemplates<'_>,
+    templates: &mut TemplateCache<'_>,
     line: TextLine,
     descriptors: &[Fxy],
 ) -> Result<Template, Failure<ListingFault>>

@@ -45,7 +45,7 @@ impl<'a> Words<'a> {
         }
     }
 
-    pub(crate) fn behind_first(line: &'a [u8]) -> Words<'a>
+    pub(crate) fn after_first(line: &'a [u8]) -> Words<'a>
         ensures { words_left result ≡ drop 1 (words_of line.now) }
     {
         let mut words = Words::of(line);

@@ -16,7 +16,7 @@ use crate::lines::Lines;
 use crate::subsets::read_subsets;
 use crate::unread::Messages;
 use bufr_base::{Failure, Items};
-use bufr_data::KeptTemplates;
+use bufr_data::TemplateCache;
 use bufr_listing::ListingFault;
 use bufr_sections::{Head, Message};
 use bufr_tables::Tables;
@@ -80,7 +80,7 @@ fn messages_listed(
 
 pub(crate) fn read_message(
     alloc: Global,
-    templates: &mut KeptTemplates<'_>,
+    templates: &mut TemplateCache<'_>,
     lines: &mut Lines,
 ) -> Result<Message, Failure<ListingFault>>
     ensures read { Gives {Y = MessageRead} (λ m. (m, left lines.new)) result

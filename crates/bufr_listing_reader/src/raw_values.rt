@@ -11,7 +11,7 @@ use crate::line_words::natural;
 use bufr_base::{Items, OutOfMemory};
 use bufr_expand::Spec;
 use bufr_fields::{Decimal, MOST_DECIMAL_SCALE, MOST_RAW_BITS, Raw, are_ones, greatest};
-use bufr_listing::stands_for_itself;
+use bufr_listing::is_literal;
 use bufr_tables::Kind;
 use std::alloc::Global;
 
@@ -148,13 +148,13 @@ fn first_octet(text: &[u8]) -> Option<(u8, &[u8])>
     match text {
         [b'\\', high, low, behind @ ..] => {
             let octet = 16 * lower_value(*high)? + lower_value(*low)?;
-            if stands_for_itself(octet) {
+            if is_literal(octet) {
                 None
             } else {
                 Some((octet, behind))
             }
         }
-        [octet, behind @ ..] if stands_for_itself(*octet) => Some((*octet, behind)),
+        [octet, behind @ ..] if is_literal(*octet) => Some((*octet, behind)),
         _ => None,
     }
 }

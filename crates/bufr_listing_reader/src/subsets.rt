@@ -20,7 +20,7 @@ use bufr_base::{Failure, Items};
 use bufr_expand::laws::courses_are_steady;
 use bufr_expand::{Spec, Step, Template, Walk};
 use bufr_fields::{Field, Subset};
-use bufr_listing::{Cause, ListingFault, title};
+use bufr_listing::{Cause, ListingFault, descriptor_and_space};
 use bufr_tables::Fxy;
 use std::alloc::Global;
 
@@ -137,6 +137,6 @@ fn read_value(
 fn begins_field(text: &[u8], fxy: Fxy) -> bool
     ensures { result ≡ bytes_eq (take 7 text.now) (six_digits fxy ++ 32 ∷ []) }
 {
-    let front = title(fxy);
+    let front = descriptor_and_space(fxy);
     text.len() >= 7 && &text[..7] == front.as_slice()
 }

@@ -7,7 +7,7 @@ ghost use Rattle.bufr_listing_reader.specs.Unread.{HandsOutMessage, all_of, unre
 use crate::lines::Lines;
 use crate::messages::read_message;
 use bufr_base::Failure;
-use bufr_data::KeptTemplates;
+use bufr_data::TemplateCache;
 use bufr_listing::ListingFault;
 use bufr_sections::Message;
 use bufr_tables::Tables;
@@ -18,7 +18,7 @@ use std::marker::Model;
 /// Contracts see the messages left before the first fault, and that fault.
 #[derive(Drop)]
 pub struct Messages<'a> {
-    templates: KeptTemplates<'a>,
+    templates: TemplateCache<'a>,
     lines: Lines<'a>,
 }
 
@@ -39,7 +39,7 @@ impl<'a> Messages<'a> {
         ensures few { length result.messages ≤ length text.now }
     {
         Messages {
-            templates: KeptTemplates::new(alloc, tables),
+            templates: TemplateCache::new(alloc, tables),
             lines: Lines::of(text),
         }
     }

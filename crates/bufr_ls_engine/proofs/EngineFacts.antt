@@ -226,16 +226,16 @@ listed_here columns streams q frames columns_are input_is =
 
 -- it could not be read on
 reading_ends : (columns : List Column) (Ends : Reading → Type 0) (olds news' : List Reading)
-    (begin mid now : Writing) (streams : List (List ℕ)) (q : Lister) (source : Input)
+    (begin mid now : Writing) (streams : List (List ℕ)) (q : Lister) (name : Input)
     (read : List ℕ) → q.columns.now ≡ columns → q.input ≡ length streams + 1
-    → source ≡ Number q.input
+    → name ≡ Number q.input
     → AreReadTo olds news' streams (λ r r'. Ends r' × HasGiven r r' read)
     → WritesAll begin mid (listed_heads columns streams)
     → WritesAll mid now (rows q.columns.now q.input (sure read))
-    → EndsListing columns Ends source olds news' begin now
-reading_ends columns Ends olds news' begin mid now streams q source read columns_are input_is
-    source_is at before here =
-    subst (λ s. EndsListing columns Ends s olds news' begin now) (sym source_is) (
+    → EndsListing columns Ends name olds news' begin now
+reading_ends columns Ends olds news' begin mid now streams q name read columns_are input_is
+    name_is at before here =
+    subst (λ s. EndsListing columns Ends s olds news' begin now) (sym name_is) (
       streams,
       read,
       input_is,
@@ -253,23 +253,23 @@ pub through_stops : (columns : List Column) (reads : ℕ) (olds news news' : Lis
     → q ≡ begun p i → ListsInput reads q p' r r' mid now (Err e)
     → Lists columns reads olds news' begin now (Err e)
 through_stops columns reads olds news news' begin mid now p q p' tally i r r'
-    (faults.ReadFailed source) t at is begun_is lists =
+    (faults.ReadFailed name) t at is begun_is lists =
     let columns_are = begun_columns p q i begun_is in
     let input_is = begun_input p q i begun_is in
     let written_is = begun_written p q i begun_is in
     let many = streams_read olds news t.streams i t.through in
-    reading_ends columns HasFailed olds news' begin mid now t.streams q source lists.2
+    reading_ends columns HasFailed olds news' begin mid now t.streams q name lists.2
     (columns_are ∙ t.listed.columns_are) (input_is ∙ ap (λ n. n + 1) (sym many)) lists.0
     (stops_here (λ x x'. HasFailed x' × HasGiven x x' lists.2) olds news news' t.streams i r r' at is
     (lists.1, lists.3))
     t.listed.written lists.4
 through_stops columns reads olds news news' begin mid now p q p' tally i r r'
-    (faults.EndlessInput source) t at is begun_is lists =
+    (faults.EndlessInput name) t at is begun_is lists =
     let columns_are = begun_columns p q i begun_is in
     let input_is = begun_input p q i begun_is in
     let written_is = begun_written p q i begun_is in
     let many = streams_read olds news t.streams i t.through in
-    reading_ends columns (IsEndless reads) olds news' begin mid now t.streams q source lists.2
+    reading_ends columns (IsEndless reads) olds news' begin mid now t.streams q name lists.2
     (columns_are ∙ t.listed.columns_are) (input_is ∙ ap (λ n. n + 1) (sym many)) lists.0
     (stops_here (λ x x'. IsEndless reads x' × HasGiven x x' lists.2) olds news news' t.streams i r r'
     at is (lists.1, lists.3))

@@ -115,11 +115,11 @@ abbrev pub ListsInput : ℕ → Lister → Lister → Reading → Reading → Wr
 ListsInput reads p p' reader reader' writer writer' (Ok done) =
     WasReadOut reader' × (stream : List ℕ) × AreAllOf reader stream
     × HasListedAll p p' stream writer writer'
-ListsInput reads p p' reader reader' writer writer' (Err (faults.ReadFailed source)) =
-    (source ≡ Number p.input) × HasFailed reader' × (read : List ℕ) × HasGiven reader reader' read
+ListsInput reads p p' reader reader' writer writer' (Err (faults.ReadFailed name)) =
+    (name ≡ Number p.input) × HasFailed reader' × (read : List ℕ) × HasGiven reader reader' read
     × WritesAll writer writer' (rows p.columns.now p.input (sure read))
-ListsInput reads p p' reader reader' writer writer' (Err (faults.EndlessInput source)) =
-    (source ≡ Number p.input) × IsEndless reads reader' × (read : List ℕ)
+ListsInput reads p p' reader reader' writer writer' (Err (faults.EndlessInput name)) =
+    (name ≡ Number p.input) × IsEndless reads reader' × (read : List ℕ)
     × HasGiven reader reader' read
     × WritesAll writer writer' (rows p.columns.now p.input (sure read))
 ListsInput reads p p' reader reader' writer writer' (Err fault) =

@@ -44,10 +44,10 @@ abbrev pub Lists : List Column → ℕ → List Reading → List Reading → Wri
 Lists columns reads readers readers' writer writer' (Ok tally) =
     (streams : List (List ℕ)) × WereReadOut readers readers' streams
     × WritesAll writer writer' (listed_heads columns streams) × (tally ≡ counted streams)
-Lists columns reads readers readers' writer writer' (Err (faults.ReadFailed source)) =
-    EndsListing columns HasFailed source readers readers' writer writer'
-Lists columns reads readers readers' writer writer' (Err (faults.EndlessInput source)) =
-    EndsListing columns (IsEndless reads) source readers readers' writer writer'
+Lists columns reads readers readers' writer writer' (Err (faults.ReadFailed name)) =
+    EndsListing columns HasFailed name readers readers' writer writer'
+Lists columns reads readers readers' writer writer' (Err (faults.EndlessInput name)) =
+    EndsListing columns (IsEndless reads) name readers readers' writer writer'
 Lists columns reads readers readers' writer writer' (Err (faults.WriteFailed written)) =
     (streams : List (List ℕ)) × (frames : List Found) × HasReached readers readers' streams frames
     × FailsAfter written writer writer' (listed_to columns streams frames)

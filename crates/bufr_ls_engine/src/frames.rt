@@ -53,14 +53,14 @@ pub(crate) fn list_input<S: Source, W: Sink>(
     alloc: Global,
     reads: u64,
     reader: &mut S,
-    room: &mut [u8],
+    buffer: &mut [u8],
     lister: &mut Lister<'_>,
     writer: &mut W,
 ) -> Result<(), ToolFault>
     requires few { reads ≤ most_reads }
     requires fresh { IsFresh (S.reading reader.old) }
-    requires some { 0 < length room.old }
-    requires short { length room.old ≤ longest_piece }
+    requires some { 0 < length buffer.old }
+    requires short { length buffer.old ≤ longest_piece }
     requires works { (W.writing writer.old).failed ≡ false }
     requires frames { lister.old.frames ≡ 0 }
     requires refused { lister.old.refused ≡ 0 }
@@ -69,7 +69,7 @@ pub(crate) fn list_input<S: Source, W: Sink>(
     ensures lists { ListsInput reads lister.old lister.new (S.reading reader.old)
         (S.reading reader.new) (W.writing writer.old) (W.writing writer.new) result }
 {
-    let source = Input::Number(lister.input);
-    take_stream(alloc, reads, source, reader, room, lister, writer)?;
+    let name = Input::Number(lister.input);
+    take_stream(alloc, reads, name, reader, buffer, lister, writer)?;
     lister.rows.write(writer)
 }

@@ -10,7 +10,7 @@ use crate::column::Column;
 use crate::frames::list_input;
 use crate::lister::Lister;
 use bufr_bits::{Sink, Source};
-use bufr_io::{Tally, ToolFault, room};
+use bufr_io::{Tally, ToolFault, read_buffer};
 use std::alloc::Global;
 
 /// Writes a header line, and then a row for each frame of the inputs, one input after the other. The row
@@ -31,9 +31,9 @@ pub fn run_ls<S: Source, W: Sink>(
     ensures front { IfErr result (WritesFront columns.now (map S.reading inputs.old)
         (W.writing writer.old) (W.writing writer.new)) }
 {
-    let mut room = room(alloc)?;
+    let mut buffer = read_buffer(alloc)?;
     let mut lister = Lister::new(alloc, columns);
-    let tally = list_inputs(alloc, reads, inputs, &mut room, &mut lister, writer)?;
+    let tally = list_inputs(alloc, reads, inputs, &mut buffer, &mut lister, writer)?;
     lister.hand_on(writer)?;
     Ok(tally)
 }
@@ -43,14 +43,14 @@ fn list_inputs<S: Source, W: Sink>(
     alloc: Global,
     reads: u64,
     inputs: &mut [S],
-    room: &mut [u8],
+    buffer: &mut [u8],
     lister: &mut Lister<'_>,
     writer: &mut W,
 ) -> Result<Tally, ToolFault>
     requires few { reads ≤ most_reads }
     requires fresh { AreFresh (map S.reading inputs.old) }
-    requires some { 0 < length room.old }
-    requires short { length room.old ≤ longest_piece }
+    requires some { 0 < length buffer.old }
+    requires short { length buffer.old ≤ longest_piece }
     requires works { (W.writing writer.old).failed ≡ false }
     requires none { lister.old.rows.held.items ≡ [] }
     requires unwritten { lister.old.rows.written ≡ 0 }
@@ -67,7 +67,7 @@ fn list_inputs<S: Source, W: Sink>(
     };
     for (index, reader) in inputs.iter_mut().enumerate() {
         lister.begin(index as u128 + 1);
-        list_input(alloc, reads, reader, &mut *room, lister, writer)?;
+        list_input(alloc, reads, reader, &mut *buffer, lister, writer)?;
         tally.frames += lister.frames;
         tally.refused += lister.refused;
     }

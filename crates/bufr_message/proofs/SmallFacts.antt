@@ -12,7 +12,7 @@ use Rattle.bufr_expand.specs.Flat.{IsTreeOf}
 use Rattle.bufr_expand.specs.Limits.{most_items}
 use Rattle.bufr_expand.specs.Steady.{IsSteady, EachAsked}
 use Rattle.bufr_expand.specs.Trees.{Tree}
-use Rattle.bufr_expand.specs.Unrolling.{Told, After}
+use Rattle.bufr_expand.specs.Unrolling.{NumberedField, After}
 use Rattle.bufr_fields.specs.declared.field.Raw.{Raw}
 use Rattle.bufr_fields.specs.declared.field.Field.{Field}
 use Rattle.bufr_fields.specs.declared.field.Subset.{Subset}
@@ -23,7 +23,7 @@ use Rattle.bufr_message.specs.SmallSubsets.{IsSmall, IsSmallField, HasSmallField
 use Rattle.bufr_message.proofs.AloneFacts.{StandsAlone, each_alone}
 
 -- each field that a course asks for adds an item, up to the limit
-fields_few : (c : Course) (used : ℕ) (fields : List Told) (later : Course) → used ≤ most_items
+fields_few : (c : Course) (used : ℕ) (fields : List NumberedField) (later : Course) → used ≤ most_items
     → IsSteady used c → After c fields later → used + length fields ≤ most_items
 unfolding IsSteady After
 fields_few c used [] later le steady after = omega (arith, le)

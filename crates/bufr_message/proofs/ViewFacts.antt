@@ -18,7 +18,7 @@ use Rattle.bufr_data.specs.Data.{ReadsExactly, subsets_in}
 use Rattle.bufr_sections.specs.declared.message.Message.{Message}
 use Rattle.bufr_sections.specs.Sections.{Envelope}
 use Rattle.bufr_sections.specs.Spelt.{longest}
-use Rattle.bufr_message.specs.Judged.{judged}
+use Rattle.bufr_message.specs.Summary.{summary}
 use Rattle.bufr_message.specs.Kept.{message_under}
 use Rattle.bufr_message.specs.declared.report.Report.{Report}
 use Rattle.bufr_tables.specs.Entries.{Entries}
@@ -52,7 +52,7 @@ judged_passed : ((tree : Tree) (compressed : Bool) (count : ℕ) (front : List B
     → (tree : Tree) (e : Envelope) (subsets : List Subset) (rest : List Bool)
     → subsets_in tree e.compressed e.count (bits e.contents) ≡ Ok (subsets, rest)
     → can_be_alone e.descriptors subsets ≡ true
-    → result_map judged (message_under tree e)
+    → result_map summary (message_under tree e)
     ≡ Ok (record { subsets = e.count; slack_octets = length rest / 8 })
 judged_passed reads tree e subsets rest is few =
     let many =
@@ -65,10 +65,10 @@ pub judged_seen : ((tree : Tree) (compressed : Bool) (count : ℕ) (front : List
     → (tree : Tree) (e s : Envelope) (subsets : List Subset) (rest : List Bool) → e ≡ s
     → subsets_in tree e.compressed e.count (bits e.contents) ≡ Ok (subsets, rest)
     → can_be_alone s.descriptors subsets ≡ true
-    → result_map judged (message_under tree s)
+    → result_map summary (message_under tree s)
     ≡ Ok (record { subsets = e.count; slack_octets = length rest / 8 })
 judged_seen reads tree e s subsets rest same is few =
-    subst (λ (x : Envelope). result_map judged (message_under tree x)
+    subst (λ (x : Envelope). result_map summary (message_under tree x)
     ≡ Ok (record { subsets = e.count; slack_octets = length rest / 8 })) same
     (judged_passed reads tree e subsets rest is
     (subst (λ (x : Envelope). can_be_alone x.descriptors subsets ≡ true) (sym same) few))

@@ -17,7 +17,7 @@ pub use Rattle.bufr_sections.specs.SectionLaws
 pub use Rattle.bufr_sections.specs.Reasons
 pub use Rattle.bufr_sections.specs.EncodeReasons
 pub mod Kept
-pub mod Judged
+pub mod Summary
 pub use Rattle.bufr_base.specs.Answers
 pub use Rattle.bufr_tables.specs.Descriptors
 pub use Rattle.bufr_tables.specs.Entries

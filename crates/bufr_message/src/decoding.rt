@@ -12,12 +12,12 @@ ghost use Rattle.bufr_message.specs.Kept.{message_under};
 ghost use Rattle.bufr_message.specs.Messages.{Spells, data_or, message_of};
 
 use crate::alone::are_short;
-use crate::kept::bring_to_front;
+use crate::kept::make_octets_first;
 use crate::laws::messages_are_spelt;
 use crate::message_view::view_in;
 use bufr_base::{Failure, Items};
 use bufr_bits::BitReader;
-use bufr_data::{DataFault, DataTemplate, Kept, Subset};
+use bufr_data::{CachedTemplate, DataFault, DataTemplate, Subset};
 use bufr_sections::{Decoded, Envelope, Message, Refused, read_sections};
 use bufr_tables::Tables;
 use std::alloc::Global;
@@ -49,7 +49,7 @@ fn decode_sections(
 {
     let sections = read_sections(alloc, octets)?;
     let mut kept = Vec::new(alloc);
-    bring_to_front(alloc, tables, &mut kept, sections.listed)?;
+    make_octets_first(alloc, tables, &mut kept, sections.listed)?;
     if sections.compressed || sections.count >= MANY_SUBSETS {
         let view = view_in(alloc, &[], &mut kept[0], octets, sections)?;
         return Ok(view.into_decoded(alloc)?);
@@ -58,7 +58,11 @@ fn decode_sections(
 }
 
 /// Builds the message of sections while it reads their subsets.
-fn build(alloc: Global, kept: &Kept, sections: Envelope<'_>) -> Result<Decoded, Failure<Refused>>
+fn build(
+    alloc: Global,
+    kept: &CachedTemplate,
+    sections: Envelope<'_>,
+) -> Result<Decoded, Failure<Refused>>
     requires { kept.now.descriptors.value ≡ descriptors_of sections.listed.now }
     ensures { Gives (λ d. d) result
         (message_under kept.now.template (envelope sections.entry)) }

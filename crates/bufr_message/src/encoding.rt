@@ -14,7 +14,7 @@ use crate::laws::written_messages_are_spelt;
 use crate::ranges::numbers_fit;
 use bufr_base::Failure;
 use bufr_bits::BitSink;
-use bufr_data::{KeptTemplates, Subset, write_subsets};
+use bufr_data::{Subset, TemplateCache, write_subsets};
 use bufr_expand::Template;
 use bufr_sections::{EncodeFault, LentSections, Message, spell};
 use bufr_tables::{Fxy, Tables};
@@ -41,7 +41,7 @@ pub fn encode(
 /// one.
 pub fn keep_and_encode(
     alloc: Global,
-    templates: &mut KeptTemplates<'_>,
+    templates: &mut TemplateCache<'_>,
     message: &Message,
 ) -> Result<Vec<u8>, Failure<EncodeFault>>
     ensures same { templates.new ≡ templates.old }
@@ -59,7 +59,7 @@ pub fn keep_and_encode(
 #[tactic(auto, unfolding(crate::specs::Encodings::code))]
 fn octets_keeping(
     alloc: Global,
-    templates: &mut KeptTemplates<'_>,
+    templates: &mut TemplateCache<'_>,
     sections: &LentSections<'_>,
     subsets: &[Subset],
 ) -> Result<Vec<u8>, Failure<EncodeFault>>
@@ -81,7 +81,7 @@ pub(crate) fn octets_of(
     ensures { Gives (λ v. v.items) result
         (code tables.now (message_lent sections.now subsets.now)) }
 {
-    let mut templates = KeptTemplates::new(alloc, tables);
+    let mut templates = TemplateCache::new(alloc, tables);
     octets_keeping(alloc, &mut templates, sections, subsets)
 }
 
@@ -107,7 +107,7 @@ fn enclose(
 #[tactic(auto, unfolding(crate::specs::Encodings::data_bits_or))]
 fn contents_of(
     alloc: Global,
-    templates: &mut KeptTemplates<'_>,
+    templates: &mut TemplateCache<'_>,
     sections: &LentSections<'_>,
     subsets: &[Subset],
 ) -> Result<Vec<u8>, Failure<EncodeFault>>
@@ -125,7 +125,7 @@ fn contents_of(
 
 fn template_of(
     alloc: Global,
-    templates: &mut KeptTemplates<'_>,
+    templates: &mut TemplateCache<'_>,
     descriptors: &[Fxy],
 ) -> Result<Template, Failure<EncodeFault>>
     ensures same { templates.new ≡ templates.old }

@@ -9,7 +9,7 @@ ghost use Rattle.bufr_sections.specs.Sections.{descriptors_of};
 ghost use Rattle.bufr_message.specs.Messages.{template_or};
 
 use bufr_base::{Failure, Items, OutOfMemory};
-use bufr_data::{DescriptorList, Kept};
+use bufr_data::{CachedTemplate, DescriptorList};
 use bufr_sections::{Refused, are_listed, descriptors_of};
 use bufr_tables::{Fxy, Tables};
 use std::alloc::Global;
@@ -35,10 +35,10 @@ impl<'a> DescriptorList for ListOctets<'a> {
 }
 
 /// Puts the list of these descriptors first: one of those kept, or a new one.
-pub(crate) fn bring_to_front(
+pub(crate) fn make_octets_first(
     alloc: Global,
     tables: &Tables,
-    kept: &mut Vec<Kept>,
+    kept: &mut Vec<CachedTemplate>,
     octets: &[u8],
 ) -> Result<(), Failure<Refused>>
     requires { AreKept tables.now kept.old.items }
@@ -47,7 +47,7 @@ pub(crate) fn bring_to_front(
     ensures fault { IfErr result (λ e.
         Fails e (template_or (template tables.now (descriptors_of octets.now)))) }
 {
-    match bufr_data::bring_to_front(alloc, tables, kept, &ListOctets { octets }) {
+    match bufr_data::make_first(alloc, tables, kept, &ListOctets { octets }) {
         Ok(()) => Ok(()),
         Err(failure) => Err(failure.map(Refused::Template)),
     }

@@ -5,32 +5,32 @@
 mod alone;
 mod decoding;
 mod encoding;
-mod judged;
 mod kept;
 pub mod laws;
 pub mod listing;
+mod message_reader;
 mod message_view;
 mod own_bits;
 mod ranges;
 mod report;
-mod templates;
+mod summary;
 mod viewing;
 mod worked_reports;
 mod worked_values;
 
 pub use bufr_base::{Failure, Items, OutOfMemory};
 pub use bufr_data::{
-    ChosenFields, DataFault, Decimal, Field, Fields, KeptTemplates, MisfitFault, NumberField, Raw,
-    ShortNumber, Subset,
+    ChosenFields, DataFault, Decimal, Field, Fields, MisfitFault, NumberField, Raw, ShortNumber,
+    Subset, TemplateCache,
 };
 pub use bufr_expand::{Asks, Spec, TemplateFault};
 pub use bufr_sections::{Decoded, EncodeFault, Head, LentSections, Message, Refused};
 pub use bufr_tables::{Element, Fxy, Kind, TableB, TableD, TableFault, Tables};
 pub use decoding::decode;
 pub use encoding::{encode, keep_and_encode};
-pub use judged::Judged;
+pub use message_reader::MessageReader;
 pub use message_view::View;
 pub use own_bits::canonical_of_read;
 pub use report::{Report, ReportHead, canonical, reports};
-pub use templates::MessageReader;
+pub use summary::Summary;
 pub use viewing::view;

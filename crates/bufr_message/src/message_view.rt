@@ -12,7 +12,7 @@ ghost use Rattle.bufr_data.specs.Kept.{AreKept};
 ghost use Rattle.bufr_sections.specs.declared.message.Decoded.{Decoded};
 ghost use Rattle.bufr_sections.specs.Sections.{descriptors_of, envelope_of};
 ghost use Rattle.bufr_sections.specs.SectionsRead.{envelope, message_lent};
-ghost use Rattle.bufr_message.specs.Judged.{judged, judged_under};
+ghost use Rattle.bufr_message.specs.Summary.{summary, summary_under};
 ghost use Rattle.bufr_message.specs.Kept.{message_under};
 ghost use Rattle.bufr_message.specs.Messages.{Spells, data_or, message_of, message_with};
 ghost use Rattle.bufr_message.specs.OwnBits.{HaveRoom, spelt_alone, AddsOwn};
@@ -20,15 +20,17 @@ ghost use Rattle.bufr_message.specs.Reports.{reports_of, IsUnder};
 ghost use Rattle.bufr_message.specs.Views.{AreReadFrom};
 
 use crate::alone::{are_few, if_each_alone};
-use crate::judged::Judged;
-use crate::kept::bring_to_front;
+use crate::kept::make_octets_first;
 use crate::laws::{reports_have_canonical_messages, sections_are_spelt};
 use crate::own_bits::put_alone;
 use crate::report::{Report, report_with};
+use crate::summary::Summary;
 use bufr_base::{Failure, Items, OutOfMemory};
 use bufr_bits::{BitReader, BitSink};
 use bufr_data::laws::data_hold_subsets;
-use bufr_data::{ChosenFields, DataFault, DataTemplate, Fields, Kept, Subset, SubsetIndex};
+use bufr_data::{
+    CachedTemplate, ChosenFields, DataFault, DataTemplate, Fields, Subset, SubsetIndex,
+};
 use bufr_sections::{
     Decoded, Envelope, Head, LentSections, Message, Refused, SectionsInPlace, are_bare,
     find_sections, read_sections,
@@ -286,7 +288,7 @@ pub(crate) fn view_keeping<'a>(
     alloc: Global,
     tables: &Tables,
     asked: &[u16],
-    kept: &mut Vec<Kept>,
+    kept: &mut Vec<CachedTemplate>,
     octets: &'a [u8],
 ) -> Result<View<'a>, Failure<Refused>>
     requires { AreKept tables.now kept.old.items }
@@ -294,42 +296,42 @@ pub(crate) fn view_keeping<'a>(
     ensures exact { Gives (λ d. d) result (message_of tables.now octets.now) }
 {
     let sections = read_sections(alloc, octets)?;
-    bring_to_front(alloc, tables, kept, sections.listed)?;
+    make_octets_first(alloc, tables, kept, sections.listed)?;
     view_in(alloc, asked, &mut kept[0], octets, sections)
 }
 
 /// Judges the message that octets spell, and puts its list of descriptors first.
 #[tactic(auto, unfolding(crate::specs::Messages::message_of, crate::specs::Messages::message_in))]
-pub(crate) fn judge_keeping(
+pub(crate) fn check_keeping(
     alloc: Global,
     tables: &Tables,
-    kept: &mut Vec<Kept>,
+    kept: &mut Vec<CachedTemplate>,
     octets: &[u8],
-) -> Result<Judged, Failure<Refused>>
+) -> Result<Summary, Failure<Refused>>
     requires { AreKept tables.now kept.old.items }
     ensures are { AreKept tables.now kept.new.items }
-    ensures exact { Gives (λ j. j) result (result_map judged (message_of tables.now octets.now)) }
+    ensures exact { Gives (λ j. j) result (result_map summary (message_of tables.now octets.now)) }
 {
     let sections = match find_sections(octets) {
         Ok(sections) => sections,
         Err(why) => return Err(Failure::Fault(why)),
     };
-    bring_to_front(alloc, tables, kept, sections.listed)?;
-    judge_in(alloc, &mut kept[0], octets, &sections)
+    make_octets_first(alloc, tables, kept, sections.listed)?;
+    check_in(alloc, &mut kept[0], octets, &sections)
 }
 
 /// Judges the message of octets with these sections.
 #[inline(always)]
-fn judge_in(
+fn check_in(
     alloc: Global,
-    kept: &mut Kept,
+    kept: &mut CachedTemplate,
     octets: &[u8],
     sections: &SectionsInPlace<'_>,
-) -> Result<Judged, Failure<Refused>>
+) -> Result<Summary, Failure<Refused>>
     requires list { kept.old.descriptors.value ≡ sections.now.descriptors }
     requires found { envelope_of octets.now ≡ Ok sections.now }
     ensures exact { Gives (λ j. j) result
-        (result_map judged (message_under kept.old.template sections.now)) }
+        (result_map summary (message_under kept.old.template sections.now)) }
     ensures same { kept.new ≡ kept.old }
 {
     data_hold_subsets();
@@ -339,25 +341,29 @@ fn judge_in(
     let passed = template.pass_alike(alloc, sections.compressed, &mut reader, count)?;
     if passed && are_few(kept.descriptors.as_slice(), sections.contents) {
         let left = reader.left();
-        return Ok(Judged {
+        return Ok(Summary {
             subsets: count as u64,
             slack_octets: (left / 8) as u64,
         });
     }
-    judge_by_index(alloc, kept, octets)
+    check_by_index(alloc, kept, octets)
 }
 
 /// Judges the message of octets by an index of its subsets.
 #[inline(never)]
-fn judge_by_index(alloc: Global, kept: &mut Kept, octets: &[u8]) -> Result<Judged, Failure<Refused>>
+fn check_by_index(
+    alloc: Global,
+    kept: &mut CachedTemplate,
+    octets: &[u8],
+) -> Result<Summary, Failure<Refused>>
     requires list { IfOk (envelope_of octets.now) (λ e. kept.old.descriptors.value ≡ e.descriptors) }
     ensures exact { Gives (λ j. j) result
-        (judged_under kept.old.template (envelope_of octets.now)) }
+        (summary_under kept.old.template (envelope_of octets.now)) }
     ensures same { kept.new ≡ kept.old }
 {
     let sections = read_sections(alloc, octets)?;
     let (subsets, slack_octets) = subsets_of(alloc, &[], kept, &sections)?;
-    Ok(Judged {
+    Ok(Summary {
         subsets: subsets.count() as u64,
         slack_octets,
     })
@@ -369,7 +375,7 @@ fn judge_by_index(alloc: Global, kept: &mut Kept, octets: &[u8]) -> Result<Judge
 pub(crate) fn view_in<'a>(
     alloc: Global,
     asked: &[u16],
-    kept: &mut Kept,
+    kept: &mut CachedTemplate,
     octets: &'a [u8],
     sections: Envelope<'a>,
 ) -> Result<View<'a>, Failure<Refused>>
@@ -396,7 +402,7 @@ pub(crate) fn view_in<'a>(
 fn subsets_of<'a>(
     alloc: Global,
     asked: &[u16],
-    kept: &mut Kept,
+    kept: &mut CachedTemplate,
     sections: &Envelope<'a>,
 ) -> Result<(SubsetIndex<'a>, u64), Failure<Refused>>
     requires { kept.old.descriptors.value ≡ descriptors_of sections.now.listed.now }

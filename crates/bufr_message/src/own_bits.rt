@@ -17,7 +17,7 @@ use bufr_base::{Failure, OutOfMemory};
 use bufr_bits::BitSink;
 use bufr_data::{Field, Raw};
 use bufr_fields::is_below;
-use bufr_sections::{Head, LentSections, spell_behind};
+use bufr_sections::{Head, LentSections, append_spelling};
 use bufr_tables::Fxy;
 use std::alloc::Global;
 
@@ -99,7 +99,7 @@ fn put_with_head(
         compressed: false,
         descriptors,
     };
-    match spell_behind(out, &sections, 1, contents) {
+    match append_spelling(out, &sections, 1, contents) {
         Ok(()) => Ok(true),
         Err(Failure::Fault(_)) => Ok(false),
         Err(Failure::OutOfMemory) => Err(OutOfMemory),

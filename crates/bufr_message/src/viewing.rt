@@ -5,8 +5,8 @@ ghost use Rattle.bufr_base.specs.Answers.{Gives};
 ghost use Rattle.bufr_sections.specs.declared.message.Message.{Message};
 ghost use Rattle.bufr_message.specs.Messages.{Spells, message_of};
 
+use crate::message_reader::MessageReader;
 use crate::message_view::View;
-use crate::templates::MessageReader;
 use bufr_base::Failure;
 use bufr_sections::Refused;
 use bufr_tables::Tables;

@@ -17,7 +17,7 @@ use crate::short_values::ShortValues;
 use crate::stations::station_of;
 use bufr_base::OutOfMemory;
 use bufr_data::{ChosenFields, Field, Fields, ShortNumber};
-use bufr_entries::{FrontHead, Key, Moment, PackedSlot};
+use bufr_entries::{Key, KeyHead, Moment, PackedSlot};
 use bufr_message::{ReportHead, View};
 use std::alloc::Global;
 
@@ -259,7 +259,7 @@ fn slot_of_wmo(
     let Some(moment) = moment else {
         return PackedSlot::new(alloc, None, head.update);
     };
-    let front = FrontHead {
+    let front = KeyHead {
         centre: head.centre,
         category: head.category,
         international: head.international,

@@ -1,4 +1,4 @@
--- Octets put after others, piece by piece: for `spell_behind` and its parts.
+-- Octets put after others, piece by piece: for `append_spelling` and its parts.
 use Rattle.std.proofs.Common.{◌≡◌, ℕ, ◌≤◌, true, false, Option, Some, None, List, [], ◌∷◌, ◌++◌, ◌+◌, codes}
 use Rattle.std.proofs.Common.{length, take, drop, Result, Ok, Err, refl, sym, ap, ◌∙◌, arith, length-append}
 use Rattle.std.specs.Prelude.{◌==◌, OnOk, OnErr, is_ok, is_some, if◌then◌else◌}

@@ -25,4 +25,4 @@ pub use lent_sections::LentSections;
 pub use listed::{are_listed, descriptors_of};
 pub use message::{Decoded, Head, Message};
 pub use sections::{find_sections, read_sections};
-pub use spelling::{LONGEST, MOST_SUBSETS, spell, spell_behind};
+pub use spelling::{LONGEST, MOST_SUBSETS, append_spelling, spell};

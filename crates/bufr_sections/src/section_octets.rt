@@ -109,7 +109,7 @@ pub(crate) fn fixed_octets(sections: &LentSections<'_>, count: u16, total: u64) 
 }
 
 /// Adds all octets before the descriptors.
-pub(crate) fn push_front(
+pub(crate) fn push_before_descriptors(
     out: &mut Vec<u8>,
     sections: &LentSections<'_>,
     fixed: &[u8; 37],

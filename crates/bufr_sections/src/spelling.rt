@@ -7,7 +7,9 @@ ghost use Rattle.bufr_sections.specs.SectionsRead.{envelope_lent};
 ghost use Rattle.bufr_sections.specs.Spelt.{bare, spelt_or};
 
 use crate::lent_sections::LentSections;
-use crate::section_octets::{fixed_octets, push_descriptors, push_front, push_section};
+use crate::section_octets::{
+    fixed_octets, push_before_descriptors, push_descriptors, push_section,
+};
 use bufr_base::{Failure, Items, OutOfMemory};
 use bufr_fields::MisfitFault;
 use std::alloc::Global;
@@ -52,13 +54,13 @@ pub fn spell(
         (spelt_or (envelope_lent sections.now count contents.now)) }
 {
     let mut out = Vec::new(alloc);
-    spell_behind(&mut out, sections, count, contents)?;
+    append_spelling(&mut out, sections, count, contents)?;
     Ok(out)
 }
 
 /// Adds the octets that `spell` returns, with its faults.
 #[tactic(auto, unfolding(crate::specs::Spelt::spelt_or))]
-pub fn spell_behind(
+pub fn append_spelling(
     out: &mut Vec<u8>,
     sections: &LentSections<'_>,
     count: usize,
@@ -96,7 +98,7 @@ fn push_sections(
     ensures kept { OnErr result (take (length out.old.items) out.new.items ≡ out.old.items) }
 {
     let fixed = fixed_octets(sections, count, total);
-    push_front(out, sections, &fixed)?;
+    push_before_descriptors(out, sections, &fixed)?;
     push_descriptors(out, sections.descriptors)?;
     push_section(out, contents)?;
     out.extend_from_slice(b"7777")

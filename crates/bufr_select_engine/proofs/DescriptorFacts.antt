@@ -15,7 +15,7 @@ use Rattle.bufr_expand.specs.Limits.{most_replication_levels, most_sequence_leve
 use Rattle.bufr_expand.specs.OperatorsInForce.{factor_spec, in_force_after, none_in_force}
 use Rattle.bufr_expand.specs.Trees as trees
 use Rattle.bufr_expand.specs.Unrolling as unrolling
-use Rattle.bufr_expand.specs.Unrolling.{FieldThen, FirstThen, ItemThen, Told, Turns, TurnsThen, Unroll}
+use Rattle.bufr_expand.specs.Unrolling.{FieldThen, FirstThen, ItemThen, NumberedField, Turns, TurnsThen, Unroll}
 use Rattle.bufr_expand.specs.Unrolling.{Unrolled, UnrollsTo}
 use Rattle.bufr_fields.specs.declared.field.Field.{Field}
 use Rattle.bufr_fields.specs.declared.field.Subset.{Subset}
@@ -30,7 +30,7 @@ use Rattle.bufr_message.specs.declared.Refused.{Refused}
 use Rattle.bufr_select_rows.specs.ListedCells.{LinesDetermineRows}
 use Rattle.bufr_select_rows.specs.Pairs.{first_reading, message_by, message_said, message_under}
 use Rattle.bufr_select_rows.specs.Pairs.{or_refused, version_said}
-use Rattle.bufr_select_rows.specs.declared.pairs.Pair.{Pair}
+use Rattle.bufr_select_rows.specs.declared.pairs.VersionTables.{VersionTables}
 use Rattle.bufr_select_rows.specs.declared.pairs.Unread.{Unread}
 use Rattle.bufr_select_engine.specs.Listed.{HasDescriptors, ListingsOfFramesDetermineRows}
 use Rattle.bufr_select_engine.specs.Selected.{message_rows, rows_as}
@@ -88,7 +88,7 @@ in_tree tables s r list t (delayed_first {replications = below} {factor} {inner}
 
 -- ---- unrollings
 
-abbrev AllAre : List Told → Type 0
+abbrev AllAre : List NumberedField → Type 0
 AllAre fields = AllByRecursion (λ f. IsDescriptor f.fxy) fields
 
 -- a part has such fields alone
@@ -113,7 +113,7 @@ of_field d Has Rest before all is rest h =
 of_first : (First Rest : UnrollsTo) → HasAll First → HasAll Rest → HasAll (FirstThen First Rest)
 of_first First Rest first rest before all h =
     subst (λ (u : Unrolled). AllAre u.fields) (sym h.in_order)
-    (both (λ (f : Told). IsDescriptor f.fxy) h.first.fields h.others.fields
+    (both (λ (f : NumberedField). IsDescriptor f.fxy) h.first.fields h.others.fields
     (first before h.first h.is_first) (rest h.first.operators h.others h.rest))
 
 of_turns : (times : ℕ) (Body : UnrollsTo) → HasAll Body → HasAll (Turns times Body)
@@ -198,19 +198,19 @@ not_refused : (read : Result Decoded Refused) (d : Decoded) → or_refused read 
 not_refused (Ok found) d h = ap Ok (ok_is found d h)
 not_refused (Err why) d h = absurd cc
 
-by_pair : (pair : Option Pair) (version : ℕ) (octets : List ℕ) (d : Decoded)
+by_pair : (pair : Option VersionTables) (version : ℕ) (octets : List ℕ) (d : Decoded)
     → message_by pair version octets ≡ Ok d → ReadUnder octets d
 by_pair (Some pair) version octets d h =
     (pair.reader, not_refused (message_of pair.reader octets) d h)
 by_pair None version octets d h = absurd cc
 
-by_version : (pairs : List Pair) (octets : List ℕ) (version : Result ℕ Unread) (d : Decoded)
+by_version : (pairs : List VersionTables) (octets : List ℕ) (version : Result ℕ Unread) (d : Decoded)
     → message_said pairs octets version ≡ Ok d → ReadUnder octets d
 by_version pairs octets (Ok version) d h =
     by_pair (first_reading version pairs) version octets d h
 by_version pairs octets (Err why) d h = absurd cc
 
-by_pairs : (pairs : List Pair) (octets : List ℕ) (d : Decoded) → message_under pairs octets ≡ Ok d
+by_pairs : (pairs : List VersionTables) (octets : List ℕ) (d : Decoded) → message_under pairs octets ≡ Ok d
     → ReadUnder octets d
 unfolding message_under
 by_pairs pairs octets d h = by_version pairs octets (version_said (envelope_of octets)) d h

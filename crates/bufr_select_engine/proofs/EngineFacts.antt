@@ -349,20 +349,20 @@ bounded_next reads news news' i r' all is here =
 -- it could not be read on
 reading_ends : (s : Selection) (reads : ℕ) (Ends : Reading → Type 0)
     (olds news news' : List Reading) (begin mid now : Writings) (p q p' : Selector) (tally : Tally)
-    (i : ℕ) (r r' : Reading) (source : Input) (read : List ℕ)
+    (i : ℕ) (r r' : Reading) (name : Input) (read : List ℕ)
     → (t : SelectedThrough s reads olds news begin mid p tally i)
     → Reached olds news t.streams i r → news' ≡ set news i r' → q ≡ begun p i
-    → source ≡ Number q.input → Ends r' → HasGiven r r' read
+    → name ≡ Number q.input → Ends r' → HasGiven r r' read
     → HasSelectedFrames q p' (sure read) mid now
-    → EndsSelecting s Ends source olds news' begin now
-reading_ends s reads Ends olds news news' begin mid now p q p' tally i r r' source read t at is begins
-    source_is ends given frames =
+    → EndsSelecting s Ends name olds news' begin now
+reading_ends s reads Ends olds news news' begin mid now p q p' tally i r r' name read t at is begins
+    name_is ends given frames =
     let numbers = begun_is s reads olds news begin mid p q tally i t begins in
     let put = frames.rows begin.rows (selected s t.streams)
     (put_before s reads olds news begin mid p q tally i t begins) in
     let told = frames.told begin.refusals (refusals s t.streams)
     (told_before s reads olds news begin mid p q tally i t begins) in
-    subst (λ x. EndsSelecting s Ends x olds news' begin now) (sym source_is) (
+    subst (λ x. EndsSelecting s Ends x olds news' begin now) (sym name_is) (
       t.streams,
       read,
       numbers.1,
@@ -383,13 +383,13 @@ pub through_stops : (s : Selection) (reads : ℕ) (olds news news' : List Readin
     → Reached olds news t.streams i r → news' ≡ set news i r'
     → q ≡ begun p i → SelectsInput reads q p' r r' mid now (Err e)
     → Selects s reads olds news' begin now (Err e)
-through_stops s reads olds news news' begin mid now p q p' tally i r r' (faults.ReadFailed source) t at
+through_stops s reads olds news news' begin mid now p q p' tally i r r' (faults.ReadFailed name) t at
     is begins x =
-    reading_ends s reads HasFailed olds news news' begin mid now p q p' tally i r r' source x.2 t at is
+    reading_ends s reads HasFailed olds news news' begin mid now p q p' tally i r r' name x.2 t at is
     begins x.0 x.1 x.3 x.4
-through_stops s reads olds news news' begin mid now p q p' tally i r r' (faults.EndlessInput source) t
+through_stops s reads olds news news' begin mid now p q p' tally i r r' (faults.EndlessInput name) t
     at is begins x =
-    reading_ends s reads (IsEndless reads) olds news news' begin mid now p q p' tally i r r' source x.2
+    reading_ends s reads (IsEndless reads) olds news news' begin mid now p q p' tally i r r' name x.2
     t at is begins x.0 x.1 x.3 x.4
 through_stops s reads olds news news' begin mid now p q p' tally i r r' (faults.WriteFailed written) t
     at is begins x =

@@ -24,8 +24,8 @@ use Rattle.bufr_select_rows.specs.MessageRows.{subsets_rows}
 use Rattle.bufr_select_rows.specs.Rows.{Origin, before_each, cell_text, row, rows, spans, told_number}
 use Rattle.bufr_select_rows.specs.declared.column.Column.{Column}
 use Rattle.bufr_select_rows.specs.declared.column.Column.TheVariants as columns
-use Rattle.bufr_select_rows.specs.declared.told.Told.{Told}
-use Rattle.bufr_select_rows.specs.declared.told.Told.TheVariants as told
+use Rattle.bufr_select_rows.specs.declared.fact.Fact.{Fact}
+use Rattle.bufr_select_rows.specs.declared.fact.Fact.TheVariants as told
 use Rattle.bufr_select_engine.specs.Listed.{ListingsDetermineRows}
 use Rattle.bufr_select_engine.specs.Selected.{from_message}
 use Rattle.bufr_select_engine.proofs.PlainLines.{Lacks, decimal_digits, lines_in, lines_listed, literal}
@@ -216,11 +216,11 @@ alike_if m n same =
 
 -- facts with the same numbers
 abbrev TellAlike : Origin → Origin → Type 0
-TellAlike o p = (fact : Told) → decimal (told_number fact o) ≡ decimal (told_number fact p)
+TellAlike o p = (fact : Fact) → decimal (told_number fact o) ≡ decimal (told_number fact p)
 
 cell_alike : (o p : Origin) → TellAlike o p → (before span : List Field) (column : Column)
     → cell_text o before span column ≡ cell_text p before span column
-cell_alike o p same before span (columns.Told fact) = same fact
+cell_alike o p same before span (columns.Fact fact) = same fact
 cell_alike o p same before span (columns.First d) = refl
 cell_alike o p same before span (columns.Nth d n) = refl
 

@@ -24,7 +24,7 @@ use Rattle.bufr_listing.specs.Listings.{descriptors_line, end_line, field_line, 
 use Rattle.bufr_listing.specs.Listings.{heading_lines, joined, lines_of, listing, local_lines}
 use Rattle.bufr_listing.specs.Listings.{number_word, numbers_line, octets_line, quoted_octet}
 use Rattle.bufr_listing.specs.Listings.{raw_word, section1_numbers, section2_lines}
-use Rattle.bufr_listing.specs.Listings.{stands_for_itself, subset_lines, time_numbers, value_word}
+use Rattle.bufr_listing.specs.Listings.{is_literal, subset_lines, time_numbers, value_word}
 use Rattle.bufr_listing.specs.Listings.{words}
 
 -- ---- octets without a line feed
@@ -171,10 +171,10 @@ number_plain : (said : Option Decimal) → IsPlain (number_word said)
 number_plain None = tt
 number_plain (Some d) = decimal_text_plain d.units d.scale
 
-itself_plain : (c : ℕ) → stands_for_itself c ≡ true → (c == 10) ≡ false
+itself_plain : (c : ℕ) → is_literal c ≡ true → (c == 10) ≡ false
 itself_plain c is = grind (arith, nat_tests)
 
-octet_plain : (is : Bool) (c : ℕ) → stands_for_itself c ≡ is
+octet_plain : (is : Bool) (c : ℕ) → is_literal c ≡ is
     → IsPlain (if is then c ∷ [] else 92 ∷ encode_lower (c ∷ []))
 octet_plain true c is = (itself_plain c is, tt)
 octet_plain false c is = (refl, hex_plain (c ∷ []))
@@ -182,7 +182,7 @@ octet_plain false c is = (refl, hex_plain (c ∷ []))
 octets_plain : (text : List ℕ) → IsPlain (flat_map quoted_octet text)
 octets_plain [] = tt
 octets_plain (c ∷ text) =
-    joins (quoted_octet c) _ (octet_plain (stands_for_itself c) c refl) (octets_plain text)
+    joins (quoted_octet c) _ (octet_plain (is_literal c) c refl) (octets_plain text)
 
 value_plain : (is : Bool) (f : Field) (raw : Raw)
     → IsPlain (if is then codes "missing" else raw_word f raw)

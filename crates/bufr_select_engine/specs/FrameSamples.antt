@@ -7,10 +7,10 @@ use Rattle.bufr_message.specs.ReportSamples.{temperature4}
 use Rattle.bufr_sections.specs.Samples.{head4, hex}
 use Rattle.bufr_select_rows.specs.declared.column.Column.{Column}
 use Rattle.bufr_select_engine.specs.Selected.{Selection}
-use Rattle.bufr_select_rows.specs.declared.pairs.Pair.{Pair}
+use Rattle.bufr_select_rows.specs.declared.pairs.VersionTables.{VersionTables}
 
 -- a pair of tables without rows, for versions up to this one
-abbrev pub pair_to : Option ℕ → Pair
+abbrev pub pair_to : Option ℕ → VersionTables
 pair_to greatest =
     record { greatest = greatest; reader = record { elements = []; sequences = [] } }
 

@@ -12,12 +12,12 @@ use Rattle.bufr_select_rows.specs.declared.column.Column.{Column}
 use Rattle.bufr_select_rows.specs.MessageRows.{subsets_rows}
 use Rattle.bufr_select_rows.specs.Rows.{Origin, header}
 use Rattle.bufr_select_rows.specs.Pairs.{message_under, unread_reason}
-use Rattle.bufr_select_rows.specs.declared.pairs.Pair.{Pair}
+use Rattle.bufr_select_rows.specs.declared.pairs.VersionTables.{VersionTables}
 use Rattle.bufr_select_rows.specs.declared.pairs.Unread.{Unread}
 
 -- what is selected: the pairs of tables, the columns, and the descriptor whose fields have a row each
 pub record Selection : Type 0 where
-  pub pairs : List Pair
+  pub pairs : List VersionTables
   pub columns : List Column
   pub each : Option ℕ
 

@@ -141,11 +141,11 @@ abbrev pub SelectsInput : ℕ → Selector → Selector → Reading → Reading 
 SelectsInput reads p p' reader reader' w w' (Ok done) =
     WasReadOut reader' × (stream : List ℕ) × AreAllOf reader stream
     × HasSelectedAll p p' stream w w'
-SelectsInput reads p p' reader reader' w w' (Err (faults.ReadFailed source)) =
-    (source ≡ Number p.input) × HasFailed reader' × (read : List ℕ) × HasGiven reader reader' read
+SelectsInput reads p p' reader reader' w w' (Err (faults.ReadFailed name)) =
+    (name ≡ Number p.input) × HasFailed reader' × (read : List ℕ) × HasGiven reader reader' read
     × HasSelectedFrames p p' (sure read) w w'
-SelectsInput reads p p' reader reader' w w' (Err (faults.EndlessInput source)) =
-    (source ≡ Number p.input) × IsEndless reads reader' × (read : List ℕ)
+SelectsInput reads p p' reader reader' w w' (Err (faults.EndlessInput name)) =
+    (name ≡ Number p.input) × IsEndless reads reader' × (read : List ℕ)
     × HasGiven reader reader' read × HasSelectedFrames p p' (sure read) w w'
 SelectsInput reads p p' reader reader' w w' (Err fault) =
     (frames : List Found) × GivesFrames reader reader' frames

@@ -63,10 +63,10 @@ Selects s reads readers readers' w w' (Ok tally) =
     × WritesAll w.rows w'.rows (selected s streams)
     × Takes w.refusals w'.refusals (refusals s streams)
     × (tally ≡ counted s streams)
-Selects s reads readers readers' w w' (Err (faults.ReadFailed source)) =
-    EndsSelecting s HasFailed source readers readers' w w'
-Selects s reads readers readers' w w' (Err (faults.EndlessInput source)) =
-    EndsSelecting s (IsEndless reads) source readers readers' w w'
+Selects s reads readers readers' w w' (Err (faults.ReadFailed name)) =
+    EndsSelecting s HasFailed name readers readers' w w'
+Selects s reads readers readers' w w' (Err (faults.EndlessInput name)) =
+    EndsSelecting s (IsEndless reads) name readers readers' w w'
 Selects s reads readers readers' w w' (Err (faults.WriteFailed written)) =
     (streams : List (List ℕ)) × (frames : List Found) × HasReached readers readers' streams frames
     × FailsAfter written w.rows w'.rows (selected_to s streams frames)

@@ -11,7 +11,7 @@ use bufr_base::OutOfMemory;
 use bufr_bits::{IntoWrite, Source};
 use bufr_io::{MOST_READS, Tally, ToolFault, files_of, inputs_of, load_tables};
 use bufr_program::{explain, say, say_unopened, status_of, tell, words_or_help};
-use bufr_select_rows::{Asked, Pair};
+use bufr_select_rows::{ColumnDescriptors, VersionTables};
 use bufr_tables::Tables;
 use std::alloc::Global;
 use std::io::Write;
@@ -90,7 +90,7 @@ fn select_files<S: Source, O: Write + Drop, E: Write + Drop>(
     requires fresh_inputs { AreFresh (map S.reading inputs.old) }
 {
     let tables = all_tables(alloc, b, d)?;
-    let asked = Asked::of(alloc, &selection.columns, selection.each)?;
+    let asked = ColumnDescriptors::of(alloc, &selection.columns, selection.each)?;
     let pairs = pairs_of(alloc, &selection.versions, &tables, asked.listed())?;
     let mut outputs = Outputs {
         rows: IntoWrite::new(&mut *out),
@@ -134,10 +134,10 @@ fn pairs_of<'t>(
     versions: &[Option<u8>],
     tables: &'t [Tables],
     asked: &'t [u16],
-) -> Result<Vec<Pair<'t>>, OutOfMemory> {
+) -> Result<Vec<VersionTables<'t>>, OutOfMemory> {
     let mut pairs = Vec::new(alloc);
     for (greatest, here) in versions.iter().zip(tables.iter()) {
-        pairs.push(Pair::for_elements(alloc, *greatest, here, asked))?;
+        pairs.push(VersionTables::for_elements(alloc, *greatest, here, asked))?;
     }
     Ok(pairs)
 }

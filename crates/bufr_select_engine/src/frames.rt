@@ -55,14 +55,14 @@ pub(crate) fn select_input<S: Source, W: Sink, E: Sink>(
     alloc: Global,
     reads: u64,
     reader: &mut S,
-    room: &mut [u8],
+    buffer: &mut [u8],
     selector: &mut Selector<'_, '_>,
     out: &mut Outputs<W, E>,
 ) -> Result<(), ToolFault>
     requires few { reads ≤ most_reads }
     requires fresh { IsFresh (S.reading reader.old) }
-    requires some { 0 < length room.old }
-    requires short { length room.old ≤ longest_piece }
+    requires some { 0 < length buffer.old }
+    requires short { length buffer.old ≤ longest_piece }
     requires frames { selector.old.frames ≡ 0 }
     requires refused { selector.old.refused ≡ 0 }
     requires none { selector.old.rows.held.items ≡ [] }
@@ -81,7 +81,7 @@ pub(crate) fn select_input<S: Source, W: Sink, E: Sink>(
           refusals = E.writing out.new.refusals;
         }) result }
 {
-    let source = Input::Number(selector.input);
-    take_stream(alloc, reads, source, reader, room, selector, out)?;
+    let name = Input::Number(selector.input);
+    take_stream(alloc, reads, name, reader, buffer, selector, out)?;
     selector.rows.write(&mut out.rows)
 }

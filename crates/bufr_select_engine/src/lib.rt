@@ -13,7 +13,7 @@ mod worked_frames;
 mod worked_lines;
 
 pub use bufr_program::words_of;
-pub use bufr_select_rows::{Column, ColumnsFault, Pair, Told, Unread, columns_of};
+pub use bufr_select_rows::{Column, ColumnsFault, Fact, Unread, VersionTables, columns_of};
 pub use command::run_command;
 pub use command_line::{CommandLine, line};
 pub use outputs::Outputs;

@@ -10,8 +10,8 @@ use crate::frames::select_input;
 use crate::outputs::Outputs;
 use crate::selector::Selector;
 use bufr_bits::{Sink, Source};
-use bufr_io::{Tally, ToolFault, room};
-use bufr_select_rows::{Column, Pair};
+use bufr_io::{Tally, ToolFault, read_buffer};
+use bufr_select_rows::{Column, VersionTables};
 use bufr_tables::Fxy;
 use std::alloc::Global;
 
@@ -21,7 +21,7 @@ use std::alloc::Global;
 pub fn run_select<S: Source, W: Sink, E: Sink>(
     alloc: Global,
     reads: u64,
-    pairs: Vec<Pair<'_>>,
+    pairs: Vec<VersionTables<'_>>,
     columns: &[Column],
     each: Option<Fxy>,
     inputs: &mut [S],
@@ -45,9 +45,9 @@ pub fn run_select<S: Source, W: Sink, E: Sink>(
         (record { pairs = pairs.entry.items; columns = columns.now; each = each })
         (map S.reading inputs.old) (W.writing out.old.rows) (W.writing out.new.rows)) }
 {
-    let mut room = room(alloc)?;
+    let mut buffer = read_buffer(alloc)?;
     let mut selector = Selector::new(alloc, pairs, columns, each)?;
-    let tally = select_inputs(alloc, reads, inputs, &mut room, &mut selector, out)?;
+    let tally = select_inputs(alloc, reads, inputs, &mut buffer, &mut selector, out)?;
     selector.hand_on(&mut out.rows)?;
     Ok(tally)
 }
@@ -57,14 +57,14 @@ fn select_inputs<S: Source, W: Sink, E: Sink>(
     alloc: Global,
     reads: u64,
     inputs: &mut [S],
-    room: &mut [u8],
+    buffer: &mut [u8],
     selector: &mut Selector<'_, '_>,
     out: &mut Outputs<W, E>,
 ) -> Result<Tally, ToolFault>
     requires few { reads ≤ most_reads }
     requires fresh { AreFresh (map S.reading inputs.old) }
-    requires some { 0 < length room.old }
-    requires short { length room.old ≤ longest_piece }
+    requires some { 0 < length buffer.old }
+    requires short { length buffer.old ≤ longest_piece }
     requires rows_work { (W.writing out.old.rows).failed ≡ false }
     requires refusals_work { (E.writing out.old.refusals).failed ≡ false }
     requires none { selector.old.rows.held.items ≡ [] }
@@ -90,7 +90,7 @@ fn select_inputs<S: Source, W: Sink, E: Sink>(
     };
     for (index, reader) in inputs.iter_mut().enumerate() {
         selector.begin(index as u128 + 1);
-        select_input(alloc, reads, reader, &mut *room, selector, out)?;
+        select_input(alloc, reads, reader, &mut *buffer, selector, out)?;
         tally.frames += selector.frames;
         tally.refused += selector.refused;
     }

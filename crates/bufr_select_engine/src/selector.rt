@@ -18,7 +18,7 @@ use bufr_bits::Sink;
 use bufr_io::{HeldRows, ToolFault, write_out};
 use bufr_message::View;
 use bufr_select_rows::{
-    Column, Origin, Pair, Picker, Unread, push_header, put_message, view_under,
+    Column, Origin, Picker, Unread, VersionTables, push_header, put_message, view_under,
 };
 use bufr_tables::Fxy;
 use std::alloc::Global;
@@ -32,7 +32,7 @@ fn line_of(alloc: Global, input: u128, place: u64, why: &Unread) -> Result<Strin
 
 #[derive(Drop)]
 pub(crate) struct Selector<'t, 'c> {
-    pub(crate) pairs: Vec<Pair<'t>>,
+    pub(crate) pairs: Vec<VersionTables<'t>>,
     pub(crate) columns: &'c [Column],
     pub(crate) picker: Picker,
     pub(crate) rows: HeldRows,
@@ -50,7 +50,7 @@ impl<'t, 'c> Selector<'t, 'c> {
     /// Makes a selector before the first input.
     pub(crate) fn new(
         alloc: Global,
-        pairs: Vec<Pair<'t>>,
+        pairs: Vec<VersionTables<'t>>,
         columns: &'c [Column],
         each: Option<Fxy>,
     ) -> Result<Selector<'t, 'c>, OutOfMemory>

@@ -3,9 +3,9 @@
 ghost use Rattle.std.specs.Prelude.{◌≡◌, ◌∷◌, ◌++◌, [], codes, false, true, None, Some, Err};
 ghost use Rattle.bufr_message.specs.declared.Refused.TheVariants.{Edition};
 ghost use Rattle.bufr_select_rows.specs.Samples.{block, line_of, numbered, temperature};
-ghost use Rattle.bufr_select_rows.specs.declared.column.Column.TheVariants.{First, Told};
-ghost use Rattle.bufr_select_rows.specs.declared.told.Told.TheVariants.{Centre, Compressed, Input};
-ghost use Rattle.bufr_select_rows.specs.declared.told.Told.TheVariants.{Message, Observed, Place, Subset};
+ghost use Rattle.bufr_select_rows.specs.declared.column.Column.TheVariants.{First, Fact};
+ghost use Rattle.bufr_select_rows.specs.declared.fact.Fact.TheVariants.{Centre, Compressed, Input};
+ghost use Rattle.bufr_select_rows.specs.declared.fact.Fact.TheVariants.{Message, Observed, Place, Subset};
 ghost use Rattle.bufr_select_engine.specs.FrameSamples.{chosen, message_with, pair_to, read};
 ghost use Rattle.bufr_select_engine.specs.FrameSamples.{read_streams, refused_streams};
 ghost use Rattle.bufr_select_rows.specs.Pairs.{first_reading, message_of_version, reads_version};
@@ -40,11 +40,11 @@ pub fn lines_of_refused_frames()
 /// States the rows of two subsets, of the seventh frame of the third input.
 #[tactic(auto, unfolding(crate::proofs::OnLiterals::frames_on_literals))]
 pub fn rows_of_messages()
-    ensures facts { message_rows (chosen (Told Input ∷ Told Message ∷ Told Place ∷ Told Subset
-        ∷ Told Centre ∷ Told Observed ∷ Told Compressed ∷ First block ∷ []) None) 3 7 1840
+    ensures facts { message_rows (chosen (Fact Input ∷ Fact Message ∷ Fact Place ∷ Fact Subset
+        ∷ Fact Centre ∷ Fact Observed ∷ Fact Compressed ∷ First block ∷ []) None) 3 7 1840
         (message_with (numbered block 6 ∷ []) (numbered block 8 ∷ []))
         ≡ line_of (codes "3,7,1840,1,258,1,0,6") ++ line_of (codes "3,7,1840,2,258,1,0,8") }
-    ensures spans { message_rows (chosen (Told Subset ∷ First block ∷ First temperature ∷ [])
+    ensures spans { message_rows (chosen (Fact Subset ∷ First block ∷ First temperature ∷ [])
         (Some temperature)) 3 7 1840
         (message_with (numbered block 6 ∷ []) (numbered block 8 ∷ numbered temperature 11
         ∷ numbered block 9 ∷ numbered temperature 12 ∷ []))
@@ -54,7 +54,7 @@ pub fn rows_of_messages()
 /// States what is printed, told and counted of frames.
 #[tactic(auto, unfolding(crate::proofs::OnLiterals::frames_on_literals))]
 pub fn frames_of_inputs()
-    ensures printed { selected (read (Told Input ∷ Told Message ∷ Told Place ∷ First temperature
+    ensures printed { selected (read (Fact Input ∷ Fact Message ∷ Fact Place ∷ First temperature
         ∷ [])) read_streams
         ≡ line_of (codes "input,message,place,012101") ++ line_of (codes "3,2,12,273.15") }
     ensures told { refusals (chosen [] None) refused_streams

@@ -38,7 +38,7 @@ same_number d = grind (arith, nat_tests)
 
 pub column_marked : (index : ℕ) (column : Column) (old new : List ℕ)
     → MarksColumn index column old new → CoversColumn (flagged new) column
-column_marked index (columns.Told fact) old new marks = tt
+column_marked index (columns.Fact fact) old new marks = tt
 column_marked index (columns.First d) old new marks =
     ap (λ (n : ℕ). not (n == 0))
     (marks d ∙ ap (λ b. if b then mark_after index (get_or old d 0) else get_or old d 0)
@@ -55,7 +55,7 @@ column_marked index (columns.Nth d n) old new marks =
 -- marks that stay cover a column still
 column_kept : (old new : List ℕ) → ((d : ℕ) → flagged old d ≡ true → flagged new d ≡ true)
     → (column : Column) → CoversColumn (flagged old) column → CoversColumn (flagged new) column
-column_kept old new kept (columns.Told fact) covers = tt
+column_kept old new kept (columns.Fact fact) covers = tt
 column_kept old new kept (columns.First d) covers = kept d covers
 column_kept old new kept (columns.Nth d n) covers = kept d covers
 

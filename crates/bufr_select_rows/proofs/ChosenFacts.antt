@@ -67,7 +67,7 @@ lists_all marks list n all lists d marked =
 
 column_listed : (marks list : List ℕ) → ListsAll marks list → (c : Column)
     → CoversColumn (flagged marks) c → CoversColumn (is_listed list) c
-column_listed marks list lists (columns.Told fact) covers = tt
+column_listed marks list lists (columns.Fact fact) covers = tt
 column_listed marks list lists (columns.First d) covers = lists d covers
 column_listed marks list lists (columns.Nth d n) covers = lists d covers
 

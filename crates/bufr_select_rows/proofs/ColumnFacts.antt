@@ -15,15 +15,15 @@ use Rattle.bufr_select_rows.specs.Columns.{IsColumn, IsNoColumn, IsNoToldWord, R
 use Rattle.bufr_select_rows.specs.Columns.{told_word, word, words_of}
 use Rattle.bufr_select_rows.specs.ColumnSteps.{AddsColumn}
 use Rattle.bufr_select_rows.specs.declared.column.Column.{Column}
-use Rattle.bufr_select_rows.specs.declared.told.Told.{Told}
-use Rattle.bufr_select_rows.specs.declared.told.Told.TheVariants as facts
+use Rattle.bufr_select_rows.specs.declared.fact.Fact.{Fact}
+use Rattle.bufr_select_rows.specs.declared.fact.Fact.TheVariants as facts
 use Rattle.bufr_select_rows.specs.declared.columns.ColumnsFault.{ColumnsFault}
 use Rattle.bufr_select_rows.specs.declared.columns.ColumnsFault.TheVariants as faults
 
 -- ---- all facts
 
 -- a fact is one of all
-pub among_all : (fact : Told) → (k : ℕ) × (k < length all_told) × (get_or all_told k facts.Input ≡ fact)
+pub among_all : (fact : Fact) → (k : ℕ) × (k < length all_told) × (get_or all_told k facts.Input ≡ fact)
 unfolding all_told
 among_all facts.Input = (0, lit< tt, refl)
 among_all facts.Message = (1, lit< tt, refl)
@@ -47,7 +47,7 @@ among_all facts.Observed = (18, lit< tt, refl)
 among_all facts.Compressed = (19, lit< tt, refl)
 
 -- what is the word of none of all facts is no fact's
-pub none_of_all : (text : List ℕ) (all : List Told) (i : ℕ) → all ≡ all_told → length all ≤ i
+pub none_of_all : (text : List ℕ) (all : List Fact) (i : ℕ) → all ≡ all_told → length all ≤ i
     → ((k : ℕ) → k < i → told_word (get_or all k facts.Input) ≢ text) → IsNoToldWord text
 none_of_all text all i is ends none fact =
     let at = among_all fact in

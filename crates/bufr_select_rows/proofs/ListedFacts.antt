@@ -21,7 +21,7 @@ use Rattle.bufr_fields.specs.declared.field.Field.{Field}
 use Rattle.bufr_fields.specs.declared.field.Raw.{Raw}
 use Rattle.bufr_fields.specs.declared.field.Raw.TheVariants.{Number, Text}
 use Rattle.bufr_listing.specs.Listings.{field_line, number_word, quoted, quoted_octet, raw_word}
-use Rattle.bufr_listing.specs.Listings.{stands_for_itself}
+use Rattle.bufr_listing.specs.Listings.{is_literal}
 use Rattle.bufr_select_rows.specs.ListedCells.{FactsAreListed, LinesHaveDescriptors, ValuesAreListed}
 use Rattle.bufr_select_rows.specs.ListedCells.{between_quotes, cell_of_word, digits_in, spellings}
 use Rattle.bufr_select_rows.specs.ListedCells.{spells_padding, with_bare_quote, without_padding}
@@ -85,14 +85,14 @@ two_digit (suc (suc (suc (suc (suc (suc (suc (suc (suc (suc (suc (suc (suc (suc 
 -- ---- the spelling of an octet
 
 -- an octet that is spelt as itself is no backslash, and is shown as itself
-no_backslash : (c : ℕ) → stands_for_itself c ≡ true → (c == 92) ≡ false
+no_backslash : (c : ℕ) → is_literal c ≡ true → (c == 92) ≡ false
 no_backslash c is = grind (arith, nat_tests)
 
-shown_itself : (c : ℕ) → stands_for_itself c ≡ true → is_shown_as_itself c ≡ true
+shown_itself : (c : ℕ) → is_literal c ≡ true → is_shown_as_itself c ≡ true
 shown_itself c is = grind (arith, nat_tests)
 
 -- another one is shown as itself if it is a quote
-shown_quote : (c : ℕ) → stands_for_itself c ≡ false → is_shown_as_itself c ≡ (c == 34)
+shown_quote : (c : ℕ) → is_literal c ≡ false → is_shown_as_itself c ≡ (c == 34)
 shown_quote c other = grind (arith, nat_tests)
 
 -- the spelling of an octet by a test
@@ -107,7 +107,7 @@ character_first c (a ∷ []) other = refl
 character_first c (a ∷ b ∷ text) other = rw other refl
 
 -- either
-spelling_first : (is : Bool) (c : ℕ) (text : List ℕ) → stands_for_itself c ≡ is
+spelling_first : (is : Bool) (c : ℕ) (text : List ℕ) → is_literal c ≡ is
     → spellings (spelt is c ++ text) ≡ spelt is c ∷ spellings text
 unfolding encode_with
 spelling_first true c text is = character_first c text (no_backslash c is)
@@ -118,21 +118,21 @@ spellings_of : (octets : List ℕ)
     → spellings (flat_map quoted_octet octets) ≡ map quoted_octet octets
 spellings_of [] = refl
 spellings_of (c ∷ octets) =
-    spelling_first (stands_for_itself c) c (flat_map quoted_octet octets) refl
+    spelling_first (is_literal c) c (flat_map quoted_octet octets) refl
     ∙ ap (λ ss. quoted_octet c ∷ ss) (spellings_of octets)
 
 -- ---- padding
 
 -- octets that pad a text, by their characters
-itself_pads : (c : ℕ) → stands_for_itself c ≡ true
+itself_pads : (c : ℕ) → is_literal c ≡ true
     → ((c == 32) && true || (c == 92) && false) ≡ is_padding c
 itself_pads c is = grind (arith, nat_tests)
 
-digits_pad : (c : ℕ) → stands_for_itself c ≡ false
+digits_pad : (c : ℕ) → is_literal c ≡ false
     → ((c / 16 == 0) && ((c % 16 == 0) && true)) ≡ is_padding c
 digits_pad c other = grind (arith, nat_tests)
 
-spelling_pads : (is : Bool) (c : ℕ) → stands_for_itself c ≡ is
+spelling_pads : (is : Bool) (c : ℕ) → is_literal c ≡ is
     → spells_padding (spelt is c) ≡ is_padding c
 unfolding encode_with
 spelling_pads true c is = itself_pads c is
@@ -144,7 +144,7 @@ all_pad : (octets : List ℕ)
 all_pad [] = refl
 all_pad (c ∷ octets) =
     ap (λ b. b && list_all spells_padding (map quoted_octet octets))
-    (spelling_pads (stands_for_itself c) c refl)
+    (spelling_pads (is_literal c) c refl)
     ∙ ap (λ b. is_padding c && b) (all_pad octets)
 
 -- so the padding at the end of a text is cut off with its spellings
@@ -176,7 +176,7 @@ quote_if : (is : Bool) (c : ℕ) (spelling : List ℕ) → (c == 34) ≡ is
 quote_if true c spelling is = ap (λ x. x ∷ []) (sym (eqb-true c 34 is))
 quote_if false c spelling is = refl
 
-bare_spelling : (is : Bool) (c : ℕ) → stands_for_itself c ≡ is
+bare_spelling : (is : Bool) (c : ℕ) → is_literal c ≡ is
     → with_bare_quote (spelt is c) ≡ shown_octet c
 unfolding encode_with
 bare_spelling true c is = rw (shown_itself c is, no_backslash c is) refl
@@ -189,7 +189,7 @@ bare_text : (octets : List ℕ)
     → flat_map with_bare_quote (map quoted_octet octets) ≡ shown_text octets
 bare_text [] = refl
 bare_text (c ∷ octets) =
-    (λ i. bare_spelling (stands_for_itself c) c refl i ++ bare_text octets i)
+    (λ i. bare_spelling (is_literal c) c refl i ++ bare_text octets i)
 
 -- ---- texts
 

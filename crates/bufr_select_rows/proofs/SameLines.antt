@@ -96,14 +96,14 @@ last_seen d fields =
     (reverse_seen (fields_with d fields) ∙ ap reverse (with_seen d fields))
 
 abbrev text_by : Origin → List Seen → List Seen → Column → List ℕ
-text_by o before span (columns.Told fact) = decimal (told_number fact o)
+text_by o before span (columns.Fact fact) = decimal (told_number fact o)
 text_by o before span (columns.First d) =
     text_or (nth_of d 1 span) (text_or (last_of d before) [])
 text_by o before span (columns.Nth d n) = text_or (nth_of d n span) []
 
 text_seen : (o : Origin) (before span : List Field) (column : Column)
     → cell_text o before span column ≡ text_by o (map seen before) (map seen span) column
-text_seen o before span (columns.Told fact) = refl
+text_seen o before span (columns.Fact fact) = refl
 text_seen o before span (columns.First d) =
     value_seen (nth_with d 1 span) (value_if (last_with d before))
     ∙ (λ i. text_or (nth_seen d 1 span i)

@@ -36,7 +36,7 @@ both_false false b is = (refl, is)
 -- a settled cell stays as it is, by its column
 stays_by : (column : Column) (f : Field) (c : Cell) → settled_by column c ≡ true
     → noted_by column true f c ≡ c
-stays_by (columns.Told fact) f c settled = refl
+stays_by (columns.Fact fact) f c settled = refl
 stays_by (columns.First d) f c settled =
     choice_same (f.fxy == d) (counted f c) c (ap (λ n. counted_at n f c) (eqb-true c.ahead 0 settled))
 stays_by (columns.Nth d n) f c settled =
@@ -68,7 +68,7 @@ rows_settled cells (f ∷ fields) settled =
 -- a cell that does not wait for a field stays as it is
 unmoved_by : (column : Column) (f : Field) (c : Cell)
     → (not (settled_by column c) && asks_for f.fxy column) ≡ false → noted_by column true f c ≡ c
-unmoved_by (columns.Told fact) f c unwanted = refl
+unmoved_by (columns.Fact fact) f c unwanted = refl
 unmoved_by (columns.First d) f c unwanted = choice_unmoved (c.ahead == 0) (f.fxy == d) _ c
     (λ settled. ap (λ n. counted_at n f c) (eqb-true c.ahead 0 settled)) unwanted
 unmoved_by (columns.Nth d n) f c unwanted = choice_unmoved (c.ahead == 0) (f.fxy == d) _ c

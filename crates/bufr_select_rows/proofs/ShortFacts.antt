@@ -66,7 +66,7 @@ chosen_as d f s c has =
 
 noted_as_by : (column : Column) (f : NumberField) (s : ShortNumber) (c : Cell) → HasShort f s
     → noted_short_by column s c ≡ noted_by column true (as_field f) c
-noted_as_by (columns.Told fact) f s c has = refl
+noted_as_by (columns.Fact fact) f s c has = refl
 noted_as_by (columns.First d) f s c has = chosen_as d f s c has
 noted_as_by (columns.Nth d n) f s c has = chosen_as d f s c has
 

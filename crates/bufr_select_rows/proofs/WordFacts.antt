@@ -22,7 +22,7 @@ read_digits six d can is none =
 -- six octets that are no descriptor
 pub none_six : (a b c d e g : ℕ) → IsNoToldWord (a ∷ b ∷ c ∷ d ∷ e ∷ g ∷ [])
     → of_text (a ∷ b ∷ c ∷ d ∷ e ∷ g ∷ []) ≡ None → IsNoColumn (a ∷ b ∷ c ∷ d ∷ e ∷ g ∷ [])
-none_six a b c d e g told none (columns.Told fact) can = told fact
+none_six a b c d e g told none (columns.Fact fact) can = told fact
 none_six a b c d e g told none (columns.First fxy) can = λ is. read_digits _ fxy can is none
 none_six a b c d e g told none (columns.Nth fxy n) can = λ is. absurd (omega (arith, ap length is))
 
@@ -31,7 +31,7 @@ pub none_before : (a b c d e g : ℕ) (digits : List ℕ)
     → IsNoToldWord (a ∷ b ∷ c ∷ d ∷ e ∷ g ∷ 35 ∷ digits)
     → of_text (a ∷ b ∷ c ∷ d ∷ e ∷ g ∷ []) ≡ None
     → IsNoColumn (a ∷ b ∷ c ∷ d ∷ e ∷ g ∷ 35 ∷ digits)
-none_before a b c d e g digits told none (columns.Told fact) can = told fact
+none_before a b c d e g digits told none (columns.Fact fact) can = told fact
 none_before a b c d e g digits told none (columns.First fxy) can = λ is.
     absurd (omega (arith, ap length is))
 none_before a b c d e g digits told none (columns.Nth fxy n) can = λ is.
@@ -42,7 +42,7 @@ pub none_after : (a b c d e g : ℕ) (digits : List ℕ)
     → IsNoToldWord (a ∷ b ∷ c ∷ d ∷ e ∷ g ∷ 35 ∷ digits)
     → ((n : ℕ) → 0 < n → n < 2 ^ 64 → decimal n ≢ digits)
     → IsNoColumn (a ∷ b ∷ c ∷ d ∷ e ∷ g ∷ 35 ∷ digits)
-none_after a b c d e g digits told none (columns.Told fact) can = told fact
+none_after a b c d e g digits told none (columns.Fact fact) can = told fact
 none_after a b c d e g digits told none (columns.First fxy) can = λ is.
     absurd (omega (arith, ap length is))
 none_after a b c d e g digits told none (columns.Nth fxy n) can = λ is.
@@ -125,7 +125,7 @@ nth_some b t d n is long mark some digits =
 -- bytes with no number sign at its place
 pub mark_none : (b t : List ℕ) → b ≡ t → 7 ≤ length b → get_or b 6 0 ≢ 35 → IsNoToldWord t
     → IsNoColumn t
-mark_none b t is long other told (columns.Told fact) can = told fact
+mark_none b t is long other told (columns.Fact fact) can = told fact
 mark_none b t is long other told (columns.First fxy) can = λ e.
     absurd (omega (arith, long, ap length e, ap length is))
 mark_none b t is long other told (columns.Nth fxy n) can = λ e.

@@ -9,7 +9,7 @@ use Rattle.bufr_select_rows.specs.declared.column.Column.TheVariants as columns
 
 -- a set has the descriptor of a column
 abbrev pub CoversColumn : (ℕ → Bool) → Column → Type 0
-CoversColumn asked (columns.Told fact) = Unit {0}
+CoversColumn asked (columns.Fact fact) = Unit {0}
 CoversColumn asked (columns.First d) = asked d ≡ true
 CoversColumn asked (columns.Nth d n) = asked d ≡ true
 

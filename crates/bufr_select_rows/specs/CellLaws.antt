@@ -38,7 +38,7 @@ map_same h g same (x ∷ xs) =
 
 -- the fields of a column
 abbrev matching : Column → List Field → List Field
-matching (columns.Told fact) fields = []
+matching (columns.Fact fact) fields = []
 matching (columns.First d) fields = fields_with d fields
 matching (columns.Nth d n) fields = fields_with d fields
 
@@ -72,7 +72,7 @@ counted_if false f fields c = refl
 noted_left : (column : Column) (f : Field) (fields : List Field) (c : Cell)
     → text_with (noted_by column true f c) (matching column fields)
     ≡ text_with c (matching column (f ∷ fields))
-noted_left (columns.Told fact) f fields c = refl
+noted_left (columns.Fact fact) f fields c = refl
 noted_left (columns.First d) f fields c = counted_if (f.fxy == d) f (fields_with d fields) c
 noted_left (columns.Nth d n) f fields c = counted_if (f.fxy == d) f (fields_with d fields) c
 
@@ -102,13 +102,13 @@ before_if false f c = refl
 -- a field in a span
 noted_column : (column : Column) (f : Field) (c : Cell)
     → (noted_by column true f c).column ≡ c.column
-noted_column (columns.Told fact) f c = refl
+noted_column (columns.Fact fact) f c = refl
 noted_column (columns.First d) f c = column_if (f.fxy == d) f c
 noted_column (columns.Nth d n) f c = column_if (f.fxy == d) f c
 
 noted_before : (column : Column) (f : Field) (c : Cell)
     → (noted_by column true f c).before ≡ c.before
-noted_before (columns.Told fact) f c = refl
+noted_before (columns.Fact fact) f c = refl
 noted_before (columns.First d) f c = before_if (f.fxy == d) f c
 noted_before (columns.Nth d n) f c = before_if (f.fxy == d) f c
 
@@ -121,7 +121,7 @@ left_noted f fields c =
 
 -- with no field left it is what the cell shows
 none_matching : (column : Column) → matching column [] ≡ []
-none_matching (columns.Told fact) = refl
+none_matching (columns.Fact fact) = refl
 none_matching (columns.First d) = refl
 none_matching (columns.Nth d n) = refl
 
@@ -137,7 +137,7 @@ none_left c =
 
 -- the text of a column whose span has no field of it
 abbrev before_text : Origin → List Field → Column → List ℕ
-before_text o before (columns.Told fact) = told_before o (columns.Told fact)
+before_text o before (columns.Fact fact) = told_before o (columns.Fact fact)
 before_text o before (columns.First d) = value_if (last_with d before)
 before_text o before (columns.Nth d n) = []
 
@@ -156,7 +156,7 @@ nth_left d (suc n) span o before = value_or-none (slice_get (fields_with d span)
 span_left : (column : Column) (o : Origin) (before span : List Field) (text : List ℕ) (c : Cell)
     → c.column ≡ column → c.before ≡ before_text o before column
     → left_at (opened c).ahead (matching column span) c.before [] ≡ cell_text o before span column
-span_left (columns.Told fact) o before span text c is told =
+span_left (columns.Fact fact) o before span text c is told =
     ap (λ (x : Column). left_at (opened (record c { column = x })).ahead [] c.before []) is ∙ told
 span_left (columns.First d) o before span text c is told =
     ap (λ (x : Column). left_at (opened (record c { column = x })).ahead (fields_with d span)
@@ -297,14 +297,14 @@ value_cond false f found = refl
 -- a field before all spans
 unopened_column : (column : Column) (f : Field) (c : Cell)
     → (noted_by column false f c).column ≡ c.column
-unopened_column (columns.Told fact) f c = refl
+unopened_column (columns.Fact fact) f c = refl
 unopened_column (columns.First d) f c = put_column (f.fxy == d) f c
 unopened_column (columns.Nth d n) f c = refl
 
 unopened_before : (column : Column) (o : Origin) (before : List Field) (f : Field) (c : Cell)
     → c.before ≡ before_text o before column
     → (noted_by column false f c).before ≡ before_text o (before ++ f ∷ []) column
-unopened_before (columns.Told fact) o before f c told = told
+unopened_before (columns.Fact fact) o before f c told = told
 unopened_before (columns.First d) o before f c told =
     put_if (f.fxy == d) f c ∙ ap (λ t. cond (f.fxy == d) (shown_value f) t) told
     ∙ value_cond (f.fxy == d) f (last_with d before)
@@ -376,7 +376,7 @@ module _ (o : Origin) (all : List Column) (each : ℕ) where
 -- cells that begin a subset have no field before them
 stand_begun : (o : Origin) (column : Column)
     → (begun o column).before ≡ before_text o [] column
-stand_begun o (columns.Told fact) = refl
+stand_begun o (columns.Fact fact) = refl
 stand_begun o (columns.First d) = refl
 stand_begun o (columns.Nth d n) = refl
 
@@ -422,7 +422,7 @@ same_if true x y absent = absurd cc
 -- whether a column asks for a descriptor
 pub noted_other : (column : Column) (in_span : Bool) (f : Field) (c : Cell)
     → asks_for f.fxy column ≡ false → noted_by column in_span f c ≡ c
-noted_other (columns.Told fact) in_span f c absent = refl
+noted_other (columns.Fact fact) in_span f c absent = refl
 noted_other (columns.First d) true f c absent = same_if (f.fxy == d) (counted f c) c absent
 noted_other (columns.First d) false f c absent = same_if (f.fxy == d) (put_before f c) c absent
 noted_other (columns.Nth d n) true f c absent = same_if (f.fxy == d) (counted f c) c absent
@@ -444,7 +444,7 @@ not_of asked d e false same absent present = refl
 -- no column of a covered one asks for it
 unasked_column : (asked : ℕ → Bool) (d : ℕ) (column : Column) → CoversColumn asked column
     → asked d ≡ false → asks_for d column ≡ false
-unasked_column asked d (columns.Told fact) covers absent = refl
+unasked_column asked d (columns.Fact fact) covers absent = refl
 unasked_column asked d (columns.First e) covers absent = not_of asked d e (d == e) refl absent covers
 unasked_column asked d (columns.Nth e n) covers absent = not_of asked d e (d == e) refl absent covers
 

@@ -17,7 +17,7 @@ use Rattle.bufr_select_rows.specs.declared.column.Column.TheVariants as columns
 
 -- the number of the field that a column shows, from 1
 abbrev pub number_of : Column → ℕ
-number_of (columns.Told fact) = 1
+number_of (columns.Fact fact) = 1
 number_of (columns.First d) = 1
 number_of (columns.Nth d n) = n
 
@@ -31,7 +31,7 @@ opened c = record c { ahead = number_of c.column; here = [] }
 
 -- the number of a fact, at the begin of a subset
 abbrev pub told_before : Origin → Column → List ℕ
-told_before o (columns.Told fact) = decimal (told_number fact o)
+told_before o (columns.Fact fact) = decimal (told_number fact o)
 told_before o (columns.First d) = []
 told_before o (columns.Nth d n) = []
 
@@ -56,7 +56,7 @@ put_before f c = record c { before = shown_value f }
 
 -- a cell after a field in a span, or before all spans
 abbrev pub noted_by : Column → Bool → Field → Cell → Cell
-noted_by (columns.Told fact) in_span f c = c
+noted_by (columns.Fact fact) in_span f c = c
 noted_by (columns.First d) true f c = if f.fxy == d then counted f c else c
 noted_by (columns.First d) false f c = if f.fxy == d then put_before f c else c
 noted_by (columns.Nth d n) true f c = if f.fxy == d then counted f c else c
@@ -68,7 +68,7 @@ noted in_span f c = noted_by c.column in_span f c
 
 -- whether no later field of a span changes the text of a cell, by its column
 abbrev pub settled_by : Column → Cell → Bool
-settled_by (columns.Told fact) c = true
+settled_by (columns.Fact fact) c = true
 settled_by (columns.First d) c = c.ahead == 0
 settled_by (columns.Nth d n) c = c.ahead == 0
 
@@ -111,7 +111,7 @@ opens_at_once (Some each) = false
 
 -- whether a column asks for the fields with a descriptor
 abbrev pub asks_for : ℕ → Column → Bool
-asks_for d (columns.Told fact) = false
+asks_for d (columns.Fact fact) = false
 asks_for d (columns.First e) = d == e
 asks_for d (columns.Nth e n) = d == e
 

@@ -7,19 +7,19 @@ use Rattle.bufr_select_rows.specs.declared.columns.ColumnsFault.{ColumnsFault}
 use Rattle.bufr_select_rows.specs.declared.columns.ColumnsFault.TheVariants as faults
 use Rattle.bufr_select_rows.specs.declared.column.Column.{Column}
 use Rattle.bufr_select_rows.specs.declared.column.Column.TheVariants as columns
-use Rattle.bufr_select_rows.specs.declared.told.Told.{Told}
-use Rattle.bufr_select_rows.specs.declared.told.Told.TheVariants.{Input, Message, Place, Subset}
-use Rattle.bufr_select_rows.specs.declared.told.Told.TheVariants.{Centre, SubCentre, Update}
-use Rattle.bufr_select_rows.specs.declared.told.Told.TheVariants.{Category, International}
-use Rattle.bufr_select_rows.specs.declared.told.Told.TheVariants.{LocalCategory, MasterVersion}
-use Rattle.bufr_select_rows.specs.declared.told.Told.TheVariants.{LocalVersion, Year, Month, Day}
-use Rattle.bufr_select_rows.specs.declared.told.Told.TheVariants.{Hour, Minute, Second, Observed}
-use Rattle.bufr_select_rows.specs.declared.told.Told.TheVariants.{Compressed}
+use Rattle.bufr_select_rows.specs.declared.fact.Fact.{Fact}
+use Rattle.bufr_select_rows.specs.declared.fact.Fact.TheVariants.{Input, Message, Place, Subset}
+use Rattle.bufr_select_rows.specs.declared.fact.Fact.TheVariants.{Centre, SubCentre, Update}
+use Rattle.bufr_select_rows.specs.declared.fact.Fact.TheVariants.{Category, International}
+use Rattle.bufr_select_rows.specs.declared.fact.Fact.TheVariants.{LocalCategory, MasterVersion}
+use Rattle.bufr_select_rows.specs.declared.fact.Fact.TheVariants.{LocalVersion, Year, Month, Day}
+use Rattle.bufr_select_rows.specs.declared.fact.Fact.TheVariants.{Hour, Minute, Second, Observed}
+use Rattle.bufr_select_rows.specs.declared.fact.Fact.TheVariants.{Compressed}
 
 -- ---- words
 
 -- the word of a fact about a subset as a whole
-unfoldable pub told_word : Told → List ℕ
+unfoldable pub told_word : Fact → List ℕ
 told_word Input = codes "input"
 told_word Message = codes "message"
 told_word Place = codes "place"
@@ -42,7 +42,7 @@ told_word Observed = codes "observed"
 told_word Compressed = codes "compressed"
 
 -- all facts about a subset as a whole, in their order
-unfoldable pub all_told : List Told
+unfoldable pub all_told : List Fact
 all_told =
     Input ∷ Message ∷ Place ∷ Subset ∷ Centre ∷ SubCentre ∷ Update ∷ Category ∷ International
     ∷ LocalCategory ∷ MasterVersion ∷ LocalVersion ∷ Year ∷ Month ∷ Day ∷ Hour ∷ Minute ∷ Second
@@ -50,17 +50,17 @@ all_told =
 
 -- no fact about a subset as a whole has this word
 abbrev pub IsNoToldWord : List ℕ → Type 0
-IsNoToldWord text = (fact : Told) → told_word fact ≢ text
+IsNoToldWord text = (fact : Fact) → told_word fact ≢ text
 
 -- the word of a column: that of its fact; or the six digits of its descriptor; or these, `#` and a number
 abbrev pub word : Column → List ℕ
-word (columns.Told fact) = told_word fact
+word (columns.Fact fact) = told_word fact
 word (columns.First d) = six_digits d
 word (columns.Nth d n) = six_digits d ++ 35 ∷ decimal n
 
 -- a column can be: its descriptor has 16 bits, and its number counts from 1 and has 64 bits
 abbrev pub IsColumn : Column → Type 0
-IsColumn (columns.Told fact) = Unit {0}
+IsColumn (columns.Fact fact) = Unit {0}
 IsColumn (columns.First d) = IsDescriptor d
 IsColumn (columns.Nth d n) = IsDescriptor d × (0 < n) × (n < 2 ^ 64)
 

@@ -9,12 +9,12 @@ use Rattle.bufr_listing.specs.Listings.{field_line, section1_line, time_line, wo
 use Rattle.bufr_select_rows.specs.Rows.{Origin, fields_with, rows, told_number}
 use Rattle.bufr_select_rows.specs.Values.{shown_value}
 use Rattle.bufr_select_rows.specs.declared.column.Column.{Column}
-use Rattle.bufr_select_rows.specs.declared.told.Told.{Told}
-use Rattle.bufr_select_rows.specs.declared.told.Told.TheVariants.{Centre, SubCentre, Update}
-use Rattle.bufr_select_rows.specs.declared.told.Told.TheVariants.{Category, International}
-use Rattle.bufr_select_rows.specs.declared.told.Told.TheVariants.{LocalCategory, MasterVersion}
-use Rattle.bufr_select_rows.specs.declared.told.Told.TheVariants.{LocalVersion, Year, Month, Day}
-use Rattle.bufr_select_rows.specs.declared.told.Told.TheVariants.{Hour, Minute, Second}
+use Rattle.bufr_select_rows.specs.declared.fact.Fact.{Fact}
+use Rattle.bufr_select_rows.specs.declared.fact.Fact.TheVariants.{Centre, SubCentre, Update}
+use Rattle.bufr_select_rows.specs.declared.fact.Fact.TheVariants.{Category, International}
+use Rattle.bufr_select_rows.specs.declared.fact.Fact.TheVariants.{LocalCategory, MasterVersion}
+use Rattle.bufr_select_rows.specs.declared.fact.Fact.TheVariants.{LocalVersion, Year, Month, Day}
+use Rattle.bufr_select_rows.specs.declared.fact.Fact.TheVariants.{Hour, Minute, Second}
 
 -- ---- the word of a text
 
@@ -85,7 +85,7 @@ LinesDetermineRows = (columns : List Column) (each : Option ℕ) (o : Origin) (f
     → rows columns each o fields ≡ rows columns each o others
 
 -- the numbers of facts
-abbrev pub numbers_of : Origin → List Told → List (List ℕ)
+abbrev pub numbers_of : Origin → List Fact → List (List ℕ)
 numbers_of o facts = map (λ fact. decimal (told_number fact o)) facts
 
 -- the numbers of the facts in section 1 are those in its two lines

@@ -13,14 +13,14 @@ use Rattle.bufr_select_rows.specs.Values.{shown_value}
 use Rattle.bufr_select_rows.specs.declared.column.Column.{Column}
 use Rattle.bufr_select_rows.specs.declared.column.Column.TheVariants as columns
 use Rattle.bufr_select_rows.specs.declared.origin.Origin as declared
-use Rattle.bufr_select_rows.specs.declared.told.Told.{Told}
-use Rattle.bufr_select_rows.specs.declared.told.Told.TheVariants.{Input, Message, Place, Subset}
-use Rattle.bufr_select_rows.specs.declared.told.Told.TheVariants.{Centre, SubCentre, Update}
-use Rattle.bufr_select_rows.specs.declared.told.Told.TheVariants.{Category, International}
-use Rattle.bufr_select_rows.specs.declared.told.Told.TheVariants.{LocalCategory, MasterVersion}
-use Rattle.bufr_select_rows.specs.declared.told.Told.TheVariants.{LocalVersion, Year, Month, Day}
-use Rattle.bufr_select_rows.specs.declared.told.Told.TheVariants.{Hour, Minute, Second, Observed}
-use Rattle.bufr_select_rows.specs.declared.told.Told.TheVariants.{Compressed}
+use Rattle.bufr_select_rows.specs.declared.fact.Fact.{Fact}
+use Rattle.bufr_select_rows.specs.declared.fact.Fact.TheVariants.{Input, Message, Place, Subset}
+use Rattle.bufr_select_rows.specs.declared.fact.Fact.TheVariants.{Centre, SubCentre, Update}
+use Rattle.bufr_select_rows.specs.declared.fact.Fact.TheVariants.{Category, International}
+use Rattle.bufr_select_rows.specs.declared.fact.Fact.TheVariants.{LocalCategory, MasterVersion}
+use Rattle.bufr_select_rows.specs.declared.fact.Fact.TheVariants.{LocalVersion, Year, Month, Day}
+use Rattle.bufr_select_rows.specs.declared.fact.Fact.TheVariants.{Hour, Minute, Second, Observed}
+use Rattle.bufr_select_rows.specs.declared.fact.Fact.TheVariants.{Compressed}
 
 -- ---- where a row comes from
 
@@ -48,7 +48,7 @@ origin o = record {
 }
 
 -- the number of a fact about a subset as a whole
-unfoldable pub told_number : Told → Origin → ℕ
+unfoldable pub told_number : Fact → Origin → ℕ
 told_number Input o = o.input
 told_number Message o = o.message
 told_number Place o = o.place
@@ -113,7 +113,7 @@ spans each (f ∷ fields) =
 -- the text of a column in a span, after the fields `before` the first span: the first field of the span
 -- with the column's descriptor, or else the last before all spans; or the n-th of the span alone
 abbrev pub cell_text : Origin → List Field → List Field → Column → List ℕ
-cell_text o before span (columns.Told fact) = decimal (told_number fact o)
+cell_text o before span (columns.Fact fact) = decimal (told_number fact o)
 cell_text o before span (columns.First d) =
     value_or (nth_with d 1 span) (value_if (last_with d before))
 cell_text o before span (columns.Nth d n) = value_if (nth_with d n span)

@@ -26,7 +26,7 @@ counted_short s c = counted_short_at c.ahead s c
 
 -- a short number in a span
 abbrev pub noted_short_by : Column → ShortNumber → Cell → Cell
-noted_short_by (columns.Told fact) s c = c
+noted_short_by (columns.Fact fact) s c = c
 noted_short_by (columns.First d) s c = if s.fxy == d then counted_short s c else c
 noted_short_by (columns.Nth d n) s c = if s.fxy == d then counted_short s c else c
 

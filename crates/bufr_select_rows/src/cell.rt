@@ -47,7 +47,7 @@ impl Cell {
         self.open();
         let column = self.column;
         match column {
-            Column::Told(fact) => self.before.put_number(from.number(fact)),
+            Column::Fact(fact) => self.before.put_number(from.number(fact)),
             Column::First(_) | Column::Nth(_, _) => {
                 self.before.clear();
                 Ok(())
@@ -62,7 +62,7 @@ impl Cell {
         self.here.clear();
         let column = self.column;
         self.ahead = match column {
-            Column::Told(_) | Column::First(_) => 1,
+            Column::Fact(_) | Column::First(_) => 1,
             Column::Nth(_, number) => number,
         };
     }
@@ -74,7 +74,7 @@ impl Cell {
     {
         let column = self.column;
         match column {
-            Column::Told(_) => Ok(()),
+            Column::Fact(_) => Ok(()),
             Column::First(fxy) => {
                 if in_span {
                     self.count_if(field.fxy == fxy, field)
@@ -103,7 +103,7 @@ impl Cell {
     {
         let column = self.column;
         match column {
-            Column::Told(_) => Ok(()),
+            Column::Fact(_) => Ok(()),
             Column::First(fxy) => {
                 if in_span {
                     self.count_number_if(number.fxy == fxy, number);
@@ -128,7 +128,7 @@ impl Cell {
     {
         let column = self.column;
         match column {
-            Column::Told(_) => {}
+            Column::Fact(_) => {}
             Column::First(fxy) => self.count_short_if(short.fxy == fxy, short),
             Column::Nth(fxy, _) => self.count_short_if(short.fxy == fxy, short),
         }
@@ -224,7 +224,7 @@ impl Cell {
     {
         let column = self.column;
         match column {
-            Column::Told(_) => true,
+            Column::Fact(_) => true,
             Column::First(_) | Column::Nth(_, _) => self.ahead == 0,
         }
     }
@@ -236,7 +236,7 @@ impl Cell {
     {
         let column = self.column;
         match column {
-            Column::Told(_) => false,
+            Column::Fact(_) => false,
             Column::First(asked) | Column::Nth(asked, _) => self.ahead > 0 && fxy == asked,
         }
     }

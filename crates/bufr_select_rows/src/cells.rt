@@ -9,9 +9,9 @@ ghost use Rattle.bufr_select_rows.specs.Cells.{AreSettled, begun, fresh, noted, 
 ghost use Rattle.bufr_select_rows.specs.Rows.{origin};
 ghost use Rattle.bufr_select_rows.specs.ShortCells.{noted_short};
 
-use crate::asked::Asked;
 use crate::cell::Cell;
 use crate::column::Column;
+use crate::column_descriptors::ColumnDescriptors;
 use crate::origin::Origin;
 use crate::text::field_of;
 use bufr_base::OutOfMemory;
@@ -52,7 +52,7 @@ pub(crate) fn open_cells(cells: &mut [Cell])
 #[inline(always)]
 pub(crate) fn note_field(
     cells: &mut [Cell],
-    asked: &Asked,
+    asked: &ColumnDescriptors,
     in_span: bool,
     field: &Field,
 ) -> Result<(), OutOfMemory>
@@ -69,7 +69,7 @@ pub(crate) fn note_field(
 #[inline(always)]
 pub(crate) fn note_number(
     cells: &mut [Cell],
-    asked: &Asked,
+    asked: &ColumnDescriptors,
     in_span: bool,
     number: NumberField,
 ) -> Result<(), OutOfMemory>
@@ -85,7 +85,7 @@ pub(crate) fn note_number(
 
 /// Notes a field with a short number, in a span.
 #[inline(always)]
-pub(crate) fn note_short(cells: &mut [Cell], asked: &Asked, short: ShortNumber)
+pub(crate) fn note_short(cells: &mut [Cell], asked: &ColumnDescriptors, short: ShortNumber)
     requires { Finds asked.now (map (λ c. c.column) cells.old) }
     ensures { (f : ANumberField) → HasShort f short
         → cells.new ≡ map (noted true (as_field f)) cells.old }

@@ -4,7 +4,7 @@ ghost use Rattle.std.specs.Prelude.{◌≡◌, ◌≢◌, ℕ, ◌<◌, ◌^◌,
 ghost use Rattle.std.specs.Option.{IfNone};
 ghost use Rattle.bufr_select_rows.specs.Columns.{IsColumn, IsNoColumn, word};
 
-use crate::told::Told;
+use crate::fact::Fact;
 use bufr_base::OutOfMemory;
 use bufr_fields::Decimal;
 use bufr_tables::Fxy;
@@ -14,7 +14,7 @@ use itoa::Buffer;
 #[derive(Clone, Copy, Debug, Drop, PartialEq, Eq)]
 pub enum Column {
     /// A fact about the subset as a whole.
-    Told(Told),
+    Fact(Fact),
     /// The first field with this descriptor.
     First(Fxy),
     /// The n-th field with this descriptor.
@@ -27,8 +27,8 @@ impl Column {
         ensures named { IfSome result (λ column. word column ≡ text.now) }
         ensures none { IfNone result (IsNoColumn text.now) }
     {
-        if let Some(fact) = Told::from_word(text) {
-            return Some(Column::Told(fact));
+        if let Some(fact) = Fact::from_word(text) {
+            return Some(Column::Fact(fact));
         }
         match text.as_bytes() {
             [a, b, c, d, e, f] => {
@@ -52,7 +52,7 @@ impl Column {
         ensures { OnOk result (text.new.items ≡ text.old.items ++ word self) }
     {
         match self {
-            Column::Told(fact) => text.extend_from_slice(fact.word().as_bytes()),
+            Column::Fact(fact) => text.extend_from_slice(fact.word().as_bytes()),
             Column::First(fxy) => text.extend_from_slice(&fxy.digits()),
             Column::Nth(fxy, number) => {
                 text.extend_from_slice(&fxy.digits())?;

@@ -4,10 +4,10 @@ ghost use Rattle.std.specs.Prelude.{◌≡◌, ◌≤◌, ℕ, None, true, lengt
 ghost use Rattle.bufr_select_rows.specs.Asks.{IsSetOf};
 ghost use Rattle.bufr_select_rows.specs.Cells.{AreSettled, row_of, rows_left};
 
-use crate::asked::Asked;
 use crate::awaited::Awaited;
 use crate::cell::Cell;
 use crate::cells::{first_unsettled, note_field, note_number, note_short};
+use crate::column_descriptors::ColumnDescriptors;
 use crate::picks::Picks;
 use bufr_base::OutOfMemory;
 use std::alloc::Global;
@@ -15,7 +15,7 @@ use std::alloc::Global;
 /// Notes the fields that are left of a subset, and stops once no cell waits for one of them.
 pub(crate) fn fill_cells<P: Picks>(
     alloc: Global,
-    asked: &Asked,
+    asked: &ColumnDescriptors,
     fields: &mut P,
     cells: &mut [Cell],
 ) -> Result<(), OutOfMemory>
@@ -36,7 +36,7 @@ pub(crate) fn fill_cells<P: Picks>(
         }
         // A look at the template costs as much as some fields.
         if noted >= most {
-            if fields.tells_no_more(&Awaited { cells: &*cells }) {
+            if fields.has_no_more(&Awaited { cells: &*cells }) {
                 return Ok(());
             }
             noted = 0;
@@ -61,7 +61,7 @@ pub(crate) fn fill_cells<P: Picks>(
 /// Notes the next fields of a subset, at most `most`, as long as they are numbers. Returns how many
 /// of `most` are left.
 fn fill_numbers<P: Picks>(
-    asked: &Asked,
+    asked: &ColumnDescriptors,
     fields: &mut P,
     cells: &mut [Cell],
     most: usize,

@@ -2,12 +2,13 @@
 //! comma-separated values.
 #![tactic(auto)]
 
-mod asked;
 mod awaited;
 mod cell;
 mod cells;
 mod column;
+mod column_descriptors;
 mod columns;
+mod fact;
 mod filling;
 pub mod laws;
 mod origin;
@@ -18,18 +19,17 @@ mod quotes;
 mod row;
 mod row_line;
 mod text;
-mod told;
 mod worked_values;
 mod written;
 
-pub use asked::Asked;
 pub use cell::Cell;
 pub use column::Column;
+pub use column_descriptors::ColumnDescriptors;
 pub use columns::{ColumnsFault, columns_of};
+pub use fact::Fact;
 pub use origin::Origin;
-pub use pairs::{Pair, Unread, view_under};
+pub use pairs::{Unread, VersionTables, view_under};
 pub use picker::{Picker, put_message};
 pub use row::push_header;
 pub use row_line::RowLine;
 pub use text::Text;
-pub use told::Told;

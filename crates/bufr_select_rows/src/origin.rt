@@ -1,7 +1,7 @@
 ghost use Rattle.std.specs.Prelude.{◌≡◌};
 ghost use Rattle.bufr_select_rows.specs.Rows.{origin, told_number};
 
-use crate::told::Told;
+use crate::fact::Fact;
 use bufr_sections::Head;
 
 /// A subset of a message, with what sections 1 and 3 say of it. Numbers count from 1.
@@ -24,30 +24,30 @@ pub struct Origin<'a> {
 impl<'a> Origin<'a> {
     /// Returns the number of a fact.
     #[tactic(auto, unfolding(crate::specs::Rows::told_number))]
-    pub(crate) fn number(&self, fact: Told) -> u128
+    pub(crate) fn number(&self, fact: Fact) -> u128
         ensures { result ≡ told_number fact (origin self.now) }
     {
         let number = match fact {
-            Told::Input => return self.input,
-            Told::Message => return self.message,
-            Told::Place => return u128::from(self.place),
-            Told::Subset => return u128::from(self.subset),
-            Told::Centre => self.head.centre,
-            Told::SubCentre => self.head.sub_centre,
-            Told::Update => u16::from(self.head.update),
-            Told::Category => u16::from(self.head.category),
-            Told::International => u16::from(self.head.international),
-            Told::LocalCategory => u16::from(self.head.local_category),
-            Told::MasterVersion => u16::from(self.head.master_version),
-            Told::LocalVersion => u16::from(self.head.local_version),
-            Told::Year => self.head.year,
-            Told::Month => u16::from(self.head.month),
-            Told::Day => u16::from(self.head.day),
-            Told::Hour => u16::from(self.head.hour),
-            Told::Minute => u16::from(self.head.minute),
-            Told::Second => u16::from(self.head.second),
-            Told::Observed => u16::from(self.observed),
-            Told::Compressed => u16::from(self.compressed),
+            Fact::Input => return self.input,
+            Fact::Message => return self.message,
+            Fact::Place => return u128::from(self.place),
+            Fact::Subset => return u128::from(self.subset),
+            Fact::Centre => self.head.centre,
+            Fact::SubCentre => self.head.sub_centre,
+            Fact::Update => u16::from(self.head.update),
+            Fact::Category => u16::from(self.head.category),
+            Fact::International => u16::from(self.head.international),
+            Fact::LocalCategory => u16::from(self.head.local_category),
+            Fact::MasterVersion => u16::from(self.head.master_version),
+            Fact::LocalVersion => u16::from(self.head.local_version),
+            Fact::Year => self.head.year,
+            Fact::Month => u16::from(self.head.month),
+            Fact::Day => u16::from(self.head.day),
+            Fact::Hour => u16::from(self.head.hour),
+            Fact::Minute => u16::from(self.head.minute),
+            Fact::Second => u16::from(self.head.second),
+            Fact::Observed => u16::from(self.observed),
+            Fact::Compressed => u16::from(self.compressed),
         };
         u128::from(number)
     }

@@ -17,7 +17,7 @@ use std::fmt;
 
 /// A pair of tables.
 #[derive(Drop)]
-pub struct Pair<'t> {
+pub struct VersionTables<'t> {
     /// The greatest table version that it reads; none reads all.
     pub greatest: Option<u8>,
     pub reader: MessageReader<'t>,
@@ -45,13 +45,13 @@ impl fmt::Display for Unread {
 
 impl Error for Unread {}
 
-impl<'t> Pair<'t> {
+impl<'t> VersionTables<'t> {
     /// Makes a pair for versions up to the greatest.
-    pub fn new(alloc: Global, greatest: Option<u8>, tables: &'t Tables) -> Pair<'t>
+    pub fn new(alloc: Global, greatest: Option<u8>, tables: &'t Tables) -> VersionTables<'t>
         ensures greatest { result.greatest ≡ greatest }
         ensures tables { result.reader ≡ tables.now }
     {
-        Pair::for_elements(alloc, greatest, tables, &[])
+        VersionTables::for_elements(alloc, greatest, tables, &[])
     }
 
     /// Makes a pair that finds the places of the fields of some descriptors, given by their 16 bits.
@@ -60,11 +60,11 @@ impl<'t> Pair<'t> {
         greatest: Option<u8>,
         tables: &'t Tables,
         asked: &'t [u16],
-    ) -> Pair<'t>
+    ) -> VersionTables<'t>
         ensures greatest { result.greatest ≡ greatest }
         ensures tables { result.reader ≡ tables.now }
     {
-        Pair {
+        VersionTables {
             greatest,
             reader: MessageReader::for_elements(alloc, tables, asked),
         }
@@ -97,7 +97,7 @@ impl<'t> Pair<'t> {
 #[tactic(auto, unfolding(crate::specs::Pairs::message_under))]
 pub fn view_under<'a>(
     alloc: Global,
-    pairs: &mut [Pair<'_>],
+    pairs: &mut [VersionTables<'_>],
     octets: &'a [u8],
 ) -> Result<View<'a>, Failure<Unread>>
     ensures same { pairs.new ≡ pairs.old }
@@ -114,7 +114,7 @@ pub fn view_under<'a>(
 /// Views the message under the first pair that reads a version.
 fn view_version<'a>(
     alloc: Global,
-    pairs: &mut [Pair<'_>],
+    pairs: &mut [VersionTables<'_>],
     version: u8,
     octets: &'a [u8],
 ) -> Result<View<'a>, Failure<Unread>>

@@ -12,10 +12,10 @@ ghost use Rattle.bufr_select_rows.specs.Rows.{rows as subset_rows};
 ghost use Rattle.bufr_io.specs.HeldTexts.{PutsOrStops};
 ghost use Rattle.bufr_select_rows.specs.MessageRows.{subsets_rows};
 
-use crate::asked::Asked;
 use crate::cell::Cell;
 use crate::cells::{begin_cells, cells_of, note_field, note_number, open_cells};
 use crate::column::Column;
+use crate::column_descriptors::ColumnDescriptors;
 use crate::filling::fill_cells;
 use crate::origin::Origin;
 use crate::picks::Picks;
@@ -34,7 +34,7 @@ pub struct Picker {
     /// The descriptor of the fields that open spans.
     pub each: Option<Fxy>,
     /// The descriptors asked for.
-    pub asked: Asked,
+    pub asked: ColumnDescriptors,
     /// The cells of a row.
     pub cells: Vec<Cell>,
     /// The row that is being made.
@@ -49,7 +49,7 @@ impl Picker {
             ≡ columns.now) }
         ensures covers { IfOk result (λ picker. IsSetOf picker.asked each columns.now) }
     {
-        let asked = Asked::of(alloc, columns, copied(&each))?;
+        let asked = ColumnDescriptors::of(alloc, columns, copied(&each))?;
         let cells = cells_of(alloc, columns)?;
         Ok(Picker {
             each,
@@ -145,7 +145,7 @@ fn is_open_after_number(in_span: bool, each: Option<Fxy>, number: &NumberField) 
 #[inline(always)]
 fn take_number<W: Sink>(
     each: Option<Fxy>,
-    asked: &Asked,
+    asked: &ColumnDescriptors,
     in_span: bool,
     number: &NumberField,
     line: &mut RowLine,
@@ -175,7 +175,7 @@ fn take_number<W: Sink>(
 #[inline(always)]
 fn take_field<W: Sink>(
     each: Option<Fxy>,
-    asked: &Asked,
+    asked: &ColumnDescriptors,
     in_span: bool,
     field: &Field,
     line: &mut RowLine,
@@ -204,7 +204,7 @@ fn take_field<W: Sink>(
 fn put_fields<P: Picks, W: Sink>(
     alloc: Global,
     each: Option<Fxy>,
-    asked: &Asked,
+    asked: &ColumnDescriptors,
     fields: &mut P,
     line: &mut RowLine,
     cells: &mut [Cell],
@@ -251,7 +251,7 @@ fn put_fields<P: Picks, W: Sink>(
 fn put_rows<P: Picks, W: Sink>(
     alloc: Global,
     each: Option<Fxy>,
-    asked: &Asked,
+    asked: &ColumnDescriptors,
     fields: &mut P,
     line: &mut RowLine,
     cells: &mut [Cell],
@@ -278,7 +278,7 @@ fn put_rows<P: Picks, W: Sink>(
 fn put_subset<W: Sink>(
     alloc: Global,
     each: Option<Fxy>,
-    asked: &Asked,
+    asked: &ColumnDescriptors,
     from: &Origin<'_>,
     fields: Fields<'_>,
     line: &mut RowLine,
@@ -304,7 +304,7 @@ fn put_subset<W: Sink>(
 fn put_chosen<W: Sink>(
     alloc: Global,
     each: Option<Fxy>,
-    asked: &Asked,
+    asked: &ColumnDescriptors,
     from: &Origin<'_>,
     mut fields: ChosenFields<'_>,
     line: &mut RowLine,

@@ -9,8 +9,8 @@ ghost use Rattle.bufr_data.specs.Short.{HandsOutShort};
 ghost use Rattle.bufr_select_rows.specs.Asks.{flagged};
 ghost use Rattle.bufr_select_rows.specs.Cells.{is_awaited};
 
-use crate::asked::Asked;
 use crate::awaited::Awaited;
+use crate::column_descriptors::ColumnDescriptors;
 use bufr_base::OutOfMemory;
 use bufr_data::{ChosenFields, LaidFields, NumberField, ShortNumber};
 use bufr_expand::Asks;
@@ -30,19 +30,23 @@ pub(crate) trait Picks {
 
     /// Hands out the next field that is asked for, if it is a number. Else returns `None`, and
     /// `pick` takes the field.
-    fn pick_number(&mut self, asked: &Asked) -> Option<NumberField>
+    fn pick_number(&mut self, asked: &ColumnDescriptors) -> Option<NumberField>
         ensures found { IfSome result (λ number. HandsOutAsked (flagged asked.now) (left self.old)
             (Some (as_field number)) (left self.new)) }
         ensures others { IfNone result (PassesUnasked (flagged asked.now) (left self.old)
             (left self.new)) };
 
     /// Hands out the next field that is asked for, or `None` if none is left.
-    fn pick(&mut self, alloc: Global, asked: &Asked) -> Result<Option<Field>, OutOfMemory>
+    fn pick(
+        &mut self,
+        alloc: Global,
+        asked: &ColumnDescriptors,
+    ) -> Result<Option<Field>, OutOfMemory>
         ensures { IfOk result (λ found.
             HandsOutAsked (flagged asked.now) (left self.old) found (left self.new)) };
 
     /// Returns true if it is known that no cell waits for one of the fields.
-    fn tells_no_more(&self, awaited: &Awaited<'_>) -> bool
+    fn has_no_more(&self, awaited: &Awaited<'_>) -> bool
         ensures { OnTrue result (NoneAsked (is_awaited awaited.now.cells.now) (left self.now)) };
 }
 
@@ -55,17 +59,21 @@ impl<'v> Picks for Fields<'v> {
     }
 
     #[inline(always)]
-    fn pick_number(&mut self, asked: &Asked) -> Option<NumberField> {
+    fn pick_number(&mut self, asked: &ColumnDescriptors) -> Option<NumberField> {
         self.next_asked_number(asked)
     }
 
     #[inline(always)]
-    fn pick(&mut self, alloc: Global, asked: &Asked) -> Result<Option<Field>, OutOfMemory> {
+    fn pick(
+        &mut self,
+        alloc: Global,
+        asked: &ColumnDescriptors,
+    ) -> Result<Option<Field>, OutOfMemory> {
         self.next_asked(alloc, asked)
     }
 
-    fn tells_no_more(&self, awaited: &Awaited<'_>) -> bool {
-        Fields::tells_no_more(self, awaited)
+    fn has_no_more(&self, awaited: &Awaited<'_>) -> bool {
+        Fields::has_no_more(self, awaited)
     }
 }
 
@@ -78,7 +86,7 @@ impl<'v> Picks for ChosenFields<'v> {
     }
 
     #[inline(always)]
-    fn pick_number(&mut self, asked: &Asked) -> Option<NumberField> {
+    fn pick_number(&mut self, asked: &ColumnDescriptors) -> Option<NumberField> {
         // A chosen field that is not asked for may be lost, since `pick` skips it too.
         let number = self.next_number()?;
         if asked.asks(number.fxy) {
@@ -88,7 +96,11 @@ impl<'v> Picks for ChosenFields<'v> {
         }
     }
 
-    fn pick(&mut self, alloc: Global, asked: &Asked) -> Result<Option<Field>, OutOfMemory> {
+    fn pick(
+        &mut self,
+        alloc: Global,
+        asked: &ColumnDescriptors,
+    ) -> Result<Option<Field>, OutOfMemory> {
         while let Some(field) = self.next(alloc)? {
             if asked.asks(field.fxy) {
                 return Ok(Some(field));
@@ -98,7 +110,7 @@ impl<'v> Picks for ChosenFields<'v> {
     }
 
     #[inline(always)]
-    fn tells_no_more(&self, _awaited: &Awaited<'_>) -> bool {
+    fn has_no_more(&self, _awaited: &Awaited<'_>) -> bool {
         false
     }
 }
@@ -112,17 +124,21 @@ impl<'v> Picks for LaidFields<'v> {
     }
 
     #[inline(always)]
-    fn pick_number(&mut self, asked: &Asked) -> Option<NumberField> {
+    fn pick_number(&mut self, asked: &ColumnDescriptors) -> Option<NumberField> {
         self.next_asked_number(asked)
     }
 
     #[inline(always)]
-    fn pick(&mut self, alloc: Global, asked: &Asked) -> Result<Option<Field>, OutOfMemory> {
+    fn pick(
+        &mut self,
+        alloc: Global,
+        asked: &ColumnDescriptors,
+    ) -> Result<Option<Field>, OutOfMemory> {
         self.next_asked(alloc, asked)
     }
 
     #[inline(always)]
-    fn tells_no_more(&self, _awaited: &Awaited<'_>) -> bool {
+    fn has_no_more(&self, _awaited: &Awaited<'_>) -> bool {
         false
     }
 }

@@ -27,7 +27,7 @@ const MOST_PLACES: i32 = 20;
 
 /// A form of a text.
 #[derive(Clone, Copy)]
-pub(crate) enum Standing {
+pub(crate) enum TextForm {
     /// Nothing.
     Empty,
     /// The octets of the text.
@@ -50,7 +50,7 @@ pub(crate) struct Sum {
 /// octets is used again. Contracts see the octets that it shows.
 #[derive(Drop)]
 pub struct Text {
-    standing: Standing,
+    form: TextForm,
     octets: Vec<u8>,
 }
 
@@ -60,7 +60,7 @@ impl Model for Text {
 
     ghost Value = { List ℕ };
 
-    ghost view = { λ t. text_of t.standing t.octets.items };
+    ghost view = { λ t. text_of t.form t.octets.items };
 }
 
 impl Text {
@@ -68,7 +68,7 @@ impl Text {
         ensures { result ≡ [] }
     {
         Text {
-            standing: Standing::Empty,
+            form: TextForm::Empty,
             octets: Vec::new(alloc),
         }
     }
@@ -78,7 +78,7 @@ impl Text {
     pub(crate) fn clear(&mut self)
         ensures { self.new ≡ [] }
     {
-        self.standing = Standing::Empty;
+        self.form = TextForm::Empty;
     }
 
     /// Replaces the text by the digits of a number.
@@ -87,11 +87,11 @@ impl Text {
     {
         match u64::try_from(number) {
             Ok(count) => {
-                self.standing = Standing::Count(count);
+                self.form = TextForm::Count(count);
                 Ok(())
             }
             Err(_) => {
-                self.standing = Standing::Octets;
+                self.form = TextForm::Octets;
                 self.octets.clear();
                 self.octets
                     .extend_from_slice(Buffer::new().format(number).as_bytes())
@@ -122,7 +122,7 @@ impl Text {
     pub(crate) fn keep(&mut self, number: NumberField)
         ensures { self.new ≡ shown_value (as_field number) }
     {
-        self.standing = standing_of(number);
+        self.form = form_of(number);
     }
 
     /// Puts a short number in place of the text.
@@ -130,9 +130,9 @@ impl Text {
     pub(crate) fn keep_short(&mut self, short: ShortNumber)
         ensures { self.new ≡ short_text short }
     {
-        self.standing = match short.number {
-            Some(number) => Standing::Count(u64::from(number)),
-            None => Standing::Empty,
+        self.form = match short.number {
+            Some(number) => TextForm::Count(u64::from(number)),
+            None => TextForm::Empty,
         };
     }
 
@@ -140,7 +140,7 @@ impl Text {
     pub(crate) fn put_octets(&mut self, field: &Field) -> Result<(), OutOfMemory>
         ensures { OnOk result (self.new ≡ shown_value field.now) }
     {
-        self.standing = Standing::Octets;
+        self.form = TextForm::Octets;
         self.octets.clear();
         push_value(&mut self.octets, field)
     }
@@ -150,11 +150,11 @@ impl Text {
         ensures { OnOk result (text.new.items
             ≡ text.old.items ++ field_text default_writer self.now) }
     {
-        match self.standing {
-            Standing::Empty => Ok(()),
-            Standing::Octets => push_field(text, &self.octets),
-            Standing::Sum(sum) => push_sum(text, sum),
-            Standing::Count(count) => push_digits(text, count, 0),
+        match self.form {
+            TextForm::Empty => Ok(()),
+            TextForm::Octets => push_field(text, &self.octets),
+            TextForm::Sum(sum) => push_sum(text, sum),
+            TextForm::Count(count) => push_digits(text, count, 0),
         }
     }
 
@@ -167,26 +167,26 @@ impl Text {
             ≡ field_text default_writer self.now ++ drop end room.old) }
         ensures within { IfSome result (λ start. start ≤ end) }
     {
-        match self.standing {
-            Standing::Empty => Some(end),
-            Standing::Octets => write_octets(room, end, &self.octets),
-            Standing::Sum(sum) => write_number(room, end, sum),
-            Standing::Count(count) => write_count(room, end, count),
+        match self.form {
+            TextForm::Empty => Some(end),
+            TextForm::Octets => write_octets(room, end, &self.octets),
+            TextForm::Sum(sum) => write_number(room, end, sum),
+            TextForm::Count(count) => write_count(room, end, count),
         }
     }
 }
 
 /// Returns how a text shows the value of a field with a number.
 #[inline(always)]
-fn standing_of(field: NumberField) -> Standing
+fn form_of(field: NumberField) -> TextForm
     ensures { (octets : List ℕ) → text_of result octets ≡ shown_value (as_field field) }
 {
     let NumberField { fxy, spec, number } = field;
     if field.is_missing() {
-        return Standing::Empty;
+        return TextForm::Empty;
     }
     match spec.kind {
-        Kind::Text => Standing::Empty,
+        Kind::Text => TextForm::Empty,
         _ => standing_of_sum(sum_of(NumberField { fxy, spec, number })),
     }
 }
@@ -206,13 +206,13 @@ fn sum_of(field: NumberField) -> Sum
 
 /// Returns how a text shows a sum.
 #[inline(always)]
-fn standing_of_sum(sum: Sum) -> Standing
+fn standing_of_sum(sum: Sum) -> TextForm
     ensures { (octets : List ℕ) → text_of result octets ≡ sum_word sum }
 {
     if sum.reference == 0 && sum.scale == 0 {
-        Standing::Count(sum.number)
+        TextForm::Count(sum.number)
     } else {
-        Standing::Sum(sum)
+        TextForm::Sum(sum)
     }
 }
 

@@ -10,14 +10,14 @@ ghost use Rattle.bufr_select_rows.specs.Samples.{pressure, row_from, row_of_name
 ghost use Rattle.bufr_select_rows.specs.Samples.{shown_name, somewhere, sounding, sounding_columns};
 ghost use Rattle.bufr_select_rows.specs.Samples.{temperature, third_name, unsaid, wind};
 ghost use Rattle.bufr_select_rows.specs.Values.{shown_text, shown_value, trimmed};
-ghost use Rattle.bufr_select_rows.specs.declared.column.Column.TheVariants.{First, Nth, Told};
-ghost use Rattle.bufr_select_rows.specs.declared.told.Told.TheVariants.{Centre, Compressed, Observed};
-ghost use Rattle.bufr_select_rows.specs.declared.told.Told.TheVariants.{Subset};
+ghost use Rattle.bufr_select_rows.specs.declared.column.Column.TheVariants.{First, Nth, Fact};
+ghost use Rattle.bufr_select_rows.specs.declared.fact.Fact.TheVariants.{Centre, Compressed, Observed};
+ghost use Rattle.bufr_select_rows.specs.declared.fact.Fact.TheVariants.{Subset};
 
 /// The words of columns, and the words that commas part.
 #[tactic(auto, unfolding(crate::proofs::OnLiterals::rows_on_literals))]
 pub fn words_of_columns()
-    ensures facts { header (map Told all_told) ≡ line_of (codes "input,message,place,subset,centre,"
+    ensures facts { header (map Fact all_told) ≡ line_of (codes "input,message,place,subset,centre,"
         ++ codes "sub_centre,update,category,international,local_category,master_version,"
         ++ codes "local_version,year,month,day,hour,minute,second,observed,compressed") }
     ensures fields { map word (First temperature ∷ Nth temperature 1 ∷ Nth wind 2 ∷ Nth block 30
@@ -25,7 +25,7 @@ pub fn words_of_columns()
         ≡ codes "012101" ∷ codes "012101#1" ∷ codes "011001#2" ∷ codes "001001#30"
         ∷ codes "363255" ∷ codes "363255#18446744073709551615" ∷ [] }
     ensures one { header (First temperature ∷ []) ≡ line_of (codes "012101") }
-    ensures some { header (Nth wind 2 ∷ Told Centre ∷ First block ∷ [])
+    ensures some { header (Nth wind 2 ∷ Fact Centre ∷ First block ∷ [])
         ≡ line_of (codes "011001#2,centre,001001") }
     ensures parted { words_of (codes "centre,012101#2,,x y") ≡ codes "centre" ∷ codes "012101#2"
         ∷ [] ∷ codes "x y" ∷ [] }
@@ -47,11 +47,11 @@ pub fn limits_of_columns()
 /// The numbers of facts about a subset as a whole.
 #[tactic(auto, unfolding(crate::proofs::OnLiterals::rows_on_literals))]
 pub fn rows_of_facts()
-    ensures all { row_from (map Told all_told) []
+    ensures all { row_from (map Fact all_told) []
         ≡ line_of (codes "3,4,1840,21,258,772,5,6,7,8,9,10,2828,13,14,15,16,17,1,0") }
-    ensures flags { row (Told Observed ∷ Told Compressed ∷ [])
+    ensures flags { row (Fact Observed ∷ Fact Compressed ∷ [])
         (record somewhere { observed = false; compressed = true }) [] [] ≡ line_of (codes "0,1") }
-    ensures one { row_from (Told Subset ∷ []) (numbered block 6 ∷ []) ≡ line_of (codes "21") }
+    ensures one { row_from (Fact Subset ∷ []) (numbered block 6 ∷ []) ≡ line_of (codes "21") }
 {}
 
 /// The values of numbers, by scale and reference value.
@@ -138,7 +138,7 @@ pub fn rows_of_spans()
     ensures levels { rows sounding_columns (Some pressure) somewhere sounding
         ≡ line_of (codes "6,1000,13,13,14,,,") ++ line_of (codes "6,850,12,,,15,,")
         ++ line_of (codes "7,500,,,16,,7,") }
-    ensures from_first { rows (First pressure ∷ Nth temperature 2 ∷ First block ∷ Told Subset ∷ [])
+    ensures from_first { rows (First pressure ∷ Nth temperature 2 ∷ First block ∷ Fact Subset ∷ [])
         (Some block) somewhere sounding
         ≡ line_of (codes "1000,12,6,21") ++ line_of (codes ",,7,21") }
     ensures none { rows sounding_columns (Some absent) somewhere sounding ≡ [] }

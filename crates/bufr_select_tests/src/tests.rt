@@ -9,7 +9,7 @@ mod places;
 mod samples;
 
 use bufr_io::{Input, Tally, ToolFault, load_tables};
-use bufr_select_engine::{Outputs, Pair, columns_of, run_select};
+use bufr_select_engine::{Outputs, VersionTables, columns_of, run_select};
 use bufr_tables::{Fxy, Tables};
 use devices::{Reader, Writer};
 use samples::{
@@ -35,10 +35,10 @@ fn tables_of(rt: &impl Abort, alloc: Global, elements: &[u8]) -> Tables {
 }
 
 /// Makes the pair of tables that reads all versions.
-fn one_pair<'t>(rt: &impl Abort, alloc: Global, tables: &'t Tables) -> Vec<Pair<'t>> {
+fn one_pair<'t>(rt: &impl Abort, alloc: Global, tables: &'t Tables) -> Vec<VersionTables<'t>> {
     let mut pairs = Vec::new(alloc);
     pairs
-        .push(Pair::new(alloc, None, tables))
+        .push(VersionTables::new(alloc, None, tables))
         .ok()
         .expect(rt, "memory");
     pairs
@@ -97,7 +97,7 @@ fn allowed(reads: u32) -> u64
 fn assert_run(
     rt: &impl Abort,
     alloc: Global,
-    pairs: Vec<Pair<'_>>,
+    pairs: Vec<VersionTables<'_>>,
     run: Run<'_>,
     wanted: Result<(u128, u128), ToolFault>,
     rows: &[u8],
@@ -289,12 +289,12 @@ fn refusals_to_the_other_writer(rt: HostRuntime) {
 fn add_pair<'t>(
     rt: &impl Abort,
     alloc: Global,
-    pairs: &mut Vec<Pair<'t>>,
+    pairs: &mut Vec<VersionTables<'t>>,
     version: u8,
     tables: &'t Tables,
 ) {
     pairs
-        .push(Pair::new(alloc, Some(version), tables))
+        .push(VersionTables::new(alloc, Some(version), tables))
         .ok()
         .expect(rt, "memory");
 }

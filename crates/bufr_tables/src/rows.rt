@@ -9,7 +9,7 @@ use crate::numbers::{descriptor_of, signed_of, small_signed_of, small_unsigned_o
 /// The start of every common code table's unit.
 const COMMON_CODE_TABLE: &[u8] = b"Common Code table";
 
-fn front(text: &[u8], n: usize) -> &[u8]
+fn first_octets(text: &[u8], n: usize) -> &[u8]
     ensures { result.now ≡ take n text.now }
 {
     if text.len() <= n { text } else { &text[..n] }
@@ -24,7 +24,7 @@ fn kind_of(unit: &[u8]) -> Kind
         Kind::Code
     } else if unit.eq_ignore_ascii_case(b"Flag table") {
         Kind::Flag
-    } else if front(unit, COMMON_CODE_TABLE.len()).eq_ignore_ascii_case(COMMON_CODE_TABLE) {
+    } else if first_octets(unit, COMMON_CODE_TABLE.len()).eq_ignore_ascii_case(COMMON_CODE_TABLE) {
         Kind::Code
     } else {
         Kind::Quantity

@@ -23,7 +23,7 @@ use Rattle.bufr_fields.specs.declared.field.Subset.{Subset}
 use Rattle.bufr_fields.specs.declared.fault.DataFault.{DataFault}
 use Rattle.bufr_fields.specs.declared.fault.DataFault.TheVariants as faults
 use Rattle.bufr_data.specs.declared.compressed.head.ColumnHead.{ColumnHead}
-use Rattle.bufr_data.specs.declared.compressed.index.Place.{Place}
+use Rattle.bufr_data.specs.declared.compressed.index.ColumnStart.{ColumnStart}
 use Rattle.bufr_data.specs.Plain.{raw_bits, stopped}
 use Rattle.bufr_fields.specs.Steady.{IsReady}
 use Rattle.bufr_data.specs.Compressed.{Column, subset_of, subsets_from, IsColumn, equal}
@@ -146,7 +146,7 @@ one_agreed c later octets n i d bit spec head front rest values known on room e 
     let read = (agreed_found n i spec front (values, rest) e).0 in
     let there : column_at n 1 spec (drop bit (bits octets)) ≡ Ok (values, rest) =
     open_place octets n i bit d spec front (values, rest) read is in
-    let place : Place = record { fxy = d; spec = spec; bit = bit; head = head } in
+    let place : ColumnStart = record { fxy = d; spec = spec; bit = bit; head = head } in
     let column : ◌≡◌ {A = Column} (record { fxy = d; spec = spec; values = values })
     (column_from octets n place) =
     λ t. record { fxy = d; spec = spec; values = values_of (sym there t) } in (
@@ -208,7 +208,7 @@ behind_more cs c (Ok found) =
     ap (λ xs. Ok (record found { columns = xs })) (sym (append_assoc cs (c ∷ []) found.columns))
 behind_more cs c (Err e) = refl
 
-pub place_kept : (octets : List ℕ) (n i : ℕ) (ps grown : List Place) (p : Place)
+pub place_kept : (octets : List ℕ) (n i : ℕ) (ps grown : List ColumnStart) (p : ColumnStart)
     (whole : Result ColumnsFound DataFault) (c d : Course) (front rest : List Bool)
     → grown ≡ ps ++ p ∷ [] → i ≡ length ps + 1
     → whole ≡ behind_columns (map (column_from octets n) ps) (columns_at n (length ps + 1) c front)

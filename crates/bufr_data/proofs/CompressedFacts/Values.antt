@@ -17,7 +17,7 @@ use Rattle.bufr_expand.specs.declared.operators.Spec.{Spec}
 use Rattle.bufr_fields.specs.declared.field.Raw.{Raw}
 use Rattle.bufr_fields.specs.declared.field.Raw.TheVariants.{Number, Text}
 use Rattle.bufr_data.specs.declared.compressed.head.ColumnHead.{ColumnHead}
-use Rattle.bufr_data.specs.declared.compressed.index.Place.{Place}
+use Rattle.bufr_data.specs.declared.compressed.index.ColumnStart.{ColumnStart}
 use Rattle.bufr_fields.specs.Forms.{has_form_by}
 use Rattle.bufr_data.specs.Plain.{field_number_at}
 use Rattle.bufr_fields.specs.Fits.{HasForm}
@@ -229,7 +229,7 @@ value_at_column spec values column rest index is inside =
     let first = head_read spec (column ++ rest) one.minimum one.k one.rest one.heads in
     rw (first, number_at-bin 6 one.k one.rest one.heads.few) one.value
 
-pub value_there : (octets : List ℕ) (n index : ℕ) (p : Place) → Opens octets n p → index < n
+pub value_there : (octets : List ℕ) (n index : ℕ) (p : ColumnStart) → Opens octets n p → index < n
     → one_at p.spec index (drop p.bit (bits octets))
     ≡ Some (get_or (values_of (read_at octets n p)) index (Number 0))
 value_there octets n index p opens inside =
@@ -240,7 +240,7 @@ value_there octets n index p opens inside =
     ∙ value_at_column p.spec x.0.0 found.0 x.0.1 index found.2 short
     ∙ ap (λ vs. Some (get_or vs index (Number 0))) (ap values_of (sym x.1))
 
-pub form_there : (octets : List ℕ) (n index : ℕ) (p : Place) (v : Raw) → Opens octets n p
+pub form_there : (octets : List ℕ) (n index : ℕ) (p : ColumnStart) (v : Raw) → Opens octets n p
     → index < n → v ≡ get_or (values_of (read_at octets n p)) index (Number 0)
     → has_form_by p.spec.kind p.spec.width v ≡ true
 form_there octets n index p v opens inside is =

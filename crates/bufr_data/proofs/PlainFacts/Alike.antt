@@ -10,13 +10,13 @@ use Rattle.bufr_expand.specs.declared.walk.Step.TheVariants as steps
 use Rattle.bufr_expand.specs.declared.walk.Walk.{Walk}
 use Rattle.bufr_expand.specs.Courses.{Course, ends, stops, asks, course}
 use Rattle.bufr_expand.specs.Trees.{Tree}
-use Rattle.bufr_expand.specs.Unrolling.{Told, After, Allows, Unrolls}
+use Rattle.bufr_expand.specs.Unrolling.{NumberedField, After, Allows, Unrolls}
 use Rattle.bufr_expand.specs.Limits.{most_items}
 use Rattle.bufr_expand.specs.Steady.{IsSteady, course_steady}
 use Rattle.bufr_expand.specs.declared.run.Run.{Run}
 use Rattle.bufr_expand.specs.Runs.{HasWidth, AddUp, PassesRun, after_joined}
 use Rattle.bufr_expand.specs.Walks.{left, items_met, Goes}
-use Rattle.bufr_data.specs.declared.plain.alike.Alike.{Alike}
+use Rattle.bufr_data.specs.declared.plain.fixed_size.Alike.{Alike}
 use Rattle.bufr_fields.specs.declared.field.Field.{Field}
 use Rattle.bufr_data.specs.Plain.Alike.{TakesBits, TakeAll, IsAlike}
 use Rattle.bufr_fields.specs.declared.fault.DataFault.{DataFault}
@@ -46,7 +46,7 @@ number_takes spec b other few size = record {
 }
 
 -- a field with an unknown number
-abbrev pub untold : ℕ → Spec → Told
+abbrev pub untold : ℕ → Spec → NumberedField
 untold d spec = record { fxy = d; spec = spec; number = 0 }
 
 one_asked : (met d : ℕ) (spec : Spec) (more : ℕ → Course)
@@ -54,7 +54,7 @@ one_asked : (met d : ℕ) (spec : Spec) (more : ℕ → Course)
 unfolding After
 one_asked met d spec more = (refl, refl, refl)
 
-take_joined : (xs ys : List Told) (a b c : ℕ) → c ≡ a + b → TakeAll xs a → TakeAll ys b
+take_joined : (xs ys : List NumberedField) (a b c : ℕ) → c ≡ a + b → TakeAll xs a → TakeAll ys b
     → TakeAll (xs ++ ys) c
 take_joined [] ys a b c sum h g = let same : b ≡ c = omega (arith, sum, h) in subst (TakeAll ys) same g
 take_joined (x ∷ xs) ys a b c sum h g =
@@ -62,7 +62,7 @@ take_joined (x ∷ xs) ys a b c sum h g =
 
 -- the fields before the walk's place take these bits
 pub record Measured (c : Course) (bits : ℕ) (later : Course) : Type 0 where
-  pub fields : List Told
+  pub fields : List NumberedField
   pub behind : After c fields later
   pub taken : TakeAll fields bits
 
@@ -97,7 +97,7 @@ in_front_of : (field : Field) (fields : List Field) (o : Result SubsetRead DataF
 in_front_of field fields (Ok found) = refl
 in_front_of field fields (Err e) = refl
 
-asked_pass : (used i : ℕ) (c later : Course) (fields : List Told) (bits : ℕ) (front : List Bool)
+asked_pass : (used i : ℕ) (c later : Course) (fields : List NumberedField) (bits : ℕ) (front : List Bool)
     → IsSteady used c → After c fields later → TakeAll fields bits → bits ≤ length front
     → (read : List Field) × (fields_at 1 i c front
     ≡ behind_fields read (fields_at 1 (i + length fields) later (drop bits front)))
@@ -141,7 +141,7 @@ asked_pass used i (asks m d spec more) later (f ∷ fields) bits front steady as
           (fields_at 1 (i + length (f ∷ fields)) later xs)) rest,
     )
 
-fields_pass : (used met i : ℕ) (c : Course) (fields : List Told) (bits : ℕ) (front : List Bool)
+fields_pass : (used met i : ℕ) (c : Course) (fields : List NumberedField) (bits : ℕ) (front : List Bool)
     → IsSteady used c → Allows c fields met → TakeAll fields bits → bits ≤ length front
     → PassesSubset (fields_at 1 i c front) met (drop bits front)
 unfolding fields_at
@@ -163,7 +163,7 @@ width_takes spec has =
           number_takes spec spec.width other few refl
     ]
 
-widths_take : (fields : List Told) (bits : ℕ) → AddUp fields bits → TakeAll fields bits
+widths_take : (fields : List NumberedField) (bits : ℕ) → AddUp fields bits → TakeAll fields bits
 unfolding AddUp
 widths_take [] bits h = h
 widths_take (f ∷ fields) bits h =
@@ -201,9 +201,9 @@ turns_advance old new run passed = record {
 }
 
 pub alike_passes : (tree : Tree) (alike : Alike) (used : ℕ) (front rest : List Bool)
-    → ((tree : Tree) (used : ℕ) (fields : List Told) (met : ℕ)
+    → ((tree : Tree) (used : ℕ) (fields : List NumberedField) (met : ℕ)
     → used ≤ most_items → Allows (course tree used) fields met → Unrolls tree used fields met)
-    → ((tree : Tree) (used : ℕ) (fields : List Told) (met : ℕ)
+    → ((tree : Tree) (used : ℕ) (fields : List NumberedField) (met : ℕ)
     → Unrolls tree used fields met → Allows (course tree used) fields met)
     → IsAlike tree alike → used + alike.items ≤ most_items → alike.bits ≤ length front
     → rest ≡ drop alike.bits front

@@ -14,8 +14,8 @@ use Rattle.bufr_bits.specs.OctetLaws.{length-bits}
 use Rattle.bufr_expand.specs.Courses.{course}
 use Rattle.bufr_expand.specs.Limits.{most_items}
 use Rattle.bufr_expand.specs.Trees.{Tree}
-use Rattle.bufr_expand.specs.Unrolling.{Told, Allows, Unrolls}
-use Rattle.bufr_data.specs.declared.plain.alike.Alike.{Alike}
+use Rattle.bufr_expand.specs.Unrolling.{NumberedField, Allows, Unrolls}
+use Rattle.bufr_data.specs.declared.plain.fixed_size.Alike.{Alike}
 use Rattle.bufr_fields.specs.declared.field.Subset.{Subset}
 use Rattle.bufr_fields.specs.declared.fault.DataFault.{DataFault}
 use Rattle.bufr_data.specs.declared.plain.index.SubsetStart.{SubsetStart}
@@ -80,9 +80,9 @@ one_even bit each n k below =
 
 -- the laws of unrollings
 pub record Laws : Type 0 where
-  pub unrolled : (tree : Tree) (used : ℕ) (fields : List Told) (met : ℕ) → used ≤ most_items
+  pub unrolled : (tree : Tree) (used : ℕ) (fields : List NumberedField) (met : ℕ) → used ≤ most_items
       → Allows (course tree used) fields met → Unrolls tree used fields met
-  pub allowed : (tree : Tree) (used : ℕ) (fields : List Told) (met : ℕ)
+  pub allowed : (tree : Tree) (used : ℕ) (fields : List NumberedField) (met : ℕ)
       → Unrolls tree used fields met → Allows (course tree used) fields met
 
 -- n subsets of one size begin the bits, with their items after `used` others
@@ -96,9 +96,9 @@ pub record StandAlike (octets : List ℕ) (tree : Tree) (each : Alike) (bit used
   pub enough : n * each.bits ≤ length front
 
 pub stand_alike : (octets : List ℕ) (tree : Tree) (each : Alike) (bit place n : ℕ)
-    → ((tree : Tree) (used : ℕ) (fields : List Told) (met : ℕ)
+    → ((tree : Tree) (used : ℕ) (fields : List NumberedField) (met : ℕ)
     → used ≤ most_items → Allows (course tree used) fields met → Unrolls tree used fields met)
-    → ((tree : Tree) (used : ℕ) (fields : List Told) (met : ℕ)
+    → ((tree : Tree) (used : ℕ) (fields : List NumberedField) (met : ℕ)
     → Unrolls tree used fields met → Allows (course tree used) fields met)
     → IsAlike tree each → bit ≡ place → bit ≤ 8 * length octets → n * each.items ≤ most_items
     → n * each.bits ≤ length (drop place (bits octets))
@@ -194,9 +194,9 @@ alike_read octets tree each bit used j (suc n) front h =
 
 pub all_passed : (octets : List ℕ) (tree : Tree) (each : Alike) (place n : ℕ) (passed : Bool)
     (rest : List Bool)
-    → ((tree : Tree) (used : ℕ) (fields : List Told) (met : ℕ)
+    → ((tree : Tree) (used : ℕ) (fields : List NumberedField) (met : ℕ)
     → used ≤ most_items → Allows (course tree used) fields met → Unrolls tree used fields met)
-    → ((tree : Tree) (used : ℕ) (fields : List Told) (met : ℕ)
+    → ((tree : Tree) (used : ℕ) (fields : List NumberedField) (met : ℕ)
     → Unrolls tree used fields met → Allows (course tree used) fields met)
     → IsAlike tree each → place ≤ 8 * length octets → OnTrue passed (n * each.items ≤ most_items)
     → OnTrue passed (n * each.bits ≤ length (drop place (bits octets)))

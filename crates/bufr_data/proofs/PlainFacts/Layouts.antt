@@ -12,7 +12,7 @@ use Rattle.bufr_expand.specs.declared.walk.Walk.{Walk}
 use Rattle.bufr_expand.specs.Courses.{Course, ends, stops, asks, course}
 use Rattle.bufr_expand.specs.Trees.{Tree}
 use Rattle.bufr_expand.specs.Asked.{TellsNone}
-use Rattle.bufr_expand.specs.Unrolling.{Told, After}
+use Rattle.bufr_expand.specs.Unrolling.{NumberedField, After}
 use Rattle.bufr_expand.specs.Limits.{most_items}
 use Rattle.bufr_expand.specs.Runs.{after_joined}
 use Rattle.bufr_expand.specs.Steady.{IsSteady, course_steady}
@@ -65,7 +65,7 @@ one_laid c old new fields grown f is goes so_far =
     subst (λ x. P x (a.more 0)) (sym a.is) (one_asked a.met f a.more) in
     record {
       behind =
-          subst (λ (fs : List Told). After c fs (left new))
+          subst (λ (fs : List NumberedField). After c fs (left new))
           (sym (map_grown told_laid fields grown f is))
           (after_joined c (left old) (left new) (map told_laid fields) (told_laid f ∷ [])
           so_far.behind (subst (P (left old)) (sym a.after) asked));

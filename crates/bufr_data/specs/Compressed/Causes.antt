@@ -8,7 +8,7 @@ use Rattle.bufr_bits.specs.Bits.{bin, bits}
 use Rattle.bufr_tables.specs.declared.element.Kind.TheVariants as kinds
 use Rattle.bufr_expand.specs.declared.operators.Spec.{Spec}
 use Rattle.bufr_expand.specs.Trees.{Tree}
-use Rattle.bufr_expand.specs.Unrolling.{Told}
+use Rattle.bufr_expand.specs.Unrolling.{NumberedField}
 use Rattle.bufr_expand.specs.NextFields.{Next, wants, lacks, BeginsWithin, PassesLimit}
 use Rattle.bufr_fields.specs.declared.field.Raw.{Raw}
 use Rattle.bufr_fields.specs.declared.field.Raw.TheVariants.{Number, Text}
@@ -87,7 +87,7 @@ pub data ColumnRefused (count field : ℕ) (spec : Spec) (front : List Bool) (fa
 -- ---- the first column
 
 -- the fields of columns in the first subset, as unrollings have them
-abbrev pub told_first : List Column → List Told
+abbrev pub told_first : List Column → List NumberedField
 told_first columns = map told_of (map (field_of 0) columns)
 
 -- why after these columns neither a next column nor the end follows: an item is above the limit of

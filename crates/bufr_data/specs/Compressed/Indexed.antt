@@ -15,7 +15,7 @@ use Rattle.bufr_fields.specs.Limits.{most_raw_bits}
 use Rattle.bufr_tables.specs.declared.element.Kind.TheVariants as kinds
 use Rattle.bufr_tables.specs.Elements.{same_kind}
 use Rattle.bufr_data.specs.declared.compressed.head.ColumnHead.{ColumnHead}
-use Rattle.bufr_data.specs.declared.compressed.index.Place.{Place}
+use Rattle.bufr_data.specs.declared.compressed.index.ColumnStart.{ColumnStart}
 use Rattle.bufr_fields.specs.declared.fault.DataFault.{DataFault}
 use Rattle.bufr_data.specs.Plain.{raw_at}
 use Rattle.bufr_fields.specs.Increments.{raised}
@@ -33,11 +33,11 @@ values_of (Ok x) = x.0
 values_of (Err e) = []
 
 -- what is read at a place
-abbrev pub read_at : List ℕ → ℕ → Place → Result (List Raw × List Bool) DataFault
+abbrev pub read_at : List ℕ → ℕ → ColumnStart → Result (List Raw × List Bool) DataFault
 read_at octets n p = column_at n 1 p.spec (drop p.bit (bits octets))
 
 -- the column of n subsets at a place
-abbrev pub column_from : List ℕ → ℕ → Place → Column
+abbrev pub column_from : List ℕ → ℕ → ColumnStart → Column
 column_from octets n p = record {
   fxy = p.fxy;
   spec = p.spec;
@@ -57,12 +57,12 @@ pub record HasHead (octets : List ℕ) (bit : ℕ) (spec : Spec) (head : ColumnH
       ≡ Some (head.increment_bits, drop head.first (bits octets))
 
 -- a column of n subsets begins at a place, and its head, if kept, is the column's
-abbrev pub Opens : List ℕ → ℕ → Place → Type 0
+abbrev pub Opens : List ℕ → ℕ → ColumnStart → Type 0
 Opens octets n p = (p.bit ≤ 8 * length octets) × IsOk (read_at octets n p)
     × IfSome p.head (HasHead octets p.bit p.spec)
 
 -- a column begins at every place
-abbrev pub AllOpen : List ℕ → ℕ → List Place → Type 0
+abbrev pub AllOpen : List ℕ → ℕ → List ColumnStart → Type 0
 AllOpen octets n places = AllByRecursion (Opens octets n) places
 
 -- an index and the bits after its columns
@@ -125,7 +125,7 @@ behind_columns columns (Ok found) = Ok (record found { columns = columns ++ foun
 behind_columns columns (Err e) = Err e
 
 -- the column of field i was passed and begins at a place, or the subsets end
-abbrev pub PassesPlace : ℕ → ℕ → Course → List ℕ → List Bool → Option Place → Course → List Bool
+abbrev pub PassesPlace : ℕ → ℕ → Course → List ℕ → List Bool → Option ColumnStart → Course → List Bool
     → Type 0
 PassesPlace n i c octets front (Some p) next rest =
     Opens octets n p

@@ -6,10 +6,10 @@ use Rattle.bufr_tables.specs.Elements.{same_kind}
 use Rattle.bufr_expand.specs.declared.operators.Spec.{Spec}
 use Rattle.bufr_expand.specs.Courses.{course}
 use Rattle.bufr_expand.specs.Trees.{Tree}
-use Rattle.bufr_expand.specs.Unrolling.{Told, Allows}
-use Rattle.bufr_data.specs.declared.plain.alike.Alike.{Alike}
-use Rattle.bufr_data.specs.declared.plain.alike.FixedSize.{FixedSize}
-use Rattle.bufr_data.specs.declared.plain.alike.FixedSize.TheVariants.{Unasked, Same, Varied}
+use Rattle.bufr_expand.specs.Unrolling.{NumberedField, Allows}
+use Rattle.bufr_data.specs.declared.plain.fixed_size.Alike.{Alike}
+use Rattle.bufr_data.specs.declared.plain.fixed_size.FixedSize.{FixedSize}
+use Rattle.bufr_data.specs.declared.plain.fixed_size.FixedSize.TheVariants.{Unasked, Same, Varied}
 use Rattle.bufr_fields.specs.declared.fault.DataFault.TheVariants as faults
 use Rattle.bufr_data.specs.Plain.{raw_at}
 use Rattle.bufr_data.specs.Plain.Reads.{raw_or_ends}
@@ -30,7 +30,7 @@ abbrev pub NoBitsHold : Spec → Type 0
 NoBitsHold spec = (i : ℕ) (front : List Bool) → DataEndAt i spec front
 
 -- fields without counts take `bits` bits in all
-abbrev pub TakeAll : List Told → ℕ → Type 0
+abbrev pub TakeAll : List NumberedField → ℕ → Type 0
 TakeAll [] bits = bits ≡ 0
 TakeAll (field ∷ fields) bits = (own : ℕ) × (others : ℕ)
     × (same_kind field.spec.kind kinds.Count ≡ false) × TakesBits field.spec own
@@ -39,7 +39,7 @@ TakeAll (field ∷ fields) bits = (own : ℕ) × (others : ℕ)
 -- every subset of this tree has these bits and items: those of some fields that it allows, none of
 -- them a count
 pub record IsAlike (tree : Tree) (alike : Alike) : Type 0 where
-  pub fields : List Told
+  pub fields : List NumberedField
   pub allowed : Allows (course tree 0) fields alike.items
   pub taken : TakeAll fields alike.bits
 

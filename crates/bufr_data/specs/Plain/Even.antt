@@ -1,6 +1,6 @@
 -- The starts of plain subsets: listed, or evenly spaced in bits and in items.
 use Rattle.std.specs.Prelude.{ℕ, zero, suc, ◌+◌, ◌*◌, ◌<◌, ◌^◌, List, [], ◌∷◌}
-use Rattle.bufr_data.specs.declared.plain.alike.Alike.{Alike}
+use Rattle.bufr_data.specs.declared.plain.fixed_size.Alike.{Alike}
 use Rattle.bufr_data.specs.declared.plain.index.SubsetStart.{SubsetStart}
 use Rattle.bufr_data.specs.declared.plain.starts.Spacing.{Spacing}
 use Rattle.bufr_data.specs.declared.plain.starts.Spacing.TheVariants.{Listed, Even}

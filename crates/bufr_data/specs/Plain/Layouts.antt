@@ -11,13 +11,13 @@ use Rattle.bufr_expand.specs.Walks.{left, Goes}
 use Rattle.bufr_expand.specs.Courses.{Course, ends, asks, course}
 use Rattle.bufr_expand.specs.Trees.{Tree}
 use Rattle.bufr_expand.specs.Asked.{TellsNone}
-use Rattle.bufr_expand.specs.Unrolling.{Told, After, Allows}
+use Rattle.bufr_expand.specs.Unrolling.{NumberedField, After, Allows}
 use Rattle.bufr_expand.specs.Limits.{most_items}
 use Rattle.bufr_data.specs.declared.plain.layout.LaidField.{LaidField}
 use Rattle.bufr_data.specs.declared.plain.layout.Layout.{Layout}
-use Rattle.bufr_data.specs.declared.plain.plan.FieldLayout.{FieldLayout}
+use Rattle.bufr_data.specs.declared.plain.field_layout.FieldLayout.{FieldLayout}
 use Rattle.bufr_data.specs.Chosen.{is_listed, placed_from}
-use Rattle.bufr_data.specs.declared.plain.plan.FieldLayout.TheVariants.{Unserved, Served, Laid, Unlaid}
+use Rattle.bufr_data.specs.declared.plain.field_layout.FieldLayout.TheVariants.{Unserved, Served, Laid, Unlaid}
 
 -- the course that asks for these fields, whatever their numbers are, and then goes on
 unfoldable pub laid_then : List LaidField → Course → Course
@@ -29,7 +29,7 @@ abbrev pub laid_course : List LaidField → Course
 laid_course fields = laid_then fields (ends 0)
 
 -- a field of a layout as unrollings have it, with 0 for its unknown number
-abbrev pub told_laid : LaidField → Told
+abbrev pub told_laid : LaidField → NumberedField
 told_laid f = record { fxy = f.fxy; spec = f.spec; number = 0 }
 
 -- none of the fields is a count

@@ -9,7 +9,7 @@ ghost use Rattle.bufr_fields.specs.Values.{as_field};
 ghost use Rattle.bufr_data.specs.Plain.{plain};
 ghost use Rattle.bufr_data.specs.Subsets.{Extends, has_own_form};
 
-use crate::compressed::index::{Place, number_there, value};
+use crate::compressed::index::{ColumnStart, number_there, value};
 use crate::fields::by_parts;
 use crate::plain::write::put_raw;
 use crate::short::{ShortNumber, greatest_short};
@@ -25,7 +25,7 @@ use std::marker::Model;
 pub(crate) struct ColumnFields<'v> {
     pub(crate) octets: &'v [u8],
     pub(crate) subsets: u16,
-    pub(crate) places: &'v [Place],
+    pub(crate) places: &'v [ColumnStart],
     pub(crate) index: u16,
 }
 

@@ -37,7 +37,7 @@ use std::marker::Model;
 
 /// A place of a column: its field, its first bit, and its head if it has numbers.
 #[derive(Clone, Copy, PartialEq)]
-pub(crate) struct Place {
+pub(crate) struct ColumnStart {
     pub(crate) fxy: Fxy,
     pub(crate) spec: Spec,
     pub(crate) bit: u128,
@@ -49,7 +49,7 @@ pub(crate) struct Place {
 pub struct Columns<'a> {
     octets: &'a [u8],
     subsets: u16,
-    places: Vec<Place>,
+    places: Vec<ColumnStart>,
     chosen: ChosenPlaces,
 }
 
@@ -57,7 +57,7 @@ pub struct Columns<'a> {
 #[derive(Drop)]
 pub(crate) struct ChosenPlaces {
     pub(crate) asked: Items<u16>,
-    pub(crate) places: Vec<Place>,
+    pub(crate) places: Vec<ColumnStart>,
 }
 
 impl<'a> Model for Columns<'a> {
@@ -157,7 +157,7 @@ impl<'a> Columns<'a> {
         ensures { result ≡ (subset_of self.now.columns index).fields }
     {
         Fields {
-            standing: FieldSource::Compressed(self.column_fields(index)),
+            source: FieldSource::Compressed(self.column_fields(index)),
             room: self.places.len(),
         }
     }
@@ -215,7 +215,7 @@ fn places_for(
     asked: &[u16],
     reader: &mut BitReader,
     subsets: u16,
-) -> Result<(Vec<Place>, ChosenPlaces), Failure<DataFault>>
+) -> Result<(Vec<ColumnStart>, ChosenPlaces), Failure<DataFault>>
     ensures exact { Gives {Y = Ahead} (λ found. record {
       index = record {
         subsets = subsets;
@@ -237,7 +237,7 @@ fn places_for(
 fn choose_places(
     alloc: Global,
     asked: &[u16],
-    places: &[Place],
+    places: &[ColumnStart],
 ) -> Result<ChosenPlaces, OutOfMemory>
     ensures { IfOk result (AreChosen places.now) }
 {
@@ -262,7 +262,7 @@ fn column_places(
     template: &Template,
     reader: &mut BitReader,
     subsets: u16,
-) -> Result<Vec<Place>, Failure<DataFault>>
+) -> Result<Vec<ColumnStart>, Failure<DataFault>>
     ensures exact { Gives {Y = Ahead} (λ places. record {
       index = record {
         subsets = subsets;
@@ -295,7 +295,7 @@ fn next_place(
     reader: &mut BitReader,
     n: u16,
     i: u64,
-) -> Result<Option<Place>, DataFault>
+) -> Result<Option<ColumnStart>, DataFault>
     requires ready { IsReady walk.old }
     requires some { 0 < n }
     requires few { i ≤ most_items + 1 }
@@ -320,7 +320,7 @@ fn next_place(
             within_limit(n, i)?;
             pass_column(reader, spec, n, i)?;
             let head = head_at(octets, bit, spec);
-            Ok(Some(Place {
+            Ok(Some(ColumnStart {
                 fxy,
                 spec,
                 bit,
@@ -332,7 +332,7 @@ fn next_place(
             let number = pass_factor(reader, spec, n, i)?;
             walk.count(number);
             let head = head_at(octets, bit, spec);
-            Ok(Some(Place {
+            Ok(Some(ColumnStart {
                 fxy,
                 spec,
                 bit,
@@ -365,13 +365,18 @@ fn stop_fault(fault: WalkFault, n: u16, i: u64) -> DataFault
 
 /// Returns the value at an index of the column at a place, if it is a number.
 #[inline(always)]
-pub(crate) fn number_there(octets: &[u8], subsets: u16, place: Place, index: u16) -> Option<u64>
+pub(crate) fn number_there(
+    octets: &[u8],
+    subsets: u16,
+    place: ColumnStart,
+    index: u16,
+) -> Option<u64>
     requires stands { Opens octets.now subsets place }
     requires inside { index < subsets }
     ensures { IfSome result (λ n. Number n
         ≡ get_or (column_from octets.now subsets place).values index (Number 0)) }
 {
-    let Place {
+    let ColumnStart {
         spec,
         bit,
         head,
@@ -390,7 +395,7 @@ pub(crate) fn value(
     alloc: Global,
     octets: &[u8],
     subsets: u16,
-    place: Place,
+    place: ColumnStart,
     index: u16,
 ) -> Result<Raw, OutOfMemory>
     requires stands { Opens octets.now subsets place }
@@ -399,7 +404,7 @@ pub(crate) fn value(
         (Number 0)) }
     ensures formed { IfOk result (λ v. has_form_by place.spec.kind place.spec.width v ≡ true) }
 {
-    let Place { spec, bit, .. } = place;
+    let ColumnStart { spec, bit, .. } = place;
     if let Some(number) = number_there(octets, subsets, place, index) {
         return Ok(Raw::Number(number));
     }

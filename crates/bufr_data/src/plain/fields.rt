@@ -8,7 +8,7 @@ ghost use Rattle.bufr_data.specs.Handed.{StandAhead, StepsTo, StepsToNone, field
 ghost use Rattle.bufr_data.specs.declared.plain.fields.Due.TheVariants as dues;
 
 use crate::plain::layout::LaidField;
-use crate::plain::pass::{pass_bits, standing_bits};
+use crate::plain::pass::{pass_bits, present_bits};
 use crate::plain::read::{read_count, read_number, read_raw};
 use bufr_base::OutOfMemory;
 use bufr_bits::BitReader;
@@ -84,7 +84,7 @@ impl<'v> PlainFields<'v> {
             Due::Step => {}
             Due::Text(_) | Due::Nothing => return None,
         }
-        if self.walk.tells_no_more(asked) {
+        if self.walk.has_no_more(asked) {
             return None;
         }
         match next_chosen(asked, &mut self.walk, &mut self.reader) {
@@ -97,11 +97,11 @@ impl<'v> PlainFields<'v> {
     }
 
     /// Returns true if the walk shows that no chosen field is left.
-    pub(crate) fn tells_no_more<A: Asks>(&self, asked: &A) -> bool
+    pub(crate) fn has_no_more<A: Asks>(&self, asked: &A) -> bool
         ensures { OnTrue result (NoneAsked (A.is_asked asked.now) self.now) }
     {
         match self.due {
-            Due::Step => self.walk.tells_no_more_inside(asked),
+            Due::Step => self.walk.has_no_more_inside(asked),
             Due::Text(_) | Due::Nothing => false,
         }
     }
@@ -117,7 +117,7 @@ impl<'v> PlainFields<'v> {
         ensures err { OnErr result (PassesUnasked (A.is_asked asked.now) self.old self.new) }
     {
         if let Due::Step = self.due {
-            if self.walk.tells_no_more(asked) {
+            if self.walk.has_no_more(asked) {
                 self.due = Due::Nothing;
                 return Ok(None);
             }
@@ -165,7 +165,7 @@ fn next_chosen<A: Asks>(
                         None => Err(Due::Text(LaidField { fxy, spec })),
                     };
                 }
-                pass_bits(reader, standing_bits(spec));
+                pass_bits(reader, present_bits(spec));
             }
         }
     }

@@ -15,8 +15,8 @@ ghost use Rattle.bufr_data.specs.Plain.{fields_at};
 ghost use Rattle.bufr_data.specs.Plain.Starts.{PassesSubset, AllBegin, subset_from};
 
 use crate::fields::{FieldSource, Fields};
-use crate::plain::alike::Alike;
 use crate::plain::fields::{Due, PlainFields};
+use crate::plain::fixed_size::Alike;
 use crate::plain::laid_fields::LaidFields;
 use crate::plain::laid_reader::LaidReader;
 use crate::plain::layout::Layout;
@@ -88,7 +88,7 @@ impl<'a> PlainSubsets<'a> {
                 let fields = layout.fields.as_slice();
                 let laid = LaidFields { fields, reader };
                 Ok(Fields {
-                    standing: FieldSource::Laid(laid),
+                    source: FieldSource::Laid(laid),
                     room: fields.len(),
                 })
             }
@@ -102,7 +102,7 @@ impl<'a> PlainSubsets<'a> {
                     due: Due::Step,
                 };
                 Ok(Fields {
-                    standing: FieldSource::Plain(met),
+                    source: FieldSource::Plain(met),
                     room,
                 })
             }

@@ -8,7 +8,7 @@ ghost use Rattle.bufr_fields.specs.Values.{as_field};
 use crate::fields::by_parts;
 use crate::plain::laid_reader::LaidReader;
 use crate::plain::layout::LaidField;
-use crate::plain::pass::standing_bits;
+use crate::plain::pass::present_bits;
 use bufr_base::OutOfMemory;
 use bufr_expand::Asks;
 use bufr_fields::{Field, NumberField};
@@ -127,7 +127,7 @@ fn first_asked<'f, A: Asks>(
         if asked.asks(field.fxy) {
             return (left, bits);
         }
-        bits += standing_bits(field.spec);
+        bits += present_bits(field.spec);
         left = others;
     }
     (left, bits)

@@ -57,13 +57,13 @@ impl Layout {
                     let items = walk.items();
                     return laid_out(alloc, asked, fields, true, items);
                 }
-                _ => return Layout::of_front(alloc, template, asked),
+                _ => return Layout::up_to_last(alloc, template, asked),
             }
         }
     }
 
     /// Lays out the fields up to the last that is asked for.
-    fn of_front(
+    fn up_to_last(
         alloc: Global,
         template: &Template,
         asked: &[u16],
@@ -79,7 +79,7 @@ impl Layout {
             }
             let fxy = field.fxy;
             fields.push(field)?;
-            if listed.asks(fxy) && walk.tells_no_more(&listed) {
+            if listed.asks(fxy) && walk.has_no_more(&listed) {
                 let items = walk.items();
                 return laid_out(alloc, asked, fields, false, items);
             }

@@ -153,7 +153,7 @@ fn take_count(spec: Spec, reader: &mut BitReader, i: u64) -> Result<u64, DataFau
 }
 
 /// Returns the bits of a field that is there.
-pub(crate) fn standing_bits(spec: Spec) -> u64
+pub(crate) fn present_bits(spec: Spec) -> u64
     ensures { (front : List Bool) → IsOk (raw_or_ends 1 1 (raw_at spec front))
         → (result ≤ length front) × PassesRaw 1 spec front (drop result front) }
 {

@@ -2,7 +2,7 @@
 
 ghost use Rattle.std.specs.Prelude.{◌≡◌, ◌<◌, length, slice_get, Some};
 
-use crate::plain::alike::Alike;
+use crate::plain::fixed_size::Alike;
 use crate::plain::index::SubsetStart;
 use std::marker::Model;
 

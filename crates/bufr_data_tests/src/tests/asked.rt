@@ -351,8 +351,8 @@ fn none_left_along_a_walk(rt: HostRuntime) {
     assert!(&rt; 0 < index.count());
     let mut fields = index.fields(alloc, 0).expect(&rt, "room");
     for none in [false, false, false, false, true] {
-        same(&rt, fields.tells_no_more(&BLOCKS), true);
-        same(&rt, fields.tells_no_more(&TEMPERATURES), none);
+        same(&rt, fields.has_no_more(&BLOCKS), true);
+        same(&rt, fields.has_no_more(&TEMPERATURES), none);
         let found = fields.next(alloc).expect(&rt, "room");
         same(&rt, found.is_none(), none);
         drop(found);

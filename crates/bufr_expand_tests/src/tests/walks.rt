@@ -26,8 +26,8 @@ fn assert_tells(rt: &impl Abort, walk: &mut Walk<'_>, wanted: &[(bool, bool)])
     requires { waits walk.old ≡ false }
 {
     for told in wanted {
-        same(rt, walk.tells_no_more(&Temperatures), told.0);
-        same(rt, walk.tells_no_more_inside(&Temperatures), told.1);
+        same(rt, walk.has_no_more(&Temperatures), told.0);
+        same(rt, walk.has_no_more_inside(&Temperatures), told.1);
         let _step = step(walk, 1);
     }
 }

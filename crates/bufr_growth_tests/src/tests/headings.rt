@@ -3,7 +3,7 @@
 use crate::tests::refusals::repeated;
 use crate::tests::same;
 use crate::tests::samples::tables;
-use bufr_listing::KeptHeading;
+use bufr_listing::LastHeading;
 use bufr_message::LentSections;
 use bufr_message::listing::read;
 use bufr_tables::Tables;
@@ -48,7 +48,7 @@ fn assert_kept(
     rt: &impl Abort,
     alloc: Global,
     tables: &Tables,
-    kept: &mut KeptHeading,
+    kept: &mut LastHeading,
     listing: &[u8],
 ) {
     let messages = repeated!(rt, read(alloc, tables, listing));
@@ -61,7 +61,7 @@ fn assert_kept(
 
 fn keep_all(rt: &impl Abort, alloc: Global) {
     let tables = tables(rt, alloc);
-    let mut kept = KeptHeading::new(alloc);
+    let mut kept = LastHeading::new(alloc);
     for listing in LISTINGS {
         assert_kept(rt, alloc, &tables, &mut kept, *listing);
     }

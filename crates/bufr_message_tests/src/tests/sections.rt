@@ -2,7 +2,7 @@
 
 use bufr_base::Items;
 use bufr_sections::{
-    Envelope, Head, LentSections, are_listed, descriptors_of, read_sections, spell, spell_behind,
+    Envelope, Head, LentSections, append_spelling, are_listed, descriptors_of, read_sections, spell,
 };
 use bufr_tables::Fxy;
 use std::alloc::Global;
@@ -166,10 +166,10 @@ fn assert_spelt(rt: &impl Abort, alloc: Global, said: &Said<'_>, text: &str) {
     assert_behind(rt, alloc, said, wanted.as_slice());
 }
 
-/// `spell_behind` adds `wanted`, and keeps two octets before it.
+/// `append_spelling` adds `wanted`, and keeps two octets before it.
 fn assert_behind(rt: &impl Abort, alloc: Global, said: &Said<'_>, wanted: &[u8]) {
     let mut out = octets(rt, alloc, "1C1D");
-    spell_behind(&mut out, &said.sections, said.count, said.contents).expect(rt, "an answer");
+    append_spelling(&mut out, &said.sections, said.count, said.contents).expect(rt, "an answer");
     let others = [0x1C, 0x1D];
     same(rt, out.as_slice().get(..2), Some(others.as_slice()));
     same(rt, out.as_slice().get(2..), Some(wanted));
@@ -212,7 +212,7 @@ fn refused_behind_others(rt: HostRuntime) {
     let (head, descriptors) = (head_4(&rt, alloc), descriptors_4());
     let said = said_4(&head, &None, descriptors.as_slice());
     let mut out = octets(&rt, alloc, "1C1D");
-    let added = spell_behind(&mut out, &said.sections, 65_536, said.contents);
+    let added = append_spelling(&mut out, &said.sections, 65_536, said.contents);
     same(&rt, added.is_err(), true);
     let others = [0x1C, 0x1D];
     same(&rt, out.as_slice(), others.as_slice());

@@ -5,7 +5,7 @@ use crate::tests::devices::{Reader, Writer};
 use crate::tests::same;
 use crate::tests::samples::{EDITION_5, SOUNDING, TABLE_B, TABLE_D};
 use bufr_io::{Tally, ToolFault, load_tables};
-use bufr_select_engine::{Column, Outputs, Pair, columns_of, run_select};
+use bufr_select_engine::{Column, Outputs, VersionTables, columns_of, run_select};
 use bufr_tables::{Fxy, Tables};
 use std::alloc::Global;
 use std::process::Abort;
@@ -52,13 +52,13 @@ fn columns(rt: &impl Abort, alloc: Global) -> Vec<Column> {
     }
 }
 
-fn pairs<'t>(rt: &impl Abort, alloc: Global, tables: &'t Tables) -> Vec<Pair<'t>> {
+fn pairs<'t>(rt: &impl Abort, alloc: Global, tables: &'t Tables) -> Vec<VersionTables<'t>> {
     let mut pairs = match Vec::with_capacity(alloc, 1) {
         Ok(pairs) => pairs,
         Err(_) => Vec::with_capacity(alloc, 1).expect(rt, "what no longer is refused"),
     };
     pairs
-        .push(Pair::new(alloc, None, tables))
+        .push(VersionTables::new(alloc, None, tables))
         .ok()
         .expect(rt, "room for one");
     pairs

@@ -5,7 +5,7 @@ use super::samples::{
     NAMED_OF_THREE, OF_46, SEQUENCES, SOUNDING, TABLE_B, TEXTS, UNEQUAL,
 };
 use super::{Run, assert_run, joined, tables_of};
-use bufr_select_engine::Pair;
+use bufr_select_engine::VersionTables;
 use bufr_tables::Tables;
 use std::alloc::Global;
 use std::process::Abort;
@@ -127,10 +127,10 @@ fn pair_for<'t>(
     alloc: Global,
     tables: &'t Tables,
     list: &'t [u16],
-) -> Vec<Pair<'t>> {
+) -> Vec<VersionTables<'t>> {
     let mut pairs = Vec::new(alloc);
     pairs
-        .push(Pair::for_elements(alloc, None, tables, list))
+        .push(VersionTables::for_elements(alloc, None, tables, list))
         .ok()
         .expect(rt, "memory");
     pairs

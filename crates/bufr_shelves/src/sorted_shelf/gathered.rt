@@ -5,7 +5,7 @@ ghost use Rattle.bufr_entries.specs.Pages.{seen};
 use crate::shelf::Shelf;
 use crate::sorted_shelf::SortedShelf;
 use bufr_base::OutOfMemory;
-use bufr_entries::{Entry, Look, PagesLeft, ShelfBuilder};
+use bufr_entries::{Entry, LentEntry, PagesLeft, ShelfBuilder};
 use std::alloc::Global;
 
 impl SortedShelf {
@@ -31,7 +31,7 @@ fn put_all(alloc: Global, shelf: &mut SortedShelf, left: &mut PagesLeft) -> Resu
     Ok(())
 }
 
-fn put_copy(alloc: Global, shelf: &mut SortedShelf, look: Look) -> Result<(), OutOfMemory>
+fn put_copy(alloc: Global, shelf: &mut SortedShelf, look: LentEntry) -> Result<(), OutOfMemory>
     ensures { OnOk result (kept shelf.new ≡ kept (kept shelf.old ++ seen look.entry ∷ [])) }
 {
     let Entry { key, update, bytes } = look.copied(alloc)?;

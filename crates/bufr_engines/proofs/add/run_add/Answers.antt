@@ -6,7 +6,7 @@ use Rattle.bufr_tables.specs.Entries.{Entries}
 use Rattle.bufr_gather.specs.Archives.{ArchiveView}
 use Rattle.bufr_entries.specs.declared.entry.Entry.{Entry}
 use Rattle.bufr_io.specs.Engines.{WritesAfter}
-use Rattle.bufr_engines.specs.declared.parts.Part.{Part}
+use Rattle.bufr_engines.specs.declared.parts.PendingOctets.{PendingOctets}
 use Rattle.bufr_engines.specs.Adds.{AddsStreams}
 use Rattle.bufr_engines.specs.Collects.{Collects}
 use Rattle.bufr_engines.specs.Parts.{joined}
@@ -19,7 +19,7 @@ use Rattle.bufr_engines.proofs.add.run_add.Goals as goal
 pub loop-octets-init : goal.loop-octets-init
 loop-octets-init g c =
     let writer : Writing = g.W.Sink.writing c.args.writer.now in
-    let part : Part = record { octets = c.clear.new.self; written = 0 } in
+    let part : PendingOctets = record { octets = c.clear.new.self; written = 0 } in
     let is = ap (λ (xs : List (List ℕ)). length xs) c.lent-left.ensures in
     let few : length c.lent-left.result < 18446744073709551616 =
     omega (arith, c.len-reports.ensures, c.len-reports.type_inv, is) in
@@ -28,7 +28,7 @@ loop-octets-init g c =
 pub loop-octets-preserved : goal.loop-octets-preserved
 loop-octets-preserved g c =
     handed_next (g.W.Sink.writing c.args.writer.now) (g.W.Sink.writing c.loop-octets.writer)
-    (g.W.Sink.writing c.hand_on.new.writer) c.loop-octets.part c.hand_on.new.part
+    (g.W.Sink.writing c.hand_on.new.writer) c.loop-octets.pending c.hand_on.new.pending
     c.lent-left.result c.loop-octets.left c.next.new.self c.in-Some.octets.now
     c.loop-octets.invariant c.in-Some.ensures.taken c.in_ok-hand_on.ensures.hands
     c.in_ok-hand_on.ensures.short
@@ -54,7 +54,7 @@ returns-in_err-hand_on-clause-adds g c =
     (ap joined (c.lent-left.ensures ∙ c.in_ok-kept.ensures)
     ∙ joined_text c.add_streams.new.builder.entries)
     (handed_fails writer (g.W.Sink.writing c.loop-octets.writer)
-    (g.W.Sink.writing c.hand_on.new.writer) c.loop-octets.part c.lent-left.result
+    (g.W.Sink.writing c.hand_on.new.writer) c.loop-octets.pending c.lent-left.result
     c.loop-octets.left c.next.new.self c.in-Some.octets.now e c.loop-octets.invariant
     c.in-Some.ensures.taken c.in_err-hand_on.ensures.hands))
 
@@ -65,7 +65,7 @@ returns-in_err-write_out-clause-adds g c =
     let writer = g.W.Sink.writing c.args.writer.now in
     let mid = g.W.Sink.writing c.loop-octets.writer in
     let now = g.W.Sink.writing c.write_out.new.writer in
-    let part = c.loop-octets.part in
+    let part = c.loop-octets.pending in
     let same = ap (λ (a : ArchiveView). a.tables) c.new-builder.ensures in
     let e = c.in_err-write_out.field-0.0 in
     passed (Collects c.args.tables.now c.args.reads olds news writer now)
@@ -90,7 +90,7 @@ returns-clause-adds g c =
     let writer = g.W.Sink.writing c.args.writer.now in
     let mid = g.W.Sink.writing c.loop-octets.writer in
     let now = g.W.Sink.writing c.write_out.new.writer in
-    let part = c.loop-octets.part in
+    let part = c.loop-octets.pending in
     let same = ap (λ (a : ArchiveView). a.tables) c.new-builder.ensures in
     let done = c.in_ok-write_out.field-0 in
     collects_ok c.args.tables.now c.args.reads olds news writer now c.add_streams.new.builder

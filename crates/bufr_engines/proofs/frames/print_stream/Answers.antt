@@ -7,8 +7,8 @@ use Rattle.bufr_engines.proofs.StreamFacts.{since_none}
 use Rattle.bufr_engines.proofs.EngineFacts.{prints_early, prints_made, prints_nothing, prints_whole}
 use Rattle.bufr_engines.proofs.frames.print_stream.Goals as goal
 
-pub returns-in_err-room-clause-prints : goal.returns-in_err-room-clause-prints
-returns-in_err-room-clause-prints g c =
+pub returns-in_err-buffer-clause-prints : goal.returns-in_err-buffer-clause-prints
+returns-in_err-buffer-clause-prints g c =
     passed
     (Prints c.args.printing c.args.tables.now c.args.reads
     (g.S.Source.reading c.args.reader.now) (g.S.Source.reading c.args.reader.now)
@@ -49,7 +49,7 @@ pub print_tally-requires-clause-ended : goal.print_tally-requires-clause-ended
 print_tally-requires-clause-ended g c =
     let t = c.in_ok-fed.ensures.takes in (
       c.new-printer.result.printing,
-      c.new-printer.result.templates,
+      c.new-printer.result.message_reader,
       g.W.Sink.writing c.args.writer.now,
       t.1,
       record { printed = t.4.printed; long = t.5 },
@@ -64,8 +64,8 @@ returns-clause-prints g c =
     (g.S.Source.reading c.args.reader.now) (g.S.Source.reading c.take_stream.new.reader)
     (g.W.Sink.writing c.args.writer.now) (g.W.Sink.writing c.print_tally.new.writer) p
     c.print_tally.result e.printing e.tables
-    (prints_whole p.printing p.templates c.args.reads (g.S.Source.reading c.args.reader.now)
+    (prints_whole p.printing p.message_reader c.args.reads (g.S.Source.reading c.args.reader.now)
     (g.S.Source.reading c.take_stream.new.reader) (g.W.Sink.writing c.args.writer.now) _ t.1
     c.print_tally.result t.0 t.2 t.3
-    (c.print_tally.ensures p.printing p.templates (g.W.Sink.writing c.args.writer.now) t.1
+    (c.print_tally.ensures p.printing p.message_reader (g.W.Sink.writing c.args.writer.now) t.1
     (record { printed = t.4.printed; long = t.5 })))

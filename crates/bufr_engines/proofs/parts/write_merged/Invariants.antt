@@ -5,7 +5,7 @@ use Rattle.bufr_engines.proofs.parts.write_merged.Given as goal
 -- the entries before those left are written or gathered
 abbrev pub invariant-loop-octets : goal.invariant-loop-octets
 invariant-loop-octets g l =
-    Handed (g.W.Sink.writing l.initial.writer) (g.W.Sink.writing l.writer) l.part l.initial.left
+    Handed (g.W.Sink.writing l.initial.writer) (g.W.Sink.writing l.writer) l.pending l.initial.left
     l.left
 
 abbrev pub decreases-loop-octets : goal.decreases-loop-octets

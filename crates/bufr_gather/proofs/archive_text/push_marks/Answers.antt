@@ -16,7 +16,7 @@ pub loop-rest-init : goal.loop-rest-init
 loop-rest-init c =
     let octets = c.args.octets.now in
     record {
-      so_far = marked_none c.args.templates.now octets c.args.marks.now.items
+      so_far = marked_none c.args.message_reader.now octets c.args.marks.now.items
           (All-from_get_or (λ (x : ℕ). x < 2 ^ 8) octets 0
           (λ i below. omega (arith, c.type_inv.octets i))) c.requires;
       tables = refl;
@@ -24,7 +24,7 @@ loop-rest-init c =
 
 pub returns-in_default-clause-marks : goal.returns-in_default-clause-marks
 returns-in_default-clause-marks c =
-    let tables = c.args.templates.now in
+    let tables = c.args.message_reader.now in
     let before = option_map read c.loop-rest.before in
     let found = rw c.loop-rest.invariant.tables at c.in_ok-entry.ensures.is in
     let none : right_entry (entry_in tables) before c.loop-rest.rest.now ≡ None =
@@ -34,7 +34,7 @@ returns-in_default-clause-marks c =
 
 pub loop-rest-preserved : goal.loop-rest-preserved
 loop-rest-preserved c =
-    let tables = c.args.templates.now in
+    let tables = c.args.message_reader.now in
     let e = read c.in-Some.entry in
     let place = c.loop-rest.place + length c.in-Some.entry.bytes.now in
     let found = rw c.loop-rest.invariant.tables at c.in_ok-entry.ensures.is in
@@ -51,7 +51,7 @@ loop-rest-preserved c =
 pub loop-rest-smaller : goal.loop-rest-smaller
 loop-rest-smaller c =
     let found = rw c.loop-rest.invariant.tables at c.in_ok-entry.ensures.is in
-    let next = marked_more c.reports_are_entries.ensures c.args.templates.now c.args.octets.now
+    let next = marked_more c.reports_are_entries.ensures c.args.message_reader.now c.args.octets.now
     c.loop-rest.before c.loop-rest.place c.loop-rest.rest.now c.loop-rest.marks.items _ _
     c.in-Some.entry c.loop-rest.invariant.so_far found c.in-Some.is refl in
     let some = next.0 in
@@ -63,7 +63,7 @@ loop-rest-smaller c =
 
 pub returns-clause-marks : goal.returns-clause-marks
 returns-clause-marks c =
-    marked_all c.reports_are_entries.ensures c.args.templates.now c.args.octets.now
+    marked_all c.reports_are_entries.ensures c.args.message_reader.now c.args.octets.now
     (option_map read c.loop-rest.before) c.loop-rest.place c.loop-rest.rest.now
     c.loop-rest.marks.items _ c.loop-rest.invariant.so_far (omega arith)
     c.in_ok-push_mark-2.ensures

@@ -7,9 +7,9 @@ use Rattle.bufr_gather.proofs.archive_text.push_marks.Given as goal
 -- all entries before but the last have their marks, and the rest follows; the tables stay
 abbrev pub invariant-loop-rest : goal.invariant-loop-rest
 invariant-loop-rest l = record {
-  so_far : MarkedSoFar l.fn.templates l.fn.octets (option_map read l.before) l.place l.rest
+  so_far : MarkedSoFar l.fn.message_reader l.fn.octets (option_map read l.before) l.place l.rest
       l.marks.items;
-  tables : l.templates ≡ l.fn.templates;
+  tables : l.message_reader ≡ l.fn.message_reader;
 }
 
 -- each turn reads some octets

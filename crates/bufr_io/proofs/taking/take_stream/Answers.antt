@@ -18,7 +18,7 @@ loop-framer-init g c =
 
 pub returns-in_err-piece-clause-bounded : goal.returns-in_err-piece-clause-bounded
 returns-in_err-piece-clause-bounded g c =
-    unread_bounded c.args.source c.args.reads (g.S.Source.reading c.args.reader.now)
+    unread_bounded c.args.name c.args.reads (g.S.Source.reading c.args.reader.now)
     (g.S.Source.reading c.next.new.reader) c.next.new.self _ _
     (c.in_err-piece.ensures.reads _ _ _ _ c.loop-framer.invariant.so_far)
 
@@ -32,7 +32,7 @@ returns-in_err-piece-clause-takes g c =
     (g.T.TakesFrames.HoldsNone c.loop-framer.taker c.loop-framer.out)
     (g.T.TakesFrames.HasStopped c.args.taker.now c.args.out.now c.loop-framer.taker
     c.loop-framer.out)
-    c.args.source c.args.reads (g.S.Source.reading c.args.reader.now)
+    c.args.name c.args.reads (g.S.Source.reading c.args.reader.now)
     (g.S.Source.reading c.next.new.reader))
     c.from_residual.result c.in_err-piece.field-0.0 c.from_residual.ensures.1
     (unread c.next.new.self b.read (c.in_err-piece.ensures.reads _ _ _ _ b.so_far)
@@ -85,7 +85,7 @@ returns-in_err-take_piece-clause-takes g c =
     (g.T.TakesFrames.HoldsNone c.take_piece.new.taker c.take_piece.new.out)
     (g.T.TakesFrames.HasStopped c.args.taker.now c.args.out.now c.take_piece.new.taker
     c.take_piece.new.out)
-    c.args.source c.args.reads (g.S.Source.reading c.args.reader.now)
+    c.args.name c.args.reads (g.S.Source.reading c.args.reader.now)
     (g.S.Source.reading c.next.new.reader))
     c.from_residual-in_err-take_piece.result c.in_err-take_piece.field-0.0
     c.from_residual-in_err-take_piece.ensures.1
@@ -187,7 +187,7 @@ returns-in_err-take_frame-clause-takes g c =
     (g.T.TakesFrames.HoldsNone c.take_frame.new.self c.take_frame.new.out)
     (g.T.TakesFrames.HasStopped c.args.taker.now c.args.out.now c.take_frame.new.self
     c.take_frame.new.out)
-    c.args.source c.args.reads (g.S.Source.reading c.args.reader.now)
+    c.args.name c.args.reads (g.S.Source.reading c.args.reader.now)
     (g.S.Source.reading c.next.new.reader))
     c.from_residual-in_err-take_frame.result c.in_err-take_frame.field-0.0
     c.from_residual-in_err-take_frame.ensures.1

@@ -5,7 +5,7 @@ use Rattle.std.proofs.lemmas.List.{take_all}
 use Rattle.std.proofs.lemmas.Result.{MatchResult-from_err}
 use Rattle.std.proofs.lemmas.Iterator.{YieldsList-from_slice}
 use Rattle.std.proofs.lemmas.Iterator.Search.{all_from_yields_List}
-use Rattle.bufr_listing.specs.Listings.{stands_for_itself, quoted_octet}
+use Rattle.bufr_listing.specs.Listings.{is_literal, quoted_octet}
 use Rattle.bufr_listing.proofs.QuoteFacts.{printed_themselves, on_ok_same, between_quotes}
 use Rattle.bufr_listing.proofs.FrontFacts.{one_more, front_kept, front_kept_where_failed}
 use Rattle.bufr_listing.proofs.fields.push_quoted.Goals as goal
@@ -13,8 +13,8 @@ use Rattle.bufr_listing.proofs.fields.push_quoted.Goals as goal
 pub returns-then-all-clause-ok : goal.returns-then-all-clause-ok
 returns-then-all-clause-ok c =
     let octets = c.args.octets.now in
-    let same : c.all.result ≡ list_all stands_for_itself octets =
-    all_from_yields_List stands_for_itself _ _ c.all.result c.all.ensures.ran
+    let same : c.all.result ≡ list_all is_literal octets =
+    all_from_yields_List is_literal _ _ c.all.result c.all.ensures.ran
     (YieldsList-from_slice octets c.iter.ensures.rest) (λ x b q k. search (rules, tests)) in
     let all = sym same ∙ c.if-all.true in
     on_ok_same c.extend_from_slice-then-all.result _ _ _ _

@@ -11,16 +11,16 @@ use Rattle.bufr_listing_reader.proofs.DescriptorFacts.{untitled_descriptors, des
 use Rattle.bufr_listing_reader.proofs.DescriptorFacts.{no_descriptor, descriptors_are}
 use Rattle.bufr_listing_reader.proofs.head_lines.descriptors_of.Goals.{in_default-via-in-Some+else-not-is_empty}
 use Rattle.bufr_listing_reader.proofs.head_lines.descriptors_of.Goals.{in_default-via-in_default}
-use Rattle.bufr_listing_reader.proofs.head_lines.descriptors_of.Goals.{After-behind_first}
+use Rattle.bufr_listing_reader.proofs.head_lines.descriptors_of.Goals.{After-after_first}
 use Rattle.bufr_listing_reader.proofs.head_lines.descriptors_of.Goals as goal
 
-in_words : (c : After-behind_first) → words_of c.args.line.text.now
-    ≡ codes "descriptors" ∷ words_left c.behind_first.result
+in_words : (c : After-after_first) → words_of c.args.line.text.now
+    ≡ codes "descriptors" ∷ words_left c.after_first.result
 in_words c =
     let text = c.args.line.text.now in
-    titled_words text (codes "descriptors") (words_left c.behind_first.result)
+    titled_words text (codes "descriptors") (words_left c.after_first.result)
     (bytes_same (first_word text) (codes "descriptors") (sym c.begins.ensures
-    ∙ c.if-not-begins.false)) c.behind_first.ensures
+    ∙ c.if-not-begins.false)) c.after_first.ensures
 
 pub returns-then-not-begins-clause-fault : goal.returns-then-not-begins-clause-fault
 returns-then-not-begins-clause-fault c = λ tables.
@@ -31,8 +31,8 @@ pub returns-in_default-clause-fault : goal.returns-in_default-clause-fault
 returns-in_default-clause-fault c = λ tables.
     let n = c.args.line.number in
     let text = c.args.line.text.now in
-    let ws = words_left c.behind_first.result in
-    let e = in_words (goal.at.returns-in_default-clause-fault c).After-behind_first in
+    let ws = words_left c.after_first.result in
+    let e = in_words (goal.at.returns-in_default-clause-fault c).After-after_first in
     let bad : read_descriptors tables n (as_printed text) ≡ Err (BadLine n) =
     elim c.in_default.branch [
       | in_default-via-in-Some+else-not-is_empty w ↦
@@ -54,11 +54,11 @@ returns-in_default-clause-fault c = λ tables.
 
 pub returns-in-Some-clause-ok : goal.returns-in-Some-clause-ok
 returns-in-Some-clause-ok c = λ tables.
-    let e = in_words (goal.at.returns-in-Some-clause-ok c).After-behind_first in
+    let e = in_words (goal.at.returns-in-Some-clause-ok c).After-after_first in
     let found =
     sym c.in_ok-descriptors.ensures
     ∙ ap (λ (o : Option (Vec Fxy Global)). option_map (λ ns. ns.items) o) c.in-Some.is in
     let some = ap (λ (n : ℕ). n == 0) (sym c.in-Some.descriptors.ok.0) ∙ sym c.is_empty.ensures
     ∙ c.if-not-is_empty.true in
     descriptors_are c.descriptor_texts.ensures tables c.args.line.number c.args.line.text.now
-    (words_left c.behind_first.result) c.in-Some.descriptors.items e found some
+    (words_left c.after_first.result) c.in-Some.descriptors.items e found some

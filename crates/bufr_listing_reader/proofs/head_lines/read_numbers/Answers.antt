@@ -10,16 +10,16 @@ use Rattle.bufr_listing_reader.specs.Reading.{read_numbers}
 use Rattle.bufr_listing_reader.proofs.FieldFacts.{bytes_same}
 use Rattle.bufr_listing_reader.proofs.CallFacts.{taken_ok, taken_err, titled_words}
 use Rattle.bufr_listing_reader.proofs.NumberFacts.{untitled_numbers, numbers_are, numbers_are_not}
-use Rattle.bufr_listing_reader.proofs.head_lines.read_numbers.Goals.{After-behind_first-words}
+use Rattle.bufr_listing_reader.proofs.head_lines.read_numbers.Goals.{After-after_first-words}
 use Rattle.bufr_listing_reader.proofs.head_lines.read_numbers.Goals as goal
 
-in_words : (c : After-behind_first-words) → words_of c.in_ok-line.line.text.now
-    ≡ c.args.title.now ∷ words_left c.behind_first-words.result
+in_words : (c : After-after_first-words) → words_of c.in_ok-line.line.text.now
+    ≡ c.args.title.now ∷ words_left c.after_first-words.result
 in_words c =
     let text = c.in_ok-line.line.text.now in
-    titled_words text c.args.title.now (words_left c.behind_first-words.result)
+    titled_words text c.args.title.now (words_left c.after_first-words.result)
     (bytes_same (first_word text) c.args.title.now (sym c.begins.ensures ∙ c.if-not-begins.false))
-    c.behind_first-words.ensures
+    c.after_first-words.ensures
 
 pub returns-then-not-begins-clause-read : goal.returns-then-not-begins-clause-read
 returns-then-not-begins-clause-read c =
@@ -41,9 +41,9 @@ returns-in-Some-clause-read c =
     taken_ok (read_numbers title limits) (past c.args.lines.now) (left c.args.lines.now)
     (printed c.in_ok-line.line) (left c.take.new.self) c.in-Some.numbers.items
     c.in_ok-line.ensures.taken (numbers_are title limits c.in_ok-line.line.number
-    c.in_ok-line.line.text.now (words_left c.behind_first-words.result) c.in-Some.numbers.items
+    c.in_ok-line.line.text.now (words_left c.after_first-words.result) c.in-Some.numbers.items
     c.requires.word c.requires.short c.requires.plain
-    (in_words (goal.at.returns-in-Some-clause-read c).After-behind_first-words) found)
+    (in_words (goal.at.returns-in-Some-clause-read c).After-after_first-words) found)
 
 pub returns-in-None-clause-read : goal.returns-in-None-clause-read
 returns-in-None-clause-read c =
@@ -57,8 +57,8 @@ returns-in-None-clause-read c =
     (left c.args.lines.now) (printed c.in_ok-line.line) (left c.take.new.self)
     (Fault (BadValue n)) c.in_ok-line.ensures.taken
     (numbers_are_not title limits n c.in_ok-line.line.text.now
-    (words_left c.behind_first-words.result) c.requires.word c.requires.short c.requires.plain
-    (in_words (goal.at.returns-in-None-clause-read c).After-behind_first-words) none
+    (words_left c.after_first-words.result) c.requires.word c.requires.short c.requires.plain
+    (in_words (goal.at.returns-in-None-clause-read c).After-after_first-words) none
     ∙ ap (λ b. Err (if b then BadValue n else BadLine n))
     (sym c.has_count.ensures ∙ c.if-has_count.true)))
 
@@ -74,7 +74,7 @@ returns-in-None-2-clause-read c =
     (left c.args.lines.now) (printed c.in_ok-line.line) (left c.take.new.self)
     (Fault (BadLine n)) c.in_ok-line.ensures.taken
     (numbers_are_not title limits n c.in_ok-line.line.text.now
-    (words_left c.behind_first-words.result) c.requires.word c.requires.short c.requires.plain
-    (in_words (goal.at.returns-in-None-2-clause-read c).After-behind_first-words) none
+    (words_left c.after_first-words.result) c.requires.word c.requires.short c.requires.plain
+    (in_words (goal.at.returns-in-None-2-clause-read c).After-after_first-words) none
     ∙ ap (λ b. Err (if b then BadValue n else BadLine n))
     (sym c.has_count.ensures ∙ c.if-has_count.false)))

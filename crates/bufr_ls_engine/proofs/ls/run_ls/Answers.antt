@@ -29,8 +29,8 @@ returns-in_err-hand_on-clause-lists g c =
     c.in_ok-tally.ensures.lists c.in_err-hand_on.ensures))
 
 -- there was no memory to read into
-pub returns-in_err-room-clause-front : goal.returns-in_err-room-clause-front
-returns-in_err-room-clause-front g c =
+pub returns-in_err-buffer-clause-front : goal.returns-in_err-buffer-clause-front
+returns-in_err-buffer-clause-front g c =
     passed
     (λ r. IfErr r (WritesFront c.args.columns.now (map g.S.Source.reading c.args.inputs.now)
     (g.W.Sink.writing c.args.writer.now) (g.W.Sink.writing c.args.writer.now)))

@@ -19,8 +19,8 @@ fixed_octets-fixed-requires-clause-listed c =
     length_of_spelling (envelope_lent c.args.sections.now c.args.count c.args.contents.now) in
     omega (arith, long, c.requires.long, c.requires.short)
 
-pub push_front-requires : goal.push_front-requires
-push_front-requires c =
+pub push_before_descriptors-requires : goal.push_before_descriptors-requires
+push_before_descriptors-requires c =
     let long =
     length_of_spelling (envelope_lent c.args.sections.now c.args.count c.args.contents.now) in
     omega (arith, long, c.requires.long, c.requires.short)
@@ -37,7 +37,7 @@ returns-clause-ok c =
     message_put (envelope_lent c.args.sections.now c.args.count c.args.contents.now)
     c.args.out.now.items c.fixed_octets-fixed.result _ _ _ _ c.args.total
     c.fixed_octets-fixed.ensures.start c.fixed_octets-fixed.ensures.end c.requires.long
-    c.in_ok-push_front.ensures.ok c.in_ok-push_descriptors.ensures.ok
+    c.in_ok-push_before_descriptors.ensures.ok c.in_ok-push_descriptors.ensures.ok
     c.in_ok-push_section.ensures.ok in
     on_ok_weaker c.extend_from_slice.result whole
     (when_ok c.extend_from_slice.result _ _ _ c.extend_from_slice.ensures.items)

@@ -91,8 +91,8 @@ returns-in_err-hand_on-clause-selects g c =
     c.in_err-hand_on.ensures refl))
 
 -- there was no memory to read into
-pub returns-in_err-room-clause-front : goal.returns-in_err-room-clause-front
-returns-in_err-room-clause-front g c =
+pub returns-in_err-buffer-clause-front : goal.returns-in_err-buffer-clause-front
+returns-in_err-buffer-clause-front g c =
     let w = g.W.Sink.writing c.args.out.now.rows in
     let s : Selection = record {
       pairs = c.args.pairs.items;

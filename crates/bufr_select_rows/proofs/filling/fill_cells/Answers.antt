@@ -17,10 +17,10 @@ returns-then-settled-cells-clause-row g c =
     (omega (arith, c.if-settled-cells.true)) c.first_unsettled-settled.ensures)
 
 -- no cell waits for a field that is left
-pub returns-then-tells_no_more-clause-row : goal.returns-then-tells_no_more-clause-row
-returns-then-tells_no_more-clause-row g c =
+pub returns-then-has_no_more-clause-row : goal.returns-then-has_no_more-clause-row
+returns-then-has_no_more-clause-row g c =
     c.fields.invariant.row
-    ∙ rows_unmoved c.fields.cells (g.P.Picks.left c.fields.fields) c.if-tells_no_more.ensures
+    ∙ rows_unmoved c.fields.cells (g.P.Picks.left c.fields.fields) c.if-has_no_more.ensures
 
 -- one number more was taken
 pub fields-preserved-in-Some : goal.fields-preserved-in-Some

@@ -10,7 +10,7 @@ abbrev pub invariant-loop-rest : goal.invariant-loop-rest
 invariant-loop-rest g l = record {
   so_far : ReadSoFar (IsReportEntry l.fn.tables) l.fn.octets (g.S.Shelf.entries l.shelf)
       (option_map read l.before) l.place l.rest;
-  tables : l.templates ≡ l.fn.tables;
+  tables : l.message_reader ≡ l.fn.tables;
 }
 
 -- each turn reads some octets

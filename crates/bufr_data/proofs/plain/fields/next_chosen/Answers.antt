@@ -16,7 +16,7 @@ pass_element-requires g c = c.elements.invariant.ahead.0.answered
 
 pub pass_bits-requires : goal.pass_bits-requires
 pass_bits-requires g c =
-    (c.standing_bits.ensures (left c.elements.reader)
+    (c.present_bits.ensures (left c.elements.reader)
     (value_there _ _ _ _ _ c.elements.invariant.ahead c.in-Some.ensures.passed)).0
 
 pub read_number-requires : goal.read_number-requires
@@ -74,7 +74,7 @@ elements-smaller g c =
     let p =
     field_passed (g.A.Asks.is_asked c.args.asked.now) _ _ _ _ _ _ c.elements.invariant.ahead
     c.in-Some.ensures.passed (sym c.asks-in-Some.ensures ∙ c.if-asks-2.false)
-    c.standing_bits.ensures in
+    c.present_bits.ensures in
     rw c.pass_bits.ensures (omega (arith, ap length p.1.2))
 
 pub elements-preserved : goal.elements-preserved
@@ -83,6 +83,6 @@ elements-preserved g c =
     let asks = g.A.Asks.is_asked c.args.asked.now in
     let p =
     field_passed asks _ _ _ _ _ _ inv.ahead c.in-Some.ensures.passed
-    (sym c.asks-in-Some.ensures ∙ c.if-asks-2.false) c.standing_bits.ensures in
+    (sym c.asks-in-Some.ensures ∙ c.if-asks-2.false) c.present_bits.ensures in
     rw c.pass_bits.ensures
     (record { ahead = p.0; passed = one_passed asks _ _ _ inv.passed p.1 })

@@ -17,17 +17,17 @@ pub overflow_add-bits : goal.overflow_add-bits
 overflow_add-bits g c =
     let more =
     one_more_passed (g.A.Asks.is_asked c.args.asked.now) c.args.fields.now c.loop-field.left.now c.in-Some.others.now
-    c.in-Some.field.now c.args.reader.now c.loop-field.bits c.standing_bits-bits.result
+    c.in-Some.field.now c.args.reader.now c.loop-field.bits c.present_bits-bits.result
     c.in-Some.ensures.cases.0 c.loop-field.invariant (sym c.asks.ensures ∙ c.if-asks.false)
-    c.standing_bits-bits.ensures in
+    c.present_bits-bits.ensures in
     omega (arith, more.within, c.left-most.ensures.bits)
 
 pub loop-field-preserved : goal.loop-field-preserved
 loop-field-preserved g c =
     one_more_passed (g.A.Asks.is_asked c.args.asked.now) c.args.fields.now c.loop-field.left.now c.in-Some.others.now
-    c.in-Some.field.now c.args.reader.now c.loop-field.bits c.standing_bits-bits.result
+    c.in-Some.field.now c.args.reader.now c.loop-field.bits c.present_bits-bits.result
     c.in-Some.ensures.cases.0 c.loop-field.invariant (sym c.asks.ensures ∙ c.if-asks.false)
-    c.standing_bits-bits.ensures
+    c.present_bits-bits.ensures
 
 pub returns-clause-asked : goal.returns-clause-asked
 returns-clause-asked g c =

@@ -12,23 +12,23 @@ use Rattle.bufr_data.proofs.subset_index.SubsetIndex.put_bits.Goals as goal
 pub overflow_cast-index : goal.overflow_cast-index
 overflow_cast-index c =
     let many =
-    many_shown c.self.inside.standing c.in-Compressed.columns c.args.self.now c.self.view_is
+    many_shown c.self.inside.data_index c.in-Compressed.columns c.args.self.now c.self.view_is
     c.in-Compressed.is in
     omega (arith, c.requires, many, c.count-count.ensures, c.count-count.type_inv)
 
 pub put-requires : goal.put-requires
 put-requires c =
     let many =
-    many_shown c.self.inside.standing c.in-Compressed.columns c.args.self.now c.self.view_is
+    many_shown c.self.inside.data_index c.in-Compressed.columns c.args.self.now c.self.view_is
     c.in-Compressed.is in
     omega (arith, c.requires, many)
 
 pub returns-in-Compressed-clause-put : goal.returns-in-Compressed-clause-put
 returns-in-Compressed-clause-put c =
     let many =
-    many_shown c.self.inside.standing c.in-Compressed.columns c.args.self.now c.self.view_is
+    many_shown c.self.inside.data_index c.in-Compressed.columns c.args.self.now c.self.view_is
     c.in-Compressed.is in
-    rw (one_shown {E = Unit {0}} c.self.inside.standing c.in-Compressed.columns c.args.self.now
+    rw (one_shown {E = Unit {0}} c.self.inside.data_index c.in-Compressed.columns c.args.self.now
     c.args.index (Ok (subset_of c.in-Compressed.columns.columns c.args.index))
     c.self.view_is c.in-Compressed.is (omega (arith, c.requires, many)) refl)
     c.put.ensures.put

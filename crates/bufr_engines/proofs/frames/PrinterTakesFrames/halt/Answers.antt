@@ -10,7 +10,7 @@ stop-requires g c =
     record {
       stopped = (
         g.W.Sink.writing s.1,
-        frames_text s.0.printing s.0.templates s.2,
+        frames_text s.0.printing s.0.message_reader s.2,
         halted _ _ _ _ c.args.self.now c.args.self.now s.2 s.3.printed s.4.count refl refl,
       );
     }
@@ -18,6 +18,6 @@ stop-requires g c =
 pub returns : goal.returns
 returns g c first begin frames h =
     let s = c.requires in
-    c.stop.ensures (g.W.Sink.writing begin) (frames_text first.printing first.templates frames)
+    c.stop.ensures (g.W.Sink.writing begin) (frames_text first.printing first.message_reader frames)
     (halted _ _ _ _ c.args.self.now c.args.self.now frames h.printed
     (omega (arith, h.printed.frames_are, s.3.printed.frames_are, s.4.count)) refl refl)

@@ -50,8 +50,8 @@ stop-requires g c =
     record {
       stopped = (
         g.W.Sink.writing s.1,
-        frames_text s.0.printing s.0.templates (s.2 ++ frame ∷ []),
-        stopped s.0.printing s.0.templates (g.W.Sink.writing s.1)
+        frames_text s.0.printing s.0.message_reader (s.2 ++ frame ∷ []),
+        stopped s.0.printing s.0.message_reader (g.W.Sink.writing s.1)
             (g.W.Sink.writing c.args.out.now) (g.W.Sink.writing c.print_frame.new.writer)
             c.args.self.now c.print_frame.new.self s.2 frame _ s.3.printed
             c.in-Err.ensures.prints,
@@ -62,7 +62,7 @@ pub returns-in-Err-clause-stopped : goal.returns-in-Err-clause-stopped
 returns-in-Err-clause-stopped g c first begin frames h =
     let frame = frame_at c.args.place c.args.octets.now in
     c.stop.ensures (g.W.Sink.writing begin)
-    (frames_text first.printing first.templates (frames ++ frame ∷ []))
-    (stopped first.printing first.templates (g.W.Sink.writing begin)
+    (frames_text first.printing first.message_reader (frames ++ frame ∷ []))
+    (stopped first.printing first.message_reader (g.W.Sink.writing begin)
     (g.W.Sink.writing c.args.out.now) (g.W.Sink.writing c.print_frame.new.writer) c.args.self.now
     c.print_frame.new.self frames frame _ h.printed c.in-Err.ensures.prints)

@@ -15,7 +15,7 @@ returns-in_err-refused-clause-prints g c =
     let p = c.args.self.now in
     let short = c.print_message.ensures.short in
     passed
-    (PrintsFrame p.printing p.templates (frame_at c.args.place c.args.octets.now) p
+    (PrintsFrame p.printing p.message_reader (frame_at c.args.place c.args.octets.now) p
     c.print_message.new.self (g.W.Sink.writing c.args.writer.now)
     (g.W.Sink.writing c.print_message.new.writer))
     c.from_residual.result c.in_err-refused.field-0.0 c.from_residual.ensures.1
@@ -36,14 +36,14 @@ returns-clause-prints g c =
     let e = c.in_ok-refused.ensures in
     let is = c.count.ensures in
     let text = subst (λ (x : Printer). WritesAllBut x.held.items
-    (p.held.items ++ frame_text p.printing p.templates frame) p.written x.written first mid)
+    (p.held.items ++ frame_text p.printing p.message_reader frame) p.written x.written first mid)
     (sym is) e.prints in
     let frames = ap (λ (x : Printer). x.frames) is in
     let refused = ap (λ (x : Printer). x.refused) is in
     let octets = ap (λ (x : Printer). x.octets) is in
     let written = ap (λ (x : Printer). x.written) is in
     let ends = c.write_long.ensures in
-    frame_ends p.printing p.templates frame p _ c.write_long.new.self first mid _
+    frame_ends p.printing p.message_reader frame p _ c.write_long.new.self first mid _
     c.write_long.result ends.writes ends.keeps ends.short text
     (omega (arith, frames, e.keeps.frames))
     (omega (arith, refused, e.keeps.refused, e.told))

@@ -13,7 +13,7 @@ pub returns-in_err-check_frame-in-Checked-clause-stops :
     goal.returns-in_err-check_frame-in-Checked-clause-stops
 returns-in_err-check_frame-in-Checked-clause-stops g c =
     let p = c.args.self.now in
-    let text = frame_text p.printing p.templates (frame_at c.args.place c.args.octets.now) in
+    let text = frame_text p.printing p.message_reader (frame_at c.args.place c.args.octets.now) in
     let writer = g.W.Sink.writing c.args.writer.now in
     passed (λ r. IfErr r (λ fault. Adds text p c.check_frame.new.self writer writer (Err fault)))
     c.from_residual.result faults.OutOfMemory c.from_residual.ensures.1
@@ -26,11 +26,11 @@ returns-in_ok-check_frame-in-Checked-clause-prints g c =
     let p = c.args.self.now in
     let q = c.check_frame.new.self in
     let frame = frame_at c.args.place c.args.octets.now in
-    let text = frame_text p.printing p.templates frame in
+    let text = frame_text p.printing p.message_reader frame in
     let writer = g.W.Sink.writing c.args.writer.now in
     subst (λ n. WritesAllBut q.held.items (p.held.items ++ text) p.written n writer writer)
     (sym c.check_frame.ensures.written)
     (adds_held text q.held.items p writer
     (c.in_ok-check_frame-in-Checked.ensures.ok
-    ∙ ap (λ r. p.held.items ++ frame_text r p.templates frame) (sym c.in-Checked.is))
-    c.requires.lines (frame_whole p.printing p.templates frame) c.requires.works)
+    ∙ ap (λ r. p.held.items ++ frame_text r p.message_reader frame) (sym c.in-Checked.is))
+    c.requires.lines (frame_whole p.printing p.message_reader frame) c.requires.works)

@@ -22,7 +22,7 @@ pub returns-in_ok-hold_refused-in-Err-Fault-clause-prints :
 returns-in_ok-hold_refused-in-Err-Fault-clause-prints g c =
     let p = c.args.self.now in
     let frame = frame_at c.args.place c.args.octets.now in
-    let found : Result Decoded Refused = message_of p.templates c.args.octets.now in
+    let found : Result Decoded Refused = message_of p.message_reader c.args.octets.now in
     let is : found ≡ Err c.in-Err-Fault.why =
     told_fault c.in-Err-Fault.field-0 c.in-Err-Fault.why found c.in-Err-Fault.field-0-is
     c.in-Err-Fault.ensures.exact in

@@ -12,7 +12,7 @@ both b below above = absurd (false≢true (sym below ∙ above))
 pub overflow_sub-len : goal.overflow_sub-len
 overflow_sub-len g c =
     let from : c.len-from.result ≡ length c.self.inside.octets.items = search rules in
-    let len : c.len.result ≡ length c.put_behind.new.out.items = search rules in
+    let len : c.len.result ≡ length c.append_to.new.out.items = search rules in
     omega (arith, from, len, no-fewer _ _ _ _ c.in_ok-stands.ensures.put)
 
 pub returns-then-not-stands-clause-ok : goal.returns-then-not-stands-clause-ok
@@ -24,9 +24,9 @@ returns-then-not-stands-clause-ok g c =
       len = c.len.result - c.len-from.result;
     } in
     let from : c.len-from.result ≡ length inside.octets.items = search rules in
-    let len : c.len.result ≡ length c.put_behind.new.out.items = search rules in
+    let len : c.len.result ≡ length c.append_to.new.out.items = search rules in
     let none : c.in_ok-stands.stands ≡ false = search rules in
-    entries-put _ c.in_ok-stands.stands inside.octets.items c.put_behind.new.out.items
+    entries-put _ c.in_ok-stands.stands inside.octets.items c.append_to.new.out.items
     inside.entries.items c.reserve.new.self.items e c.args.self.now from
     (omega (arith, from, len, no-fewer _ _ _ _ c.in_ok-stands.ensures.put)) c.self.invariant.0
     c.in_ok-stands.ensures.put (both _ none) (λ _. c.reserve.ensures.items) c.self.view_is
@@ -40,14 +40,14 @@ invariant_of-self-then-not-stands g c =
       len = c.len.result - c.len-from.result;
     } in
     let from : c.len-from.result ≡ length inside.octets.items = search rules in
-    let len : c.len.result ≡ length c.put_behind.new.out.items = search rules in
+    let len : c.len.result ≡ length c.append_to.new.out.items = search rules in
     let none : c.in_ok-stands.stands ≡ false = search rules in (
-      parts-put _ c.in_ok-stands.stands inside.octets.items c.put_behind.new.out.items
+      parts-put _ c.in_ok-stands.stands inside.octets.items c.append_to.new.out.items
           inside.entries.items c.reserve.new.self.items e from
           (omega (arith, from, len, no-fewer _ _ _ _ c.in_ok-stands.ensures.put))
           c.self.invariant.0 c.in_ok-stands.ensures.put (both _ none)
           (λ _. c.reserve.ensures.items),
-      none-last c.put_behind.new.out.items c.reserve.new.self.items
+      none-last c.append_to.new.out.items c.reserve.new.self.items
           c.clear.new.self.items c.clear.ensures.items,
     )
 
@@ -60,9 +60,9 @@ returns-clause-ok g c =
       len = c.len.result - c.len-from.result;
     } in
     let from : c.len-from.result ≡ length inside.octets.items = search rules in
-    let len : c.len.result ≡ length c.put_behind.new.out.items = search rules in
+    let len : c.len.result ≡ length c.append_to.new.out.items = search rules in
     let some : c.in_ok-stands.stands ≡ true = search rules in
-    entries-put _ c.in_ok-stands.stands inside.octets.items c.put_behind.new.out.items
+    entries-put _ c.in_ok-stands.stands inside.octets.items c.append_to.new.out.items
     inside.entries.items c.push_reserved.new.self.items e c.args.self.now from
     (omega (arith, from, len, no-fewer _ _ _ _ c.in_ok-stands.ensures.put)) c.self.invariant.0
     c.in_ok-stands.ensures.put
@@ -78,15 +78,15 @@ invariant_of-self-2 g c =
       len = c.len.result - c.len-from.result;
     } in
     let from : c.len-from.result ≡ length inside.octets.items = search rules in
-    let len : c.len.result ≡ length c.put_behind.new.out.items = search rules in
+    let len : c.len.result ≡ length c.append_to.new.out.items = search rules in
     let some : c.in_ok-stands.stands ≡ true = search rules in (
-      parts-put _ c.in_ok-stands.stands inside.octets.items c.put_behind.new.out.items
+      parts-put _ c.in_ok-stands.stands inside.octets.items c.append_to.new.out.items
           inside.entries.items c.push_reserved.new.self.items e from
           (omega (arith, from, len, no-fewer _ _ _ _ c.in_ok-stands.ensures.put))
           c.self.invariant.0 c.in_ok-stands.ensures.put
           (λ _. c.push_reserved.ensures.items ∙ ap (λ es. es ++ e ∷ []) c.reserve.ensures.items)
           (λ none. both _ none some),
-      none-last c.put_behind.new.out.items c.push_reserved.new.self.items
+      none-last c.append_to.new.out.items c.push_reserved.new.self.items
           c.clear.new.self.items c.clear.ensures.items,
     )
 
@@ -100,6 +100,6 @@ invariant_of-self g c = (
 pub invariant_of-self-in_err-stands : goal.invariant_of-self-in_err-stands
 invariant_of-self-in_err-stands g c = (
   search rules,
-  none-last c.put_behind.new.out.items c.reserve.new.self.items c.clear.new.self.items
+  none-last c.append_to.new.out.items c.reserve.new.self.items c.clear.new.self.items
       c.clear.ensures.items,
 )

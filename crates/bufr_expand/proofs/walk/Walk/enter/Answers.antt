@@ -1,6 +1,6 @@
 -- One more replication is open, at the end of its body.
 use Rattle.std.proofs.Common.{length, refl, arith}
-use Rattle.bufr_expand.specs.declared.standing.State.TheVariants.{Going}
+use Rattle.bufr_expand.specs.declared.walk_state.State.TheVariants.{Going}
 use Rattle.bufr_expand.proofs.LoopFacts.{in_front-mono, open_more, going_at}
 use Rattle.bufr_expand.proofs.PassFacts.{entered}
 use Rattle.bufr_expand.proofs.walk.Walk.enter.Goals as goal

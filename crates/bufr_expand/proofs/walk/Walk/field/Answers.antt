@@ -1,6 +1,6 @@
 -- A field keeps the invariant of the walk.
 use Rattle.std.proofs.Common.{◌+◌, refl, arith}
-use Rattle.bufr_expand.specs.declared.standing.State.TheVariants.{Going}
+use Rattle.bufr_expand.specs.declared.walk_state.State.TheVariants.{Going}
 use Rattle.bufr_expand.proofs.LoopFacts.{going_on}
 use Rattle.bufr_expand.proofs.walk.Walk.field.Goals as goal
 

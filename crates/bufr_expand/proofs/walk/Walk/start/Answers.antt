@@ -1,6 +1,6 @@
 -- No replication is open at the start of a template.
 use Rattle.std.proofs.Common.{◌≡◌, ◌+◌, ◌≤◌, List, [], length, refl, rules, sym, ap, ◌∙◌, subst, arith}
-use Rattle.bufr_expand.specs.declared.standing.Open.{Open}
+use Rattle.bufr_expand.specs.declared.walk_state.Open.{Open}
 use Rattle.bufr_expand.specs.Places.{in_front, AreOpen, replications}
 use Rattle.bufr_expand.specs.Trees.{Tree, tree_of}
 use Rattle.bufr_expand.specs.Courses.{course}

@@ -84,7 +84,7 @@ returns-in-Delayed-clause-answer c =
     let o = c.in-Delayed in
     let tree = tree_of-delayed o.fxy o.element o.len (behind_place w)
     ∙ body_trees w o.len (trees.delayed o.fxy o.element) c.requires.more in
-    goes_as (left w) _ c.ask.result c.ask.new.self
+    goes_as (left w) _ c.begin_count.result c.begin_count.new.self
     (at_node w (nodes.Delayed o.fxy o.element o.len) _ _ _ c.requires.goes c.requires.more
     w.within.1 o.is c.if-self-ge-MOST_ITEMS.false tree refl)
-    c.ask.ensures
+    c.begin_count.ensures

@@ -1,7 +1,7 @@
 -- The octets become the text of what is kept of both.
 use Rattle.std.proofs.Common.{◌≡◌, ℕ, List, sym, ap, subst, ◌∙◌}
 use Rattle.std.specs.List.{flat_map}
-use Rattle.bufr_gather.specs.declared.merged_octets.Origin.{Origin}
+use Rattle.bufr_gather.specs.declared.merged_octets.EntrySource.{EntrySource}
 use Rattle.bufr_gather.specs.Archives.{ArchiveView, merged}
 use Rattle.bufr_gather.specs.ArchiveTexts.{entries_in}
 use Rattle.bufr_gather.specs.MergedOctets.{HandOutMerged, handed_out, marks_out}
@@ -23,10 +23,10 @@ invariant_of-self-2 c =
     (subst (λ (a : ArchiveView). HandOutMerged a.entries c.args.other.entries origins)
     (sym c.self.view_is) c.in_ok-origins.ensures) in
     let joined = c.in_ok-octets.ensures
-    ∙ ap (λ (os : List Origin). flat_map (λ (o : List ℕ). o)
+    ∙ ap (λ (os : List EntrySource). flat_map (λ (o : List ℕ). o)
     (handed_out os c.deref-2.result.now c.deref-3.result.now)) c.deref.ensures.value in
     let out = c.merged_marks.ensures
-    ∙ ap (λ (os : List Origin). marks_out os c.replace-own_marks.result.items more.items)
+    ∙ ap (λ (os : List EntrySource). marks_out os c.replace-own_marks.result.items more.items)
     c.deref-4.ensures.value
     ∙ ap (λ v. marks_out origins v.items more.items)
     c.replace-own_marks.ensures.value in
@@ -52,10 +52,10 @@ returns-clause-ok c =
     (subst (λ (a : ArchiveView). HandOutMerged a.entries c.args.other.entries origins)
     (sym c.self.view_is) c.in_ok-origins.ensures) in
     let joined = c.in_ok-octets.ensures
-    ∙ ap (λ (os : List Origin). flat_map (λ (o : List ℕ). o)
+    ∙ ap (λ (os : List EntrySource). flat_map (λ (o : List ℕ). o)
     (handed_out os c.deref-2.result.now c.deref-3.result.now)) c.deref.ensures.value in
     let out = c.merged_marks.ensures
-    ∙ ap (λ (os : List Origin). marks_out os c.replace-own_marks.result.items more.items)
+    ∙ ap (λ (os : List EntrySource). marks_out os c.replace-own_marks.result.items more.items)
     c.deref-4.ensures.value
     ∙ ap (λ v. marks_out origins v.items more.items)
     c.replace-own_marks.ensures.value in

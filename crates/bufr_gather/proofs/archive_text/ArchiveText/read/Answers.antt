@@ -13,12 +13,12 @@ pub invariant_of-result : goal.invariant_of-result
 invariant_of-result c =
     let octets = c.shrink_to_fit.new.self.items in
     let marks = c.in_ok-marks.marks.items in
-    let told : marks_or (entries_read (entry_in c.for_elements-templates.result) octets) ≡ Ok marks =
-    subst (λ (o : List ℕ). marks_or (entries_read (entry_in c.for_elements-templates.result) o) ≡ Ok marks)
+    let told : marks_or (entries_read (entry_in c.for_elements-message_reader.result) octets) ≡ Ok marks =
+    subst (λ (o : List ℕ). marks_or (entries_read (entry_in c.for_elements-message_reader.result) o) ≡ Ok marks)
     c.deref.ensures.value c.in_ok-marks.ensures.marks in
     subst (λ (t : Entries). IsTextOf t octets marks (entries_in t octets))
-    c.for_elements-templates.ensures
-    (held c.reports_are_entries.ensures c.for_elements-templates.result octets marks
+    c.for_elements-message_reader.ensures
+    (held c.reports_are_entries.ensures c.for_elements-message_reader.result octets marks
     (subst AreOctets c.deref.ensures.value c.in_ok-marks.ensures.octets) told)
 
 pub returns-clause-accepted : goal.returns-clause-accepted
@@ -28,8 +28,8 @@ returns-clause-accepted c =
     accepted c.written_messages_are_spelt.ensures.only c.reports_are_entries.ensures
     c.args.tables.now octets
     (Ok (record { tables = c.args.tables.now; entries = entries_in c.args.tables.now shrunk }))
-    (text_read c.for_elements-templates.result c.args.tables.now c.deref.result.now shrunk octets
-    c.in_ok-marks.marks.items c.for_elements-templates.ensures c.deref.ensures.value
+    (text_read c.for_elements-message_reader.result c.args.tables.now c.deref.result.now shrunk octets
+    c.in_ok-marks.marks.items c.for_elements-message_reader.ensures c.deref.ensures.value
     c.shrink_to_fit.ensures.items c.in_ok-marks.ensures.marks)
     (subst AreOctets (c.deref.ensures.value ∙ c.shrink_to_fit.ensures.items)
     c.in_ok-marks.ensures.octets)
@@ -41,17 +41,17 @@ returns-clause-only c =
     only c.written_messages_are_spelt.ensures.only c.reports_are_entries.ensures
     c.args.tables.now octets
     (Ok (record { tables = c.args.tables.now; entries = entries_in c.args.tables.now shrunk }))
-    (text_read c.for_elements-templates.result c.args.tables.now c.deref.result.now shrunk octets
-    c.in_ok-marks.marks.items c.for_elements-templates.ensures c.deref.ensures.value
+    (text_read c.for_elements-message_reader.result c.args.tables.now c.deref.result.now shrunk octets
+    c.in_ok-marks.marks.items c.for_elements-message_reader.ensures c.deref.ensures.value
     c.shrink_to_fit.ensures.items c.in_ok-marks.ensures.marks)
 
 pub returns-in_err-marks-clause-only : goal.returns-in_err-marks-clause-only
 returns-in_err-marks-clause-only c =
     only c.written_messages_are_spelt.ensures.only c.reports_are_entries.ensures
     c.args.tables.now c.args.octets.items c.from_residual.result
-    (text_stops c.for_elements-templates.result c.args.tables.now c.deref.result.now c.args.octets.items
+    (text_stops c.for_elements-message_reader.result c.args.tables.now c.deref.result.now c.args.octets.items
     c.in_err-marks.field-0.0 c.from_residual.result c.from_residual.ensures.1
-    c.for_elements-templates.ensures (c.deref.ensures.value ∙ c.shrink_to_fit.ensures.items)
+    c.for_elements-message_reader.ensures (c.deref.ensures.value ∙ c.shrink_to_fit.ensures.items)
     c.in_err-marks.ensures.marks)
 
 pub returns-in_err-marks-clause-refused : goal.returns-in_err-marks-clause-refused
@@ -59,7 +59,7 @@ returns-in_err-marks-clause-refused c =
     let is = c.deref.ensures.value ∙ c.shrink_to_fit.ensures.items in
     refused c.written_messages_are_spelt.ensures.only c.reports_are_entries.ensures
     c.args.tables.now c.args.octets.items c.from_residual.result
-    (text_stops c.for_elements-templates.result c.args.tables.now c.deref.result.now c.args.octets.items
+    (text_stops c.for_elements-message_reader.result c.args.tables.now c.deref.result.now c.args.octets.items
     c.in_err-marks.field-0.0 c.from_residual.result c.from_residual.ensures.1
-    c.for_elements-templates.ensures is c.in_err-marks.ensures.marks)
+    c.for_elements-message_reader.ensures is c.in_err-marks.ensures.marks)
     (subst AreOctets is c.in_err-marks.ensures.octets)

@@ -51,7 +51,7 @@ loop-index-preserved c =
 
 pub returns-in_default : goal.returns-in_default
 returns-in_default c =
-    let tables = c.self.inside.templates in
+    let tables = c.self.inside.message_reader in
     let view = c.in-Ok.view in
     let told : message_of tables c.args.octets.now ≡ Ok view =
     subst (λ r. Gives (λ d. d) r (message_of tables c.args.octets.now)) c.in-Ok.is
@@ -70,7 +70,7 @@ returns-in_default c =
 
 pub returns : goal.returns
 returns c =
-    let tables = c.self.inside.templates in
+    let tables = c.self.inside.message_reader in
     let view = c.in-Ok.view in
     let all = number view in
     let told = spelt_entries (reports_of view.message) in

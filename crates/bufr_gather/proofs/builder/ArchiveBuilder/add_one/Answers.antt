@@ -6,7 +6,7 @@ use Rattle.bufr_gather.proofs.builder.ArchiveBuilder.add_one.Goals as goal
 pub returns-clause-ok : goal.returns-clause-ok
 returns-clause-ok c =
     let there = subset_there c.args.view.now.message.subsets c.args.index c.requires in
-    puts_where_ok c.put_marked.result c.self.inside.templates c.self.inside.entries
+    puts_where_ok c.put_marked.result c.self.inside.message_reader c.self.inside.entries
     c.put_marked.new.self c.args.self.now _ _ c.self.view_is
     (put_slot c.args.view.now.message c.args.index
     there.0 c.head.result.now c.of_head-head.result c.in_ok-slot.slot c.requires there.1

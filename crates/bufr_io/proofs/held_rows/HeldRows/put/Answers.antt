@@ -18,8 +18,8 @@ returns-in_err-extend_from_slice-clause-puts g c =
     c.in_err-extend_from_slice.ensures.items refl)
 
 -- the row waits
-pub returns-then-len-lt-PART-clause-puts : goal.returns-then-len-lt-PART-clause-puts
-returns-then-len-lt-PART-clause-puts g c =
+pub returns-then-len-lt-LONGEST_HELD-clause-puts : goal.returns-then-len-lt-LONGEST_HELD-clause-puts
+returns-then-len-lt-LONGEST_HELD-clause-puts g c =
     row_held c.args.row.now c.args.self.now _ (g.W.Sink.writing c.args.writer.now)
     c.requires.whole c.in_ok-extend_from_slice.ensures.items refl
 

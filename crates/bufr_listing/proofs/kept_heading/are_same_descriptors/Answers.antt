@@ -1,6 +1,0 @@
-use Rattle.std.proofs.lemmas.Bool.Decides.{Decides-eqb}
-use Rattle.std.proofs.lemmas.Slice.Eq.{slice_eq-Decides}
-use Rattle.bufr_listing.proofs.kept_heading.are_same_descriptors.Goals as goal
-
-pub returns : goal.returns
-returns c same = (slice_eq-Decides Decides-eqb _ _ c.eq.result c.eq.ensures).0 same
