@@ -1,5 +1,4 @@
 -- What the contracts of the engine are proved from.
-mod TextFacts
 mod RowFacts
 mod ListingFacts
 mod InputFacts
@@ -10,4 +9,5 @@ mod OnLiterals
 mod FieldFacts
 mod NumberFacts
 mod LineFacts
+mod KeptFacts
 mod FieldTexts

@@ -1,6 +1,7 @@
--- Lines of fields, from the first field on: the contracts of `push_said`, `push_refused` and `push_all`.
+-- Lines of fields, from the first field on: the contracts of `push_said`, `push_refused` `hold_all`
+-- and `push_fields`.
 use Rattle.std.proofs.Common.{◌≡◌, ◌∙◌, ℕ, ◌<◌, List, [], ◌∷◌, ◌++◌, length, refl, sym, ap, append_assoc, arith}
-use Rattle.std.proofs.Common.{◌-◌, drop, take, map}
+use Rattle.std.proofs.Common.{◌-◌, drop, take}
 use Rattle.std.specs.List.{join_by, flat_map}
 use Rattle.std.proofs.lemmas.List.{append-nil, length-drop, take_all}
 use Rattle.bufr_ls_engine.specs.RowSteps.{texts_before}
@@ -36,27 +37,16 @@ ended f x first others [] start old text none whole is =
     ∙ ap (λ (t : List ℕ). start ++ t) (line_is f first others)
 ended f x first others (r ∷ rest) start old text none whole is = absurd (omega arith)
 
--- the first fields, each with a comma after it, and the line of those after them
-pub parted : {X : Type 0} (f : X → List ℕ) (x : X) (xs : List X) (y : X) (ys : List X)
-    → flat_map (λ c. f c ++ 44 ∷ []) (x ∷ xs) ++ line f y ys ≡ line f x (xs ++ y ∷ ys)
-parted f x [] y ys =
-    ap (λ (t : List ℕ). t ++ line f y ys) (append-nil (f x ++ 44 ∷ []))
-    ∙ append_assoc (f x) (44 ∷ []) (line f y ys)
-parted f x (z ∷ xs) y ys =
-    append_assoc (f x ++ 44 ∷ []) (flat_map (λ c. f c ++ 44 ∷ []) (z ∷ xs)) (line f y ys)
-    ∙ append_assoc (f x) (44 ∷ []) (flat_map (λ c. f c ++ 44 ∷ []) (z ∷ xs) ++ line f y ys)
-    ∙ ap (λ (t : List ℕ). f x ++ 44 ∷ t) (parted f z xs y ys)
-
--- the first fields, each with a comma after it, and nothing after them
-pub ended_by_commas : {X : Type 0} (f : X → List ℕ) (xs : List X)
-    → texts_before (map f xs) [] ≡ flat_map (λ c. f c ++ 44 ∷ []) xs
-ended_by_commas f [] = refl
-ended_by_commas f (x ∷ xs) =
-    ap (λ (t : List ℕ). f x ++ 44 ∷ t) (ended_by_commas f xs)
-    ∙ sym (append_assoc (f x) (44 ∷ []) (flat_map (λ c. f c ++ 44 ∷ []) xs))
+-- texts before a rest, and more after it
+pub texts_and_more : (texts : List (List ℕ)) (rest more : List ℕ)
+    → texts_before texts rest ++ more ≡ texts_before texts (rest ++ more)
+texts_and_more [] rest more = refl
+texts_and_more (t ∷ ts) rest more =
+    append_assoc t (44 ∷ texts_before ts rest) more
+    ∙ ap (λ (x : List ℕ). t ++ 44 ∷ x) (texts_and_more ts rest more)
 
 -- the end of a row is all of it from an index on
-pub rest_of_row : (row fields : List ℕ) (first : ℕ) → length row ≡ 168 → drop first row ≡ fields
-    → take (168 - first) (drop first row) ≡ fields
-rest_of_row row fields first long is =
-    take_all (168 - first) (drop first row) (omega (arith, long, length-drop first row)) ∙ is
+pub rest_of_row : (room : ℕ) (row fields : List ℕ) (first : ℕ) → length row ≡ room
+    → drop first row ≡ fields → take (room - first) (drop first row) ≡ fields
+rest_of_row room row fields first long is =
+    take_all (room - first) (drop first row) (omega (arith, long, length-drop first row)) ∙ is

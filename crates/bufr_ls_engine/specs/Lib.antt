@@ -2,6 +2,7 @@ pub mod Columns
 pub mod ColumnSteps
 pub mod Rows
 pub mod RowSteps
+pub mod Places
 pub mod Lists
 pub mod CommandLines
 pub mod Listers

@@ -2,10 +2,12 @@
 #![tactic(auto)]
 
 mod column;
+mod column_list;
 mod columns;
 mod command;
 mod command_line;
 mod frames;
+mod last_fields;
 pub mod laws;
 mod lister;
 mod ls;

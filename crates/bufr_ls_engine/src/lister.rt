@@ -6,8 +6,10 @@ ghost use Rattle.bufr_io.specs.Taking.{frame_at};
 ghost use Rattle.bufr_ls_engine.specs.Listers.{HoldsRow, IsUnchanged, Keeps, Stops, WritesHeader};
 
 use crate::column::Column;
+use crate::column_list::ColumnList;
+use crate::last_fields::LastFields;
 use crate::numbers::push_octet_line;
-use crate::row::{Numbered, hold_row, push_header, version_alone};
+use crate::row::{Numbered, hold_row, push_header, version_of};
 use bufr_base::OutOfMemory;
 use bufr_bits::Sink;
 use bufr_io::{HeldRows, ToolFault, write_out};
@@ -17,7 +19,7 @@ use std::alloc::Global;
 #[derive(Drop)]
 pub(crate) struct Lister<'c> {
     /// The columns of the rows.
-    pub(crate) columns: &'c [Column],
+    pub(crate) columns: ColumnList<'c>,
     /// The number of the input, counted from 1.
     pub(crate) input: u128,
     /// The count of frames of the input.
@@ -25,6 +27,8 @@ pub(crate) struct Lister<'c> {
     /// The count of refused frames of the input.
     pub(crate) refused: u128,
     pub(crate) rows: HeldRows,
+    /// The fields of the last row, if the rows have all columns.
+    pub(crate) last: LastFields,
 }
 
 impl<'c> Lister<'c> {
@@ -34,11 +38,12 @@ impl<'c> Lister<'c> {
         ensures held { result.rows.held.items ≡ [] }
     {
         Lister {
-            columns,
+            columns: ColumnList::new(columns),
             input: 0,
             frames: 0,
             refused: 0,
             rows: HeldRows::new(alloc),
+            last: LastFields::new(alloc),
         }
     }
 
@@ -57,7 +62,7 @@ impl<'c> Lister<'c> {
             (W.writing writer.new) result }
         ensures keeps { Keeps self.old self.new }
     {
-        push_header(&mut self.rows.held, self.columns)?;
+        push_header(&mut self.rows.held, self.columns.as_slice())?;
         self.rows.write(writer)
     }
 
@@ -81,10 +86,12 @@ impl<'c> Lister<'c> {
         ensures ok { OnOk result (HoldsRow self.old self.new (frame_at place octets.now)) }
         ensures err { OnErr result (IsUnchanged self.old self.new) }
     {
-        if let Some(version) = version_alone(self.columns, octets) {
-            push_octet_line(&mut self.rows.held, version)?;
-            self.frames += 1;
-            return Ok(());
+        if self.columns.is_master_version() {
+            if let Some(version) = version_of(octets) {
+                push_octet_line(&mut self.rows.held, version)?;
+                self.frames += 1;
+                return Ok(());
+            }
         }
         self.hold_any_frame(alloc, place, octets)
     }
@@ -108,7 +115,8 @@ impl<'c> Lister<'c> {
             place,
             octets,
         };
-        let refused = hold_row(alloc, &mut self.rows.held, self.columns, &frame)?;
+        let rows = &mut self.rows.held;
+        let refused = hold_row(alloc, rows, &self.columns, &mut self.last, &frame)?;
         self.frames += 1;
         self.refused += u128::from(refused);
         Ok(())

@@ -12,12 +12,15 @@ ghost use Rattle.bufr_ls_engine.specs.Columns.{word};
 ghost use Rattle.bufr_ls_engine.specs.RowSteps.{number_text};
 ghost use Rattle.bufr_ls_engine.specs.Rows.{edition_of, field_as, fields_as, frame_refused, is_short};
 ghost use Rattle.bufr_ls_engine.specs.Rows.{header, row, row_as};
+ghost use Rattle.bufr_ls_engine.specs.declared.column.Column.TheVariants.{MasterVersion};
 
 use crate::column::Column;
+use crate::column_list::ColumnList;
+use crate::last_fields::LastFields;
 use crate::numbers::{
     LONGEST, Number, push_count, push_number, push_octet_line, push_octets, push_sized, push_wide,
 };
-use crate::whole_row::{Counts, are_all, hold_all};
+use crate::whole_row::{Counts, hold_all};
 use bufr_base::OutOfMemory;
 use bufr_sections::{Refused, SectionsInPlace, find_sections};
 use bufr_tables::Fxy;
@@ -36,19 +39,17 @@ pub(crate) struct Numbered<'a> {
     pub(crate) octets: &'a [u8],
 }
 
-/// Returns the version of the master tables, if it is the only column, and the frame has no refusal.
+/// Returns the version of the master tables of a frame, if the frame has no refusal.
 // The launcher asks for this column.
 #[inline(always)]
 #[tactic(auto, unfolding(crate::specs::Rows::field_as, crate::specs::Rows::said_in))]
-pub(crate) fn version_alone(columns: &[Column], octets: &[u8]) -> Option<u8>
+pub(crate) fn version_of(octets: &[u8]) -> Option<u8>
     ensures row { IfSome result (λ version. (input message place : ℕ)
-        → row columns.now input message (frame_at place octets.now) ≡ decimal version ++ 10 ∷ []) }
+        → row (MasterVersion ∷ []) input message (frame_at place octets.now)
+        ≡ decimal version ++ 10 ∷ []) }
     ensures read { IfSome result (λ version. (place : ℕ)
         → frame_refused (frame_at place octets.now) ≡ 0) }
 {
-    let [Column::MasterVersion] = columns else {
-        return None;
-    };
     match find_sections(octets) {
         Ok(said) => Some(said.master_version()),
         Err(_) => None,
@@ -60,17 +61,18 @@ pub(crate) fn version_alone(columns: &[Column], octets: &[u8]) -> Option<u8>
 pub(crate) fn hold_row(
     alloc: Global,
     text: &mut Vec<u8>,
-    columns: &[Column],
+    columns: &ColumnList<'_>,
+    last: &mut LastFields,
     frame: &Numbered<'_>,
 ) -> Result<bool, OutOfMemory>
-    ensures ok { OnOk result (text.new.items ≡ text.old.items ++ row columns.now frame.now.input
+    ensures ok { OnOk result (text.new.items ≡ text.old.items ++ row columns.now.now frame.now.input
         frame.now.message (frame_at frame.now.place frame.now.octets.now)) }
     ensures told { IfOk result (λ refused. from_bool refused
         ≡ frame_refused (frame_at frame.now.place frame.now.octets.now)) }
     ensures err { OnErr result (text.new.items ≡ text.old.items) }
 {
     // One column and all columns have short ways.
-    if let [column] = columns {
+    if let [column] = columns.as_slice() {
         if column.is_short() {
             if let Ok(said) = find_sections(frame.octets) {
                 push_line(text, *column, frame, &said)?;
@@ -78,34 +80,35 @@ pub(crate) fn hold_row(
             }
         }
     }
-    if are_all(columns) {
+    if columns.is_all() {
         if let Some(counts) = Counts::new(frame) {
             if let Ok(said) = find_sections(frame.octets) {
-                hold_all(text, &counts, &said)?;
+                hold_all(text, last, &counts, &said)?;
                 return Ok(false);
             }
         }
     }
-    hold_any_row(alloc, text, columns, frame)
+    hold_any_row(alloc, text, columns.as_slice(), *frame)
 }
 
 /// Does what `hold_row` does, for any columns.
+// The frame comes as a copy, so that the short ways need none in memory.
 #[inline(never)]
 fn hold_any_row(
     alloc: Global,
     text: &mut Vec<u8>,
     columns: &[Column],
-    frame: &Numbered<'_>,
+    frame: Numbered<'_>,
 ) -> Result<bool, OutOfMemory>
-    ensures ok { OnOk result (text.new.items ≡ text.old.items ++ row columns.now frame.now.input
-        frame.now.message (frame_at frame.now.place frame.now.octets.now)) }
+    ensures ok { OnOk result (text.new.items ≡ text.old.items ++ row columns.now frame.entry.input
+        frame.entry.message (frame_at frame.entry.place frame.entry.octets.now)) }
     ensures told { IfOk result (λ refused. from_bool refused
-        ≡ frame_refused (frame_at frame.now.place frame.now.octets.now)) }
+        ≡ frame_refused (frame_at frame.entry.place frame.entry.octets.now)) }
     ensures err { OnErr result (text.new.items ≡ text.old.items) }
 {
     let said = find_sections(frame.octets);
     let held = text.len();
-    if push_row(alloc, text, columns, frame, &said).is_err() {
+    if push_row(alloc, text, columns, &frame, &said).is_err() {
         text.truncate(held);
         return Err(OutOfMemory);
     }

@@ -3,9 +3,11 @@
 ghost use Rattle.std.specs.Prelude.{◌≡◌, ◌++◌, ◌∷◌, ◌≤◌, ◌+◌, true, [], length, take, drop, decimal, Ok};
 ghost use Rattle.std.specs.Prelude.{IfSome, OnOk, OnErr};
 ghost use Rattle.std.specs.Int.{from_bool};
+ghost use Rattle.bufr_sections.specs.Sections.{envelope_of};
 ghost use Rattle.bufr_io.specs.Taking.{frame_at};
+ghost use Rattle.bufr_ls_engine.specs.Places.{place_of};
 ghost use Rattle.bufr_ls_engine.specs.Columns.{all_columns};
-ghost use Rattle.bufr_ls_engine.specs.RowSteps.{fields_ended, texts_before};
+ghost use Rattle.bufr_ls_engine.specs.RowSteps.{fields_after_length, numbers_from, texts_before};
 ghost use Rattle.bufr_ls_engine.specs.Rows.{edition_of, row_as};
 ghost use Rattle.bufr_ls_engine.specs.declared.column.Column.TheVariants.{Input, Message, Place, Length};
 ghost use Rattle.bufr_ls_engine.specs.declared.column.Column.TheVariants.{Edition, Centre, SubCentre};
@@ -17,14 +19,18 @@ ghost use Rattle.bufr_ls_engine.specs.declared.column.Column.TheVariants.{Second
 ghost use Rattle.bufr_ls_engine.specs.declared.column.Column.TheVariants.{Compressed, Descriptors, Reason};
 
 use crate::column::Column;
+use crate::last_fields::LastFields;
 use crate::placed::{put_count, put_number, put_octet};
 use crate::row::{Numbered, edition_of, push_listed};
 use bufr_base::OutOfMemory;
 use bufr_sections::SectionsInPlace;
 
-/// The most octets that the fields before the descriptors take, with a comma after each, if no number has
+/// The most octets that the fields before the edition take, with a comma after each, if no number has
 /// more than 64 bits.
-const ROOM: usize = 168;
+const PLACE_ROOM: usize = 84;
+
+/// Room for the numbers from the edition on, with a comma after each.
+const ROOM: usize = 104;
 
 /// Returns whether columns are all, in their order.
 #[inline(never)]
@@ -175,58 +181,71 @@ impl<'a> Counts<'a> {
 #[inline(always)]
 pub(crate) fn hold_all(
     text: &mut Vec<u8>,
+    last: &mut LastFields,
     frame: &Counts<'_>,
     said: &SectionsInPlace<'_>,
 ) -> Result<(), OutOfMemory>
+    requires { envelope_of frame.now.octets.now ≡ Ok said.now }
     ensures ok { OnOk result (text.new.items ≡ text.old.items
         ++ row_as all_columns frame.now.input frame.now.message
         (frame_at frame.now.place frame.now.octets.now) (Ok said.now)) }
     ensures err { OnErr result (text.new.items ≡ text.old.items) }
 {
-    let held = text.len();
-    let added = push_all(text, frame, said);
-    if added.is_err() {
-        text.truncate(held);
-    }
-    added
+    last.set(frame.octets, said)?;
+    hold_with(text, frame, last.as_slice())
 }
 
-/// Adds the row of a frame with these sections. If memory runs out, it adds only a part.
-/// Fills the fields before the descriptors from their end, and adds them at once.
+/// Adds the fields of where a frame is, and then these. If memory runs out, the text stays.
 #[inline(always)]
-fn push_all(
-    text: &mut Vec<u8>,
-    frame: &Counts<'_>,
-    said: &SectionsInPlace<'_>,
-) -> Result<(), OutOfMemory>
+fn hold_with(text: &mut Vec<u8>, frame: &Counts<'_>, fields: &[u8]) -> Result<(), OutOfMemory>
     ensures ok { OnOk result (text.new.items ≡ text.old.items
-        ++ row_as all_columns frame.now.input frame.now.message
-        (frame_at frame.now.place frame.now.octets.now) (Ok said.now)) }
-    ensures kept { OnErr result (take (length text.old.items) text.new.items ≡ text.old.items) }
+        ++ texts_before (place_of frame.now) fields.now) }
+    ensures err { OnErr result (text.new.items ≡ text.old.items) }
 {
-    let mut row = [0; ROOM];
-    let first = put_numbers(&mut row, frame, said);
+    let held = text.len();
+    let mut row = [0; PLACE_ROOM];
+    let first = put_place(&mut row, PLACE_ROOM, frame);
     text.extend_from_slice(&row[first..])?;
-    push_listed(text, said)?;
-    text.push(b',')?;
-    text.push(b'\n')?;
+    if text.extend_from_slice(fields).is_err() {
+        text.truncate(held);
+        return Err(OutOfMemory);
+    }
     Ok(())
 }
 
-/// Puts the fields before the descriptors, each with a comma after it, at the end of a row.
+/// Adds the fields of a message after the length, and the end of the line. If memory runs out, it
+/// adds only a part. Fills the numbers from their end, and adds them at once.
 #[inline(always)]
-fn put_numbers(row: &mut [u8], frame: &Counts<'_>, said: &SectionsInPlace<'_>) -> usize
-    requires room { length row.old ≡ 168 }
-    ensures put { drop result row.new ≡ fields_ended (take 23 all_columns) frame.now.input
-        frame.now.message (frame_at frame.now.place frame.now.octets.now) said.now }
-    ensures within { result ≤ 168 }
-    ensures long { length row.new ≡ 168 }
+pub(crate) fn push_fields(
+    text: &mut Vec<u8>,
+    octets: &[u8],
+    said: &SectionsInPlace<'_>,
+) -> Result<(), OutOfMemory>
+    ensures { OnOk result
+        (text.new.items ≡ text.old.items ++ fields_after_length octets.now said.now) }
+{
+    let mut row = [0; ROOM];
+    let first = put_numbers(&mut row, octets, said);
+    text.extend_from_slice(&row[first..])?;
+    push_listed(text, said)?;
+    text.extend_from_slice(b",\n")?;
+    Ok(())
+}
+
+/// Puts the numbers of a message from the edition on at the end of a row.
+#[inline(always)]
+fn put_numbers(row: &mut [u8], octets: &[u8], said: &SectionsInPlace<'_>) -> usize
+    requires room { length row.old ≡ 104 }
+    ensures put { drop result row.new ≡ texts_before (numbers_from (edition_of octets.now)
+        said.now.head said.now.count said.now.observed said.now.compressed) [] }
+    ensures within { result ≤ 104 }
+    ensures long { length row.new ≡ 104 }
 {
     let end = put_contents(row, ROOM, said);
     let end = put_time(row, end, said);
     let end = put_tables(row, end, said);
     let end = put_origin(row, end, said);
-    put_place(row, end, frame)
+    put_octet(row, end, edition_of(octets))
 }
 
 // Each of the next functions puts some of these fields before the octet at `end`, and returns the index
@@ -234,13 +253,12 @@ fn put_numbers(row: &mut [u8], frame: &Counts<'_>, said: &SectionsInPlace<'_>) -
 
 #[inline(always)]
 fn put_place(row: &mut [u8], end: usize, frame: &Counts<'_>) -> usize
-    requires room { 88 ≤ end }
+    requires room { 84 ≤ end }
     requires within { end ≤ length row.old }
-    ensures put { drop result row.new ≡ texts_before (decimal frame.now.input ∷ decimal frame.now.message ∷ decimal frame.now.place ∷ decimal (length frame.now.octets.now) ∷ decimal (edition_of frame.now.octets.now) ∷ []) (drop end row.old) }
+    ensures put { drop result row.new ≡ texts_before (place_of frame.now) (drop end row.old) }
     ensures before { result ≤ end }
     ensures long { length row.new ≡ length row.old }
 {
-    let end = put_octet(row, end, edition_of(frame.octets));
     let end = put_number(row, end, frame.octets.len() as u64);
     let end = put_number(row, end, frame.place);
     let end = put_number(row, end, frame.message);
