@@ -31,6 +31,7 @@ use Rattle.bufr_fields.specs.FormLaws.{octets_pass}
 use Rattle.bufr_fields.specs.FitLaws.{guard_ok}
 pub mod Alike
 pub mod Copied
+pub mod Filled
 pub mod Even
 pub mod Handed
 pub mod Layouts

@@ -11,8 +11,8 @@ use Rattle.bufr_fields.specs.declared.field.Field.{Field}
 use Rattle.bufr_fields.specs.Limits.{most_raw_bits}
 use Rattle.bufr_data.specs.declared.compressed.index.ChosenPlaces.{ChosenPlaces}
 use Rattle.bufr_data.specs.declared.compressed.index.ColumnStart.{ColumnStart}
-use Rattle.bufr_data.specs.declared.plain.layout.LaidField.{LaidField}
-use Rattle.bufr_data.specs.declared.plain.places.PlacedField.{PlacedField}
+use Rattle.bufr_data.specs.declared.plain.layout.CommonField.{CommonField}
+use Rattle.bufr_data.specs.declared.plain.places.ChosenPlace.{ChosenPlace}
 use Rattle.bufr_data.specs.Plain.{raw_at}
 use Rattle.bufr_data.specs.Short.{greatest_short}
 
@@ -36,30 +36,30 @@ abbrev pub field_size : Spec → ℕ
 field_size spec = field_size_by spec.kind spec.width
 
 -- a field after `gap` bits, with its greatest number if its numbers are short
-abbrev pub placed : ℕ → LaidField → PlacedField
+abbrev pub placed : ℕ → CommonField → ChosenPlace
 placed gap f = record { gap = gap; field = f; greatest = greatest_short f.spec }
 
 -- the chosen fields of a layout, each with the bits between it and the chosen field before it;
 -- `gap` bits come before the first field of the layout
-abbrev pub placed_from : List ℕ → ℕ → List LaidField → List PlacedField
+abbrev pub placed_from : List ℕ → ℕ → List CommonField → List ChosenPlace
 placed_from list gap [] = []
 placed_from list gap (f ∷ fields) = cond (is_listed list f.fxy)
     (placed gap f ∷ placed_from list 0 fields)
     (placed_from list (gap + field_size f.spec) fields)
 
 -- a field with its value, and the fields in the bits after it
-abbrev pub placed_then : LaidField → (List Bool → List Field) → Option (Raw × List Bool) → List Field
+abbrev pub placed_then : CommonField → (List Bool → List Field) → Option (Raw × List Bool) → List Field
 placed_then f after None = []
 placed_then f after (Some x) = record { fxy = f.fxy; spec = f.spec; raw = x.0 } ∷ after x.1
 
 -- the fields at their places in these bits
-abbrev pub fields_placed : List PlacedField → List Bool → List Field
+abbrev pub fields_placed : List ChosenPlace → List Bool → List Field
 fields_placed [] front = []
 fields_placed (p ∷ places) front =
     placed_then p.field (fields_placed places) (raw_at p.field.spec (drop p.gap front))
 
 -- these bits hold the fields at their places, which say the greatest of short numbers
-abbrev pub HoldPlaced : List PlacedField → List Bool → Type 0
+abbrev pub HoldPlaced : List ChosenPlace → List Bool → Type 0
 HoldPlaced [] front = Unit {0}
 HoldPlaced (p ∷ places) front = (p.gap ≤ length front) × (x : Raw × List Bool)
     × (raw_at p.field.spec (drop p.gap front) ≡ Some x) × HoldPlaced places x.1

@@ -10,7 +10,7 @@ use Rattle.bufr_fields.specs.declared.field.Field.{Field}
 use Rattle.bufr_data.specs.declared.compressed.index.ColumnStart.{ColumnStart}
 use Rattle.bufr_data.specs.declared.plain.fields.Due.{Due}
 use Rattle.bufr_data.specs.declared.plain.fields.Due.TheVariants.{Step, Text, Nothing}
-use Rattle.bufr_data.specs.declared.plain.layout.LaidField.{LaidField}
+use Rattle.bufr_data.specs.declared.plain.layout.CommonField.{CommonField}
 use Rattle.bufr_data.specs.Compressed.{field_of}
 use Rattle.bufr_data.specs.Compressed.Indexed.{AllOpen, column_from}
 use Rattle.bufr_data.specs.Plain.{fields_at}
@@ -48,7 +48,7 @@ FirstIsAsked asks [] = Unit {0}
 FirstIsAsked asks (f ∷ fields) = asks f.fxy ≡ true
 
 -- a field, and then what a walk has left
-abbrev pub text_first : LaidField → Walk → courses.Course
+abbrev pub text_first : CommonField → Walk → courses.Course
 text_first f walk = courses.asks 0 f.fxy f.spec (λ number. walks.left walk)
 
 -- the fields in the bits left: those that the walk finds, after a text that it has passed
@@ -86,7 +86,7 @@ pub record StepsToNone (due : Due) (walk : Walk) (reader : BitPlace) (later : Du
   pub next : IsNoStep later
 
 -- the fields of a layout in the bits left
-abbrev pub fields_laid : List LaidField → BitPlace → List Field
+abbrev pub fields_laid : List CommonField → BitPlace → List Field
 fields_laid fields reader = fields_of (fields_at 1 1 (laid_course fields) (left reader))
 
 -- a reader `bits` bits further on
@@ -94,12 +94,12 @@ abbrev pub moved_on : BitPlace → ℕ → BitPlace
 moved_on reader bits = record reader { place = reader.place + bits }
 
 -- the bits left hold all fields of the layout
-abbrev pub StandLaid : List LaidField → BitPlace → Type 0
+abbrev pub StandLaid : List CommonField → BitPlace → Type 0
 StandLaid fields reader = IsOk (fields_at 1 1 (laid_course fields) (left reader))
 
 -- fields of a layout are skipped, none of them chosen, with all their bits, and the others are
 -- there
-pub record PassesLaid (asks : ℕ → Bool) (old new : List LaidField) (reader : BitPlace) (bits : ℕ)
+pub record PassesLaid (asks : ℕ → Bool) (old new : List CommonField) (reader : BitPlace) (bits : ℕ)
     : Type 0 where
   pub within : bits ≤ length (left reader)
   pub there : StandLaid new (moved_on reader bits)

@@ -32,6 +32,7 @@ pub use compressed::write::write_compressed;
 pub use data_template::DataTemplate;
 pub use descriptor_list::DescriptorList;
 pub use fields::Fields;
+pub use plain::copy::SUBSET_ROOM;
 pub use plain::laid_fields::LaidFields;
 pub use plain::read::read_plain;
 pub use plain::write::write_plain;

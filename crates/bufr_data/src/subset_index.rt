@@ -17,7 +17,7 @@ ghost use Rattle.bufr_data.specs.Subsets.{Extends, filled};
 use crate::chosen::{ChosenFields, ChosenSource};
 use crate::compressed::index::Columns;
 use crate::fields::Fields;
-use crate::plain::copy::{copy_bits, lent_octets};
+use crate::plain::copy::{SUBSET_ROOM, copy_bits, filled_octets, lent_octets};
 use crate::plain::fixed_size::{Alike, FixedSize};
 use crate::plain::index::{PlainSubsets, starts_of};
 use crate::plain::layout::Layout;
@@ -185,6 +185,26 @@ impl<'a> SubsetIndex<'a> {
             DataIndex::Plain(subsets) => {
                 let start = subsets.starts.at(index);
                 lent_octets(subsets.octets, start.bit, start.end)
+            }
+            DataIndex::Compressed(_) => None,
+        }
+    }
+
+    /// Lends the octets of the plain subset at an index, from 0, with zero bits after its last bit:
+    /// as `lent`, or in `room`. `None` if neither has them; then use `put`.
+    pub fn filled_octets<'b>(
+        &'b self,
+        index: usize,
+        room: &'b mut [u8; SUBSET_ROOM],
+    ) -> Option<&'b [u8]>
+        requires { index < length self.now }
+        ensures { IfSome result (λ lent. IfSome (slice_get self.now index) (λ s.
+            bits lent.now ≡ filled (plain s.fields))) }
+    {
+        match &self.data_index {
+            DataIndex::Plain(subsets) => {
+                let start = subsets.starts.at(index);
+                filled_octets(subsets.octets, start.bit, start.end, room)
             }
             DataIndex::Compressed(_) => None,
         }

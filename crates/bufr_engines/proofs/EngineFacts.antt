@@ -13,7 +13,7 @@ use Rattle.bufr_io.specs.declared.fault.Tally.{Tally}
 use Rattle.bufr_io.specs.declared.fault.ToolFault.{ToolFault}
 use Rattle.bufr_io.specs.declared.fault.ToolFault.TheVariants as faults
 use Rattle.bufr_io.specs.declared.input.Pieces.{Pieces}
-use Rattle.bufr_engines.specs.declared.printing.Printing.{Printing}
+use Rattle.bufr_engines.specs.declared.frame_lines.OutputForm.{OutputForm}
 use Rattle.bufr_io.specs.Engines.{IsFresh, WasReadOut, HasGiven, AreAllOf, FailsAfter}
 use Rattle.bufr_io.specs.Inputs.{GoesOn, ReadsOn}
 use Rattle.bufr_io.specs.Taking.{EndsEarly, unread, at_piece, at_end}
@@ -51,7 +51,7 @@ prints_unread reads old new pieces read start first p now (faults.EndlessInput w
 prints_unread reads old new pieces read start first p now e h none r = absurd r
 
 -- the first octets of the sure frames' text begin the whole stream's text too
-front_of_all : (printing : Printing) (tables : Entries) (left now : Option (List ℕ)) (read : List ℕ)
+front_of_all : (printing : OutputForm) (tables : Entries) (left now : Option (List ℕ)) (read : List ℕ)
     (first last : Writing) (written : ℕ)
     → IfSome left (λ all. (rest : List ℕ) × (all ≡ read ++ rest) × (now ≡ Some rest))
     → FailsAfter written first last (frames_text printing tables (sure read))
@@ -69,7 +69,7 @@ front_of_all printing tables (Some all) now read first last written given f =
     (fails_longer first last _
     (last_text printing (tally_of printing tables (read ++ rest))) written longer)
 
-prints_part : (printing : Printing) (tables : Entries) (reads : ℕ) (old new : Reading)
+prints_part : (printing : OutputForm) (tables : Entries) (reads : ℕ) (old new : Reading)
     (first now : Writing) (read : List ℕ) (count : ℕ) (e : ToolFault)
     → GoesOn old new read count → Stops (frames_text printing tables (sure read)) first now e
     → Prints printing tables reads old new first now (Err e)
@@ -95,7 +95,7 @@ of_all : (left : Option (List ℕ)) (read : List ℕ) (P : List ℕ → Type 0)
 of_all None read P same p = tt
 of_all (Some all) read P same p = subst P (sym same) p
 
-pub prints_whole : (printing : Printing) (tables : Entries) (reads : ℕ) (old new : Reading)
+pub prints_whole : (printing : OutputForm) (tables : Entries) (reads : ℕ) (old new : Reading)
     (first now : Writing) (read : List ℕ) (r : Result Tally ToolFault) → WasReadOut new
     → AreAllOf old read → HasGiven old new read → PrintsEnd printing tables read first now r
     → Prints printing tables reads old new first now r
@@ -121,13 +121,13 @@ prints_whole printing tables reads old new first now read
     )
 prints_whole printing tables reads old new first now read (Err e) out all given p = absurd p
 
-pub prints_nothing : (printing : Printing) (tables : Entries) (reads : ℕ) (reader : Reading)
+pub prints_nothing : (printing : OutputForm) (tables : Entries) (reads : ℕ) (reader : Reading)
     (writer : Writing) → IsFresh reader → writer.failed ≡ false
     → Prints printing tables reads reader reader writer writer (Err faults.OutOfMemory)
 prints_nothing printing tables reads reader writer fresh works =
     (fresh.failed, [], HasGiven_none reader, lines_none writer _ works)
 
-stops_further : (printing : Printing) (tables : Entries) (first now : Writing)
+stops_further : (printing : OutputForm) (tables : Entries) (first now : Writing)
     (front rest frames : List Found) (e : ToolFault) → frames ≡ front ++ rest
     → Stops (frames_text printing tables front) first now e
     → Stops (frames_text printing tables frames) first now e
@@ -162,7 +162,7 @@ prints_early reads old new start first p now e (at_end stream out all given s) =
     (stops_further start.printing start.message_reader first now s.front s.rest (cut stream) e s.parted
     s.stopped))
 
-pub prints_made : (printing : Printing) (tables : Entries) (reads : ℕ) (old new : Reading)
+pub prints_made : (printing : OutputForm) (tables : Entries) (reads : ℕ) (old new : Reading)
     (first now : Writing) (start : Printer) (r : Result Tally ToolFault)
     → start.printing ≡ printing → start.message_reader ≡ tables
     → Prints start.printing start.message_reader reads old new first now r

@@ -13,8 +13,8 @@ use Rattle.bufr_message.specs.declared.Message.{Message}
 use Rattle.bufr_message.specs.declared.Refused.{Refused}
 use Rattle.bufr_message.specs.Messages.{message_of}
 use Rattle.bufr_message.specs.Reasons.{reason}
-use Rattle.bufr_engines.specs.declared.printing.Printing.{Printing}
-use Rattle.bufr_engines.specs.declared.printing.Printing.TheVariants.{Shown, Checked}
+use Rattle.bufr_engines.specs.declared.frame_lines.OutputForm.{OutputForm}
+use Rattle.bufr_engines.specs.declared.frame_lines.OutputForm.TheVariants.{Shown, Checked}
 use Rattle.bufr_io.specs.Engines.{WritesAll}
 use Rattle.bufr_io.specs.WritingLaws.{writes_none}
 use Rattle.bufr_engines.specs.Output.{fields_text, place_and_length, printed_as, frame_text}
@@ -35,7 +35,7 @@ listing_whole m = joined_whole (lines_of m)
 
 -- ---- frames
 
-pub printed_whole : (printing : Printing) (frame : Found) (found : Result Decoded Refused)
+pub printed_whole : (printing : OutputForm) (frame : Found) (found : Result Decoded Refused)
     → AreWholeLines (printed_as printing frame found)
 printed_whole Shown frame (Ok found) = listing_whole found.message
 printed_whole Shown frame (Err why) =
@@ -46,7 +46,7 @@ printed_whole Checked frame (Ok found) =
 printed_whole Checked frame (Err why) =
     line_whole (place_and_length frame ++ codes " refused " ++ reason why)
 
-pub frame_whole : (printing : Printing) (tables : Entries) (frame : Found)
+pub frame_whole : (printing : OutputForm) (tables : Entries) (frame : Found)
     → AreWholeLines (frame_text printing tables frame)
 frame_whole printing tables frame = printed_whole printing frame (message_of tables frame.bytes)
 

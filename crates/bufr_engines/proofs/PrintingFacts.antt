@@ -17,7 +17,7 @@ use Rattle.bufr_message.specs.Messages.{message_of}
 use Rattle.bufr_engines.specs.declared.printer.Printer.{Printer}
 use Rattle.bufr_io.specs.declared.fault.ToolFault.{ToolFault}
 use Rattle.bufr_io.specs.declared.fault.ToolFault.TheVariants as faults
-use Rattle.bufr_engines.specs.declared.printing.Printing.{Printing}
+use Rattle.bufr_engines.specs.declared.frame_lines.OutputForm.{OutputForm}
 use Rattle.bufr_io.specs.Engines.{FailsAfter}
 use Rattle.bufr_engines.specs.Refusals.{frame_refused, refused_as}
 use Rattle.bufr_engines.specs.Output.{frame_text, frames_text}
@@ -28,18 +28,18 @@ use Rattle.bufr_engines.proofs.PartFacts.{adds_written, but_all, counted_all, he
 use Rattle.bufr_engines.proofs.PartFacts.{held_more, held_none, some_all, within_more}
 use Rattle.bufr_io.specs.WritingLaws.{fails_longer}
 
-pub text_more : (printing : Printing) (tables : Entries) (frames : List Found) (frame : Found)
+pub text_more : (printing : OutputForm) (tables : Entries) (frames : List Found) (frame : Found)
     → frames_text printing tables (frames ++ frame ∷ [])
     ≡ frames_text printing tables frames ++ frame_text printing tables frame
 text_more printing tables frames frame =
     sym (flat_map_more (frame_text printing tables) [] frames frame)
 
-pub text_append : (printing : Printing) (tables : Entries) (frames more : List Found)
+pub text_append : (printing : OutputForm) (tables : Entries) (frames more : List Found)
     → frames_text printing tables (frames ++ more)
     ≡ frames_text printing tables frames ++ frames_text printing tables more
 text_append printing tables frames more = flat_map-append (frame_text printing tables) frames more
 
-pub frame_ends : (printing : Printing) (tables : Entries) (frame : Found) (p q p' : Printer)
+pub frame_ends : (printing : OutputForm) (tables : Entries) (frame : Found) (p q p' : Printer)
     (first mid last : Writing) (r : Result (Unit {0}) ToolFault)
     → WritesPart q p' mid last r → Keeps q p'
     → p'.written + length p'.held.items < q.written + 2 ^ 64
@@ -72,7 +72,7 @@ frame_ends printing tables frame p q p' first mid last (Err e) part keeps short 
       λ long. omega (arith, most, short, fits),
     )
 
-pub printed_none : (printing : Printing) (tables : Entries) (first : Writing) (p : Printer)
+pub printed_none : (printing : OutputForm) (tables : Entries) (first : Writing) (p : Printer)
     → p.printing ≡ printing → p.message_reader ≡ tables → p.frames ≡ 0 → p.refused ≡ 0 → p.octets ≡ 0
     → p.written ≡ 0 → p.held.items ≡ [] → first.failed ≡ false
     → HasPrinted printing tables first first p []
@@ -87,7 +87,7 @@ printed_none printing tables first p is under frames refused inside out held wor
   short = omega arith;
 }
 
-pub told : (printing : Printing) (tables : Entries) (first mid now : Writing) (p p' : Printer)
+pub told : (printing : OutputForm) (tables : Entries) (first mid now : Writing) (p p' : Printer)
     (frames : List Found) (frame : Found) (r : Result (Unit {0}) ToolFault)
     → HasPrinted printing tables first mid p frames
     → PrintsFrame p.printing p.message_reader frame p p' mid now r
@@ -96,7 +96,7 @@ told printing tables first mid now p p' frames frame r h prints =
     subst (λ q. PrintsFrame q tables frame p p' mid now r) h.printing_is
     (subst (λ t. PrintsFrame p.printing t frame p p' mid now r) h.tables_are prints)
 
-pub printed_more : (printing : Printing) (tables : Entries) (first mid now : Writing)
+pub printed_more : (printing : OutputForm) (tables : Entries) (first mid now : Writing)
     (p p' : Printer) (frames : List Found) (frame : Found) (done : Unit {0})
     → HasPrinted printing tables first mid p frames
     → PrintsFrame p.printing p.message_reader frame p p' mid now (Ok done)
@@ -129,7 +129,7 @@ printed_more printing tables first mid now p p' frames frame done h prints is un
           let s = h.short in let t = a.short in omega arith;
     }
 
-pub printed_written : (printing : Printing) (tables : Entries) (first mid now : Writing)
+pub printed_written : (printing : OutputForm) (tables : Entries) (first mid now : Writing)
     (p p' : Printer) (frames : List Found) (done : Unit {0})
     → HasPrinted printing tables first mid p frames → WritesHeld p p' mid now (Ok done)
     → Keeps p p' → HasPrinted printing tables first now p' frames
@@ -144,19 +144,19 @@ printed_written printing tables first mid now p p' frames done h w keeps = recor
   short = h.short;
 }
 
-pub printed_short : (printing : Printing) (tables : Entries) (first now : Writing) (p : Printer)
+pub printed_short : (printing : OutputForm) (tables : Entries) (first now : Writing) (p : Printer)
     (frames : List Found) → HasPrinted printing tables first now p frames
     → p.written + length p.held.items + p.frames ≤ 2 ^ 80 * p.frames
 printed_short printing tables first now p frames h =
     omega (arith, counted_all _ _ _ _ _ _ h.text, h.short, h.frames_are)
 
-pub printed_fits : (printing : Printing) (tables : Entries) (first now : Writing) (p : Printer)
+pub printed_fits : (printing : OutputForm) (tables : Entries) (first now : Writing) (p : Printer)
     (frames : List Found) → HasPrinted printing tables first now p frames
     → length frames ≤ 2 ^ 48 → Fits p
 printed_fits printing tables first now p frames h few = λ long.
     omega (arith, counted_all _ _ _ _ _ _ h.text, h.short, few)
 
-pub fails_further : (printing : Printing) (tables : Entries) (first now : Writing)
+pub fails_further : (printing : OutputForm) (tables : Entries) (first now : Writing)
     (frames more : List Found) (written : ℕ)
     → FailsAfter written first now (frames_text printing tables frames)
     → FailsAfter written first now (frames_text printing tables (frames ++ more))
@@ -174,14 +174,14 @@ refused_one tables frame =
     elim (message_of tables frame.bytes) as (λ (r : Result Decoded Refused). refused_as r ≤ 1)
     [ Ok found ↦ omega arith | Err why ↦ omega arith ]
 
-pub refused_at_most : (printing : Printing) (tables : Entries) (first now : Writing)
+pub refused_at_most : (printing : OutputForm) (tables : Entries) (first now : Writing)
     (p : Printer) (frames : List Found) → HasPrinted printing tables first now p frames
     → p.refused ≤ p.frames
 refused_at_most printing tables first now p frames h =
     let a = h.refused_are in let b = h.frames_are in
     omega (arith, refused_few (frame_refused tables) frames (refused_one tables))
 
-pub stopped : (printing : Printing) (tables : Entries) (first mid now : Writing)
+pub stopped : (printing : OutputForm) (tables : Entries) (first mid now : Writing)
     (p p' : Printer) (frames : List Found) (frame : Found) (e : ToolFault)
     → HasPrinted printing tables first mid p frames
     → PrintsFrame p.printing p.message_reader frame p p' mid now (Err e)
@@ -193,7 +193,7 @@ stopped printing tables first mid now p p' frames frame e h prints =
     (within_more (frames_text printing tables frames) (frame_text printing tables frame) first mid
     now p p' e (frame_whole printing tables frame) h.text a.0 a.1)
 
-pub halted : (printing : Printing) (tables : Entries) (first now : Writing) (p p' : Printer)
+pub halted : (printing : OutputForm) (tables : Entries) (first now : Writing) (p p' : Printer)
     (frames : List Found) → HasPrinted printing tables first now p frames
     → length frames ≤ 2 ^ 48 → p'.held.items ≡ p.held.items → p'.written ≡ p.written
     → StopsWithin (frames_text printing tables frames) first p' now faults.OutOfMemory

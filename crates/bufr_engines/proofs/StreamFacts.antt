@@ -12,7 +12,7 @@ use Rattle.bufr_frame.specs.Streams.{cut}
 use Rattle.bufr_engines.specs.declared.printer.Printer.{Printer}
 use Rattle.bufr_io.specs.declared.fault.ToolFault.{ToolFault}
 use Rattle.bufr_io.specs.declared.fault.ToolFault.TheVariants as faults
-use Rattle.bufr_engines.specs.declared.printing.Printing.{Printing}
+use Rattle.bufr_engines.specs.declared.frame_lines.OutputForm.{OutputForm}
 use Rattle.bufr_io.specs.declared.fault.Tally.{Tally}
 use Rattle.bufr_io.specs.Engines.{WritesAll, WritesAfter, FailsAfter}
 use Rattle.bufr_engines.specs.Output.{octets_of, frames_text, stream_text, last_text, tally_of}
@@ -78,14 +78,14 @@ held_stopped writing p p' mid now (Err e) w = λ start begin frames h.
 
 -- ---- the end
 
-pub end_text : (printing : Printing) (tables : Entries) (stream text : List ℕ) (tally : Tally)
+pub end_text : (printing : OutputForm) (tables : Entries) (stream text : List ℕ) (tally : Tally)
     → tally ≡ tally_of printing tables stream → text ≡ last_text printing tally
     → frames_text printing tables (cut stream) ++ text ≡ stream_text printing tables stream
 end_text printing tables stream text tally is last =
     ap (λ (t : List ℕ). frames_text printing tables (cut stream) ++ t)
     (last ∙ ap (last_text printing) is)
 
-pub end_tally : (printing : Printing) (tables : Entries) (first now : Writing) (p : Printer)
+pub end_tally : (printing : OutputForm) (tables : Entries) (first now : Writing) (p : Printer)
     (fed skipped : ℕ) (stream : List ℕ) → HasEnded printing tables first now p fed stream
     → skipped ≡ skipped_by p.printing fed p.octets
     → record {
@@ -102,7 +102,7 @@ end_tally printing tables first now p fed skipped stream h is =
     ∙ ap (skipped_by printing (length stream)) h.printed.octets_are in
     rw (h.printed.frames_are, h.printed.refused_are, here) refl
 
-pub end_held : (printing : Printing) (tables : Entries) (first mid : Writing) (p : Printer)
+pub end_held : (printing : OutputForm) (tables : Entries) (first mid : Writing) (p : Printer)
     (fed : ℕ) (stream held : List ℕ) (tally : Tally)
     → (h : HasEnded printing tables first mid p fed stream)
     → tally ≡ tally_of printing tables stream → held ≡ p.held.items ++ last_text p.printing tally
@@ -116,7 +116,7 @@ end_held printing tables first mid p fed stream held tally h is held_is =
     ∙ append_assoc front p.held.items last
     ∙ ap (λ (t : List ℕ). front ++ t) (sym held_is)
 
-pub end_done : (printing : Printing) (tables : Entries) (first mid now : Writing) (p : Printer)
+pub end_done : (printing : OutputForm) (tables : Entries) (first mid now : Writing) (p : Printer)
     (fed : ℕ) (stream held : List ℕ) (tally : Tally)
     → HasEnded printing tables first mid p fed stream → tally ≡ tally_of printing tables stream
     → held ≡ p.held.items ++ last_text p.printing tally → WritesAll mid now held
@@ -128,7 +128,7 @@ end_done printing tables first mid now p fed stream held tally h is held_is w = 
   is,
 )
 
-pub end_fails : (printing : Printing) (tables : Entries) (first mid now : Writing) (p : Printer)
+pub end_fails : (printing : OutputForm) (tables : Entries) (first mid now : Writing) (p : Printer)
     (fed : ℕ) (stream held : List ℕ) (tally : Tally) (e : ToolFault)
     → HasEnded printing tables first mid p fed stream → tally ≡ tally_of printing tables stream
     → held ≡ p.held.items ++ last_text p.printing tally
@@ -144,7 +144,7 @@ end_fails printing tables first mid now p fed stream held tally
     (fails_more first mid now front held w.0 h.printed.text.written w.2))
 end_fails printing tables first mid now p fed stream held tally e h is held_is w = absurd w
 
-pub end_halted : (printing : Printing) (tables : Entries) (first now : Writing) (p p' : Printer)
+pub end_halted : (printing : OutputForm) (tables : Entries) (first now : Writing) (p p' : Printer)
     (fed : ℕ) (stream : List ℕ) → HasEnded printing tables first now p fed stream
     → fed < 2 ^ 48 → p'.held.items ≡ p.held.items → p'.written ≡ p.written
     → StopsWithin (frames_text printing tables (cut stream)) first p' now faults.OutOfMemory
@@ -153,7 +153,7 @@ end_halted printing tables first now p p' fed stream h short held written =
     let long = h.long in
     halted printing tables first now p p' (cut stream) h.printed (omega arith) held written
 
-pub end_stopped : (printing : Printing) (tables : Entries) (first now : Writing)
+pub end_stopped : (printing : OutputForm) (tables : Entries) (first now : Writing)
     (stream : List ℕ) (e : ToolFault)
     → Stops (frames_text printing tables (cut stream)) first now e
     → PrintsEnd printing tables stream first now (Err e)

@@ -15,8 +15,8 @@ use Rattle.bufr_listing.specs.Listings.{line, field_line, listing}
 use Rattle.bufr_message.specs.Reasons.{reason}
 use Rattle.bufr_io.specs.declared.fault.Tally.{Tally}
 use Rattle.bufr_engines.specs.Refusals.{refused_of}
-use Rattle.bufr_engines.specs.declared.printing.Printing.{Printing}
-use Rattle.bufr_engines.specs.declared.printing.Printing.TheVariants.{Shown, Checked}
+use Rattle.bufr_engines.specs.declared.frame_lines.OutputForm.{OutputForm}
+use Rattle.bufr_engines.specs.declared.frame_lines.OutputForm.TheVariants.{Shown, Checked}
 
 -- ---- one frame
 
@@ -45,18 +45,18 @@ checked_as frame (Ok found) = checked_line frame (summary found)
 checked_as frame (Err why) = place_and_length frame ++ codes " refused " ++ reason why ++ 10 ∷ []
 
 -- the text of either command for a frame
-abbrev pub printed_as : Printing → Found → Result Decoded Refused → List ℕ
+abbrev pub printed_as : OutputForm → Found → Result Decoded Refused → List ℕ
 printed_as Shown frame found = shown_as frame found
 printed_as Checked frame found = checked_as frame found
 
 -- the text for a frame under the tables
-abbrev pub frame_text : Printing → Entries → Found → List ℕ
+abbrev pub frame_text : OutputForm → Entries → Found → List ℕ
 frame_text printing tables frame = printed_as printing frame (message_of tables frame.bytes)
 
 -- ---- frames
 
 -- the texts for frames, one after another
-abbrev pub frames_text : Printing → Entries → List Found → List ℕ
+abbrev pub frames_text : OutputForm → Entries → List Found → List ℕ
 frames_text printing tables frames = flat_map (frame_text printing tables) frames
 
 -- the number of octets of the frames
@@ -67,12 +67,12 @@ octets_of frames = sum_by (λ frame. length frame.bytes) frames
 
 -- the number of a stream's octets outside its frames, for the command that counts them: the
 -- stream's length less the length of its frames
-abbrev pub skipped_by : Printing → ℕ → ℕ → ℕ
+abbrev pub skipped_by : OutputForm → ℕ → ℕ → ℕ
 skipped_by Shown long inside = 0
 skipped_by Checked long inside = long - inside
 
 -- the counts of a stream
-abbrev pub tally_of : Printing → Entries → List ℕ → Tally
+abbrev pub tally_of : OutputForm → Entries → List ℕ → Tally
 tally_of printing tables stream = record {
   frames = length (cut stream);
   refused = refused_of tables (cut stream);
@@ -86,12 +86,12 @@ tally_line tally = codes "frames " ++ decimal tally.frames ++ codes " refused "
     ++ decimal tally.refused ++ codes " skipped " ++ decimal tally.skipped ++ 10 ∷ []
 
 -- the text after the frames
-abbrev pub last_text : Printing → Tally → List ℕ
+abbrev pub last_text : OutputForm → Tally → List ℕ
 last_text Shown tally = []
 last_text Checked tally = tally_line tally
 
 -- the text for a stream: for each frame of its cut, and the last line
-abbrev pub stream_text : Printing → Entries → List ℕ → List ℕ
+abbrev pub stream_text : OutputForm → Entries → List ℕ → List ℕ
 stream_text printing tables stream =
     frames_text printing tables (cut stream) ++ last_text printing (tally_of printing tables stream)
 

@@ -12,7 +12,7 @@ use Rattle.bufr_io.specs.declared.fault.Input.TheVariants.{Number}
 use Rattle.bufr_io.specs.declared.fault.Tally.{Tally}
 use Rattle.bufr_io.specs.declared.fault.ToolFault.{ToolFault}
 use Rattle.bufr_io.specs.declared.fault.ToolFault.TheVariants as faults
-use Rattle.bufr_engines.specs.declared.printing.Printing.{Printing}
+use Rattle.bufr_engines.specs.declared.frame_lines.OutputForm.{OutputForm}
 use Rattle.bufr_io.specs.Engines.{WasReadOut, HasFailed, IsEndless, HasGiven, AreAllOf}
 use Rattle.bufr_io.specs.Engines.{WritesAll, WritesAfter, FailsAfter}
 use Rattle.bufr_engines.specs.Refusals.{frame_refused, refused_of}
@@ -24,7 +24,7 @@ use Rattle.bufr_io.specs.Reached.{frames_by}
 -- ---- an engine
 
 -- the text for these frames, and at the end the last line
-abbrev pub text_by : Printing → Entries → Bool → List ℕ → List ℕ
+abbrev pub text_by : OutputForm → Entries → Bool → List ℕ → List ℕ
 text_by printing tables true read = stream_text printing tables read
 text_by printing tables false read = frames_text printing tables (sure read)
 
@@ -34,7 +34,7 @@ text_by printing tables false read = frames_text printing tables (sure read)
 -- whole lines of the frames that a framer may hand out after the octets read, and nothing else. If
 -- the writer fails: they have written the first `written` octets of the text for the octets read,
 -- which begin the text of the whole stream too.
-abbrev pub Prints : Printing → Entries → ℕ → Reading → Reading → Writing → Writing
+abbrev pub Prints : OutputForm → Entries → ℕ → Reading → Reading → Writing → Writing
     → Result Tally ToolFault → Type 0
 Prints printing tables reads reader reader' writer writer' (Ok tally) =
     WasReadOut reader' × (stream : List ℕ) × AreAllOf reader stream
@@ -131,7 +131,7 @@ Fits p = length p.held.items < 2 ^ 64 → p.written + length p.held.items < 2 ^ 
 -- ---- frame by frame
 
 -- prints and counts a frame
-pub record HasAdded (printing : Printing) (tables : Entries) (frame : Found) (p p' : Printer)
+pub record HasAdded (printing : OutputForm) (tables : Entries) (frame : Found) (p p' : Printer)
     (writer writer' : Writing) : Type 0 where
   pub text : WritesAllBut p'.held.items (p.held.items ++ frame_text printing tables frame)
       p.written p'.written writer writer'
@@ -141,7 +141,7 @@ pub record HasAdded (printing : Printing) (tables : Entries) (frame : Found) (p 
   pub short : length (frame_text printing tables frame) < 2 ^ 80
 
 -- prints and counts a frame, or stops within its text
-abbrev pub PrintsFrame : Printing → Entries → Found → Printer → Printer → Writing → Writing
+abbrev pub PrintsFrame : OutputForm → Entries → Found → Printer → Printer → Writing → Writing
     → Result (Unit {0}) ToolFault → Type 0
 PrintsFrame printing tables frame p p' writer writer' (Ok done) =
     HasAdded printing tables frame p p' writer writer'
@@ -150,7 +150,7 @@ PrintsFrame printing tables frame p p' writer writer' (Err fault) =
 
 -- has printed and counted these frames since the writer's state `first`: their text is what it has
 -- written since and what it holds
-pub record HasPrinted (printing : Printing) (tables : Entries) (first now : Writing)
+pub record HasPrinted (printing : OutputForm) (tables : Entries) (first now : Writing)
     (p : Printer) (frames : List Found) : Type 0 where
   pub printing_is : p.printing ≡ printing
   pub tables_are : p.message_reader ≡ tables
@@ -182,14 +182,14 @@ pub record HasPrintedSince (start : Printer) (first : Writing) (p : Printer) (no
   pub printed : HasPrinted start.printing start.message_reader first now p frames
 
 -- has printed all frames of a stream of `fed` octets, which has ended
-pub record HasEnded (printing : Printing) (tables : Entries) (first now : Writing) (p : Printer)
+pub record HasEnded (printing : OutputForm) (tables : Entries) (first now : Writing) (p : Printer)
     (fed : ℕ) (stream : List ℕ) : Type 0 where
   pub printed : HasPrinted printing tables first now p (cut stream)
   pub long : fed ≡ length stream
 
 -- writes the text after the frames too, or the writer fails after the first octets of the stream's
 -- text; if memory runs out, some lines of its frames
-abbrev pub PrintsEnd : Printing → Entries → List ℕ → Writing → Writing → Result Tally ToolFault
+abbrev pub PrintsEnd : OutputForm → Entries → List ℕ → Writing → Writing → Result Tally ToolFault
     → Type 0
 PrintsEnd printing tables stream first now (Ok tally) =
     WritesAll first now (stream_text printing tables stream)

@@ -2,10 +2,10 @@ ghost use Rattle.std.specs.Prelude.{◌≡◌, ◌≤◌, false};
 ghost use Rattle.bufr_io.specs.Engines.{IsFresh};
 ghost use Rattle.bufr_io.specs.Limits.{most_reads};
 ghost use Rattle.bufr_engines.specs.StreamEngines.{Prints};
-ghost use Rattle.bufr_engines.specs.declared.printing.Printing.TheVariants.{Checked};
+ghost use Rattle.bufr_engines.specs.declared.frame_lines.OutputForm.TheVariants.{Checked};
 
+use crate::frame_lines::OutputForm;
 use crate::frames::print_stream;
-use crate::printing::Printing;
 use bufr_bits::{Sink, Source};
 use bufr_io::{Tally, ToolFault};
 use bufr_tables::Tables;
@@ -29,5 +29,5 @@ pub fn run_check<S: Source, W: Sink>(
     ensures checks { Prints Checked tables.now reads (S.reading reader.old) (S.reading reader.new)
         (W.writing writer.old) (W.writing writer.new) result }
 {
-    print_stream(alloc, Printing::Checked, reads, tables, reader, writer)
+    print_stream(alloc, OutputForm::Checked, reads, tables, reader, writer)
 }

@@ -6,11 +6,11 @@ ghost use Rattle.bufr_tables.specs.Entries.{Entries};
 ghost use Rattle.bufr_io.specs.Engines.{IsFresh};
 ghost use Rattle.bufr_io.specs.Limits.{most_reads};
 ghost use Rattle.bufr_engines.specs.Output.{frames_text, skipped_by};
-ghost use Rattle.bufr_engines.specs.declared.printing.Printing.{Printing as PrintingKind};
+ghost use Rattle.bufr_engines.specs.declared.frame_lines.OutputForm.{OutputForm as PrintingKind};
 ghost use Rattle.bufr_engines.specs.StreamEngines.{HasEnded, HasPrintedSince, Prints, PrintsEnd, Stops};
 
+use crate::frame_lines::{OutputForm, hold_tally};
 use crate::printer::Printer;
-use crate::printing::{Printing, hold_tally};
 use bufr_bits::{Sink, Source};
 use bufr_io::{Input, TakesFrames, Tally, ToolFault, read_buffer, take_stream, write_out};
 use bufr_tables::Tables;
@@ -69,8 +69,8 @@ fn print_tally<W: Sink>(
         → PrintsEnd printing tables stream first (W.writing writer.new) result }
 {
     let skipped = match printer.printing {
-        Printing::Shown => 0,
-        Printing::Checked => fed - printer.octets,
+        OutputForm::Shown => 0,
+        OutputForm::Checked => fed - printer.octets,
     };
     let tally = Tally {
         frames: printer.frames,
@@ -88,7 +88,7 @@ fn print_tally<W: Sink>(
 /// Prints the frames of a stream, each as soon as it is sure, and the last line.
 pub(crate) fn print_stream<S: Source, W: Sink>(
     alloc: Global,
-    printing: Printing,
+    printing: OutputForm,
     reads: u64,
     tables: &Tables,
     reader: &mut S,

@@ -12,12 +12,12 @@ ghost use Rattle.bufr_engines.specs.Refusals.{frame_refused};
 ghost use Rattle.bufr_engines.specs.ShortListings.{HasShortListing};
 ghost use Rattle.bufr_io.specs.Taking.{frame_at};
 ghost use Rattle.bufr_engines.specs.Output.{fields_text, frame_text};
-ghost use Rattle.bufr_engines.specs.declared.printing.Printing.TheVariants.{Shown, Checked};
+ghost use Rattle.bufr_engines.specs.declared.frame_lines.OutputForm.TheVariants.{Shown, Checked};
 ghost use Rattle.bufr_engines.specs.StreamEngines.{Adds, Fits, Keeps, PrintsFrame};
 ghost use Rattle.bufr_engines.specs.StreamEngines.{Stops, StopsWithin, WritesAllBut, WritesHeld};
 ghost use Rattle.bufr_engines.specs.StreamEngines.{WritesPart};
 
-use crate::printing::{Printing, hold_checked, hold_field, hold_refused};
+use crate::frame_lines::{OutputForm, hold_checked, hold_field, hold_refused};
 use bufr_base::{Failure, OutOfMemory};
 use bufr_bits::Sink;
 use bufr_io::{ToolFault, write_after};
@@ -35,7 +35,7 @@ const LONGEST_HELD: usize = 65_536;
 #[derive(Drop)]
 pub(crate) struct Printer<'t> {
     /// What it prints.
-    pub(crate) printing: Printing,
+    pub(crate) printing: OutputForm,
     /// The reader of messages.
     pub(crate) message_reader: MessageReader<'t>,
     /// All frames that it printed.
@@ -53,7 +53,7 @@ pub(crate) struct Printer<'t> {
 }
 
 impl<'t> Printer<'t> {
-    pub(crate) fn new(alloc: Global, printing: Printing, tables: &'t Tables) -> Printer<'t>
+    pub(crate) fn new(alloc: Global, printing: OutputForm, tables: &'t Tables) -> Printer<'t>
         ensures printing { result.printing ≡ printing }
         ensures tables { result.message_reader ≡ tables.now }
         ensures frames { result.frames ≡ 0 }
@@ -194,7 +194,14 @@ impl<'t> Printer<'t> {
                 Ok(false)
             }
             Err(Failure::Fault(why)) => {
-                hold_refused(alloc, &mut self.held, Printing::Shown, place, octets, &why)?;
+                hold_refused(
+                    alloc,
+                    &mut self.held,
+                    OutputForm::Shown,
+                    place,
+                    octets,
+                    &why,
+                )?;
                 Ok(true)
             }
             Err(Failure::OutOfMemory) => Err(ToolFault::OutOfMemory),
@@ -221,7 +228,7 @@ impl<'t> Printer<'t> {
                 hold_refused(
                     alloc,
                     &mut self.held,
-                    Printing::Checked,
+                    OutputForm::Checked,
                     place,
                     octets,
                     &why,
@@ -255,8 +262,8 @@ impl<'t> Printer<'t> {
         ensures short { self.new.written + 2 ^ 64 ≤ self.old.written + 2 ^ 80 }
     {
         match self.printing {
-            Printing::Shown => self.show_frame(alloc, place, octets, writer),
-            Printing::Checked => Ok(self.check_frame(alloc, place, octets)?),
+            OutputForm::Shown => self.show_frame(alloc, place, octets, writer),
+            OutputForm::Checked => Ok(self.check_frame(alloc, place, octets)?),
         }
     }
 

@@ -2,10 +2,10 @@ ghost use Rattle.std.specs.Prelude.{◌≡◌, ◌≤◌, false};
 ghost use Rattle.bufr_io.specs.Engines.{IsFresh};
 ghost use Rattle.bufr_io.specs.Limits.{most_reads};
 ghost use Rattle.bufr_engines.specs.StreamEngines.{Prints};
-ghost use Rattle.bufr_engines.specs.declared.printing.Printing.TheVariants.{Shown};
+ghost use Rattle.bufr_engines.specs.declared.frame_lines.OutputForm.TheVariants.{Shown};
 
+use crate::frame_lines::OutputForm;
 use crate::frames::print_stream;
-use crate::printing::Printing;
 use bufr_bits::{Sink, Source};
 use bufr_io::{Tally, ToolFault};
 use bufr_tables::Tables;
@@ -28,5 +28,5 @@ pub fn run_show<S: Source, W: Sink>(
     ensures shows { Prints Shown tables.now reads (S.reading reader.old) (S.reading reader.new)
         (W.writing writer.old) (W.writing writer.new) result }
 {
-    print_stream(alloc, Printing::Shown, reads, tables, reader, writer)
+    print_stream(alloc, OutputForm::Shown, reads, tables, reader, writer)
 }

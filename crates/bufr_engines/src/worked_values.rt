@@ -2,7 +2,7 @@ ghost use Rattle.std.specs.Prelude.{◌≡◌, ◌++◌, ◌∷◌, [], Ok, Err,
 ghost use Rattle.bufr_io.specs.Faults.{input_text};
 ghost use Rattle.bufr_engines.specs.Output.{checked_as, last_text, shown_as, skipped_by};
 ghost use Rattle.bufr_engines.specs.Samples.{counted, frame_of_12, three_subsets};
-ghost use Rattle.bufr_engines.specs.declared.printing.Printing.TheVariants.{Checked, Shown};
+ghost use Rattle.bufr_engines.specs.declared.frame_lines.OutputForm.TheVariants.{Checked, Shown};
 
 use bufr_io::Input;
 use bufr_message::Refused;

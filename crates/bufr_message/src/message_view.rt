@@ -29,7 +29,7 @@ use bufr_base::{Failure, Items, OutOfMemory};
 use bufr_bits::{BitReader, BitSink};
 use bufr_data::laws::data_hold_subsets;
 use bufr_data::{
-    CachedTemplate, ChosenFields, DataFault, DataTemplate, Fields, Subset, SubsetIndex,
+    CachedTemplate, ChosenFields, DataFault, DataTemplate, Fields, SUBSET_ROOM, Subset, SubsetIndex,
 };
 use bufr_sections::{
     Decoded, Envelope, Head, LentSections, Message, Refused, SectionsInPlace, are_bare,
@@ -40,7 +40,7 @@ use std::alloc::Global;
 use std::marker::Model;
 use std::rc::Rc;
 
-/// The first capacity for the octets of a subset. Most have fewer.
+/// The first capacity for the octets of a long or compressed subset.
 const OCTETS_WITH_ROOM: usize = 64;
 
 /// A view of a message as read, which builds a subset only on request. Contracts see what `decode`
@@ -224,7 +224,8 @@ impl<'a> View<'a> {
         let head = &self.sections.head;
         let observed = self.sections.observed;
         let descriptors = self.descriptors.as_slice();
-        if let Some(contents) = self.subsets.lent(index) {
+        let mut room = [0; SUBSET_ROOM];
+        if let Some(contents) = self.subsets.filled_octets(index, &mut room) {
             return put_alone(alloc, head, observed, descriptors, contents, out);
         }
         let mut sink = BitSink::with_capacity(alloc, OCTETS_WITH_ROOM)?;

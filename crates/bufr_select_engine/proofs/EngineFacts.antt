@@ -35,7 +35,7 @@ use Rattle.bufr_select_engine.specs.Selectors.{rows_of, selection_of}
 use Rattle.bufr_select_engine.specs.Selects.{EndsSelecting, Selects, Takes, TakesFirst, WritesFront}
 use Rattle.bufr_select_engine.specs.Selects.{Writings}
 use Rattle.bufr_io.specs.declared.held_rows.HeldRows.{HeldRows}
-use Rattle.bufr_select_engine.specs.declared.selector.Selector.{Selector}
+use Rattle.bufr_select_engine.specs.declared.frame_selector.FrameSelector.{FrameSelector}
 use Rattle.bufr_io.specs.HeldLaws.{rows_failed, stop_unwritten}
 use Rattle.bufr_select_engine.proofs.SelectedFacts.{refused_few}
 
@@ -109,28 +109,28 @@ header_fails s reads readers r r' w w' e none zero works heard same stops = absu
 -- ---- input by input
 
 -- a selector that begins the next input
-abbrev pub begun : Selector → ℕ → Selector
+abbrev pub begun : FrameSelector → ℕ → FrameSelector
 begun p i = record p { input = i + 1; frames = 0; refused = 0 }
 
 -- it holds what it held, is as ready as it was, and hears the writers as it did
-pub begun_held : (p q : Selector) (i : ℕ) → q ≡ begun p i → p.rows.held.items ≡ []
+pub begun_held : (p q : FrameSelector) (i : ℕ) → q ≡ begun p i → p.rows.held.items ≡ []
     → q.rows.held.items ≡ []
-begun_held p q i is none = ap (λ (x : Selector). x.rows.held.items) is ∙ none
+begun_held p q i is none = ap (λ (x : FrameSelector). x.rows.held.items) is ∙ none
 
-pub begun_ready : (p q : Selector) (i : ℕ) → q ≡ begun p i → IsReady p → IsReady q
+pub begun_ready : (p q : FrameSelector) (i : ℕ) → q ≡ begun p i → IsReady p → IsReady q
 begun_ready p q i is ready =
     subst IsReady (sym is) (record { cells = ready.cells; covers = ready.covers })
 
-pub begun_heard : (p q : Selector) (i : ℕ) (w : Writings) → q ≡ begun p i → AreHeard p w
+pub begun_heard : (p q : FrameSelector) (i : ℕ) (w : Writings) → q ≡ begun p i → AreHeard p w
     → AreHeard q w
 begun_heard p q i w is heard = record {
   works = heard.works;
-  heard = heard.heard ∙ sym (ap (λ (x : Selector). x.unheard) is);
+  heard = heard.heard ∙ sym (ap (λ (x : FrameSelector). x.unheard) is);
 }
 
 -- the first inputs were read out, their rows and refusals were written, and their frames are counted
 pub record SelectedThrough (s : Selection) (reads : ℕ) (olds news : List Reading)
-    (begin now : Writings) (p : Selector) (tally : Tally) (i : ℕ) : Type 0 where
+    (begin now : Writings) (p : FrameSelector) (tally : Tally) (i : ℕ) : Type 0 where
   pub streams : List (List ℕ)
   pub through : Through olds news streams i
   pub bounded : AreReadAtMost reads news
@@ -139,7 +139,7 @@ pub record SelectedThrough (s : Selection) (reads : ℕ) (olds news : List Readi
   pub few : tally.frames ≤ 2 ^ 48 * i
 
 -- before the first input
-pub through_none : (reads : ℕ) (readers : List Reading) (p p' : Selector) (w w' : Writings)
+pub through_none : (reads : ℕ) (readers : List Reading) (p p' : FrameSelector) (w w' : Writings)
     (done : Unit {0}) → AreFresh readers → p.rows.held.items ≡ [] → p.rows.written ≡ 0
     → p.unheard ≡ false → IsReady p → w.rows.failed ≡ false → w.refusals.failed ≡ false
     → w'.rows.failed ≡ false → p'.rows.held.items ≡ [] → p' ≡ record p { rows = p'.rows }
@@ -159,12 +159,12 @@ through_none reads readers p p' w w' done fresh none zero unheard ready works he
         heard = record {
           works = works';
           heard = ap (λ (x : Writing). x.failed) refusals_same ∙ heard ∙ sym unheard
-              ∙ sym (ap (λ (x : Selector). x.unheard) same);
+              ∙ sym (ap (λ (x : FrameSelector). x.unheard) same);
         };
         rows = subst (λ t. HasPut w.rows t p'.rows w'.rows) (sym (append-nil (header p.columns.now)))
             (puts w.rows [] (put_nothing p.rows w.rows none zero works));
         told = subst (λ u. HasTold w.refusals [] u w'.refusals)
-            (sym (ap (λ (x : Selector). x.unheard) same ∙ unheard))
+            (sym (ap (λ (x : FrameSelector). x.unheard) same ∙ unheard))
             (subst (λ (x : Writing). WritesAll w.refusals x []) (sym refusals_same)
             (writes_none w.refusals heard));
         held = none';
@@ -175,7 +175,7 @@ through_none reads readers p p' w w' done fresh none zero unheard ready works he
 
 -- the refused frames are frames
 pub refused_at_most : (s : Selection) (reads : ℕ) (olds news : List Reading) (begin now : Writings)
-    (p : Selector) (tally : Tally) (i : ℕ)
+    (p : FrameSelector) (tally : Tally) (i : ℕ)
     → SelectedThrough s reads olds news begin now p tally i → tally.refused ≤ tally.frames
 refused_at_most s reads olds news begin now p tally i t =
     let frames = ap (λ (x : Tally). x.frames) t.tally_is in
@@ -221,7 +221,7 @@ counted_more s streams stream tally frames refused is frames_are refused_are =
 -- ---- the next input
 
 -- the rows of the inputs before it, and then of its frames
-rows_here : (s : Selection) (streams : List (List ℕ)) (q : Selector) (frames : List Found)
+rows_here : (s : Selection) (streams : List (List ℕ)) (q : FrameSelector) (frames : List Found)
     → selection_of q ≡ s → q.input ≡ length streams + 1
     → selected s streams ++ rows_of q frames ≡ selected_to s streams frames
 rows_here s streams q frames is input =
@@ -229,7 +229,7 @@ rows_here s streams q frames is input =
     ∙ ap (λ n. selected s streams ++ frames_from (frame_rows s n) 1 frames) input
     ∙ append_assoc (header s.columns) (inputs_from (frame_rows s) 1 streams) _
 
-refusals_here : (s : Selection) (streams : List (List ℕ)) (q : Selector) (frames : List Found)
+refusals_here : (s : Selection) (streams : List (List ℕ)) (q : FrameSelector) (frames : List Found)
     → selection_of q ≡ s → q.input ≡ length streams + 1
     → refusals s streams ++ refusals_of q frames ≡ refusals_to s streams frames
 refusals_here s streams q frames is input =
@@ -237,7 +237,7 @@ refusals_here s streams q frames is input =
     ∙ ap (λ n. refusals s streams ++ frames_from (frame_refusal s n) 1 frames) input
 
 -- the refusals of the first of its frames were told after those of the inputs before it
-told_first : (s : Selection) (streams : List (List ℕ)) (q p : Selector) (begin mid now : Writings)
+told_first : (s : Selection) (streams : List (List ℕ)) (q p : FrameSelector) (begin mid now : Writings)
     (frames : List Found) → selection_of q ≡ s → q.input ≡ length streams + 1
     → HasTold begin.refusals (refusals s streams) q.unheard mid.refusals
     → TellsFirst q mid p now frames → TakesFirst s streams frames begin.refusals now.refusals
@@ -258,38 +258,38 @@ selected_more s streams stream =
 
 -- the numbers of an input that begins
 begun_is : (s : Selection) (reads : ℕ) (olds news : List Reading) (begin mid : Writings)
-    (p q : Selector) (tally : Tally) (i : ℕ)
+    (p q : FrameSelector) (tally : Tally) (i : ℕ)
     → (t : SelectedThrough s reads olds news begin mid p tally i) → q ≡ begun p i
     → (selection_of q ≡ s) × (q.input ≡ length t.streams + 1) × (q.rows ≡ p.rows)
     × (q.unheard ≡ p.unheard)
 begun_is s reads olds news begin mid p q tally i t is = (
   ap selection_of is ∙ t.selected.selection,
-  ap (λ (x : Selector). x.input) is
+  ap (λ (x : FrameSelector). x.input) is
       ∙ ap (λ n. n + 1) (sym (streams_read olds news t.streams i t.through)),
-  ap (λ (x : Selector). x.rows) is,
-  ap (λ (x : Selector). x.unheard) is,
+  ap (λ (x : FrameSelector). x.rows) is,
+  ap (λ (x : FrameSelector). x.unheard) is,
 )
 
 -- what was put and told before it
 put_before : (s : Selection) (reads : ℕ) (olds news : List Reading) (begin mid : Writings)
-    (p q : Selector) (tally : Tally) (i : ℕ)
+    (p q : FrameSelector) (tally : Tally) (i : ℕ)
     → (t : SelectedThrough s reads olds news begin mid p tally i) → q ≡ begun p i
     → HasPut begin.rows (selected s t.streams) q.rows mid.rows
 put_before s reads olds news begin mid p q tally i t is =
     subst (λ (r : HeldRows). HasPut begin.rows (selected s t.streams) r mid.rows)
-    (sym (ap (λ (x : Selector). x.rows) is)) t.selected.rows
+    (sym (ap (λ (x : FrameSelector). x.rows) is)) t.selected.rows
 
 told_before : (s : Selection) (reads : ℕ) (olds news : List Reading) (begin mid : Writings)
-    (p q : Selector) (tally : Tally) (i : ℕ)
+    (p q : FrameSelector) (tally : Tally) (i : ℕ)
     → (t : SelectedThrough s reads olds news begin mid p tally i) → q ≡ begun p i
     → HasTold begin.refusals (refusals s t.streams) q.unheard mid.refusals
 told_before s reads olds news begin mid p q tally i t is =
     subst (λ u. HasTold begin.refusals (refusals s t.streams) u mid.refusals)
-    (sym (ap (λ (x : Selector). x.unheard) is)) t.selected.told
+    (sym (ap (λ (x : FrameSelector). x.unheard) is)) t.selected.told
 
 -- one input more was read out
 pub through_next : (s : Selection) (reads : ℕ) (olds news news' : List Reading)
-    (begin mid now : Writings) (p q p' : Selector) (tally : Tally) (i : ℕ) (r r' : Reading)
+    (begin mid now : Writings) (p q p' : FrameSelector) (tally : Tally) (i : ℕ) (r r' : Reading)
     (done : Unit {0}) → (t : SelectedThrough s reads olds news begin mid p tally i)
     → Reached olds news t.streams i r → news' ≡ set news i r' → r'.reads ≤ reads
     → q ≡ begun p i → SelectsInput reads q p' r r' mid now (Ok done)
@@ -348,7 +348,7 @@ bounded_next reads news news' i r' all is here =
 
 -- it could not be read on
 reading_ends : (s : Selection) (reads : ℕ) (Ends : Reading → Type 0)
-    (olds news news' : List Reading) (begin mid now : Writings) (p q p' : Selector) (tally : Tally)
+    (olds news news' : List Reading) (begin mid now : Writings) (p q p' : FrameSelector) (tally : Tally)
     (i : ℕ) (r r' : Reading) (name : Input) (read : List ℕ)
     → (t : SelectedThrough s reads olds news begin mid p tally i)
     → Reached olds news t.streams i r → news' ≡ set news i r' → q ≡ begun p i
@@ -378,7 +378,7 @@ reading_ends s reads Ends olds news news' begin mid now p q p' tally i r r' name
 
 -- selecting ended at an input, and so it did of all
 pub through_stops : (s : Selection) (reads : ℕ) (olds news news' : List Reading)
-    (begin mid now : Writings) (p q p' : Selector) (tally : Tally) (i : ℕ) (r r' : Reading)
+    (begin mid now : Writings) (p q p' : FrameSelector) (tally : Tally) (i : ℕ) (r r' : Reading)
     (e : ToolFault) → (t : SelectedThrough s reads olds news begin mid p tally i)
     → Reached olds news t.streams i r → news' ≡ set news i r'
     → q ≡ begun p i → SelectsInput reads q p' r r' mid now (Err e)
@@ -425,7 +425,7 @@ through_stops s reads olds news news' begin mid now p q p' tally i r r' e t at i
 
 -- all was written
 pub ends_written : (s : Selection) (reads : ℕ) (olds news : List Reading) (begin mid now : Writings)
-    (p : Selector) (tally : Tally) (done : Unit {0})
+    (p : FrameSelector) (tally : Tally) (done : Unit {0})
     → SelectsInputs s reads olds news begin mid p (Ok tally)
     → WritesAfter p.rows.written [] mid.rows now.rows (Ok done) → now.refusals ≡ mid.refusals
     → Selects s reads olds news begin now (Ok tally)
@@ -447,7 +447,7 @@ ends_written s reads olds news begin mid now p tally done x w same =
 
 -- the writer fails when what was written is handed on
 pub ends_unwritten : (s : Selection) (reads : ℕ) (olds news : List Reading)
-    (begin mid now : Writings) (p : Selector) (tally : Tally) (e : ToolFault)
+    (begin mid now : Writings) (p : FrameSelector) (tally : Tally) (e : ToolFault)
     → SelectsInputs s reads olds news begin mid p (Ok tally)
     → WritesAfter p.rows.written [] mid.rows now.rows (Err e) → now.refusals ≡ mid.refusals
     → Selects s reads olds news begin now (Err e)

@@ -35,7 +35,7 @@ use Rattle.bufr_select_engine.specs.Selectors.{StopsSelecting, TellsFirst, refus
 use Rattle.bufr_select_engine.specs.Selectors.{selection_of}
 use Rattle.bufr_select_engine.specs.Selects.{Writings}
 use Rattle.bufr_select_rows.specs.declared.pairs.Unread.{Unread}
-use Rattle.bufr_select_engine.specs.declared.selector.Selector.{Selector}
+use Rattle.bufr_select_engine.specs.declared.frame_selector.FrameSelector.{FrameSelector}
 use Rattle.bufr_io.specs.HeldLaws.{puts_more, puts_none, rows_written, stop_fault}
 use Rattle.bufr_io.specs.HeldLaws.{stops_writing}
 use Rattle.bufr_select_engine.proofs.ToldFacts.{tells_more, tells_none}
@@ -58,7 +58,7 @@ refused_few s frames =
 
 -- ---- what stays
 
-keeps_all : (p q r : Selector) → Keeps p q → Keeps q r → Keeps p r
+keeps_all : (p q r : FrameSelector) → Keeps p q → Keeps q r → Keeps p r
 keeps_all p q r one two = record {
   selection = two.selection ∙ one.selection;
   input = two.input ∙ one.input;
@@ -67,7 +67,7 @@ keeps_all p q r one two = record {
 -- ---- a frame more
 
 -- the rows of one frame more
-rows_next : (first p : Selector) (frames : List Found) (frame : Found) → Keeps first p
+rows_next : (first p : FrameSelector) (frames : List Found) (frame : Found) → Keeps first p
     → p.frames ≡ length frames
     → rows_of first frames ++ frame_rows (selection_of p) p.input (p.frames + 1) frame
     ≡ rows_of first (frames ++ frame ∷ [])
@@ -80,7 +80,7 @@ rows_next first p frames frame keeps count =
     (frames_from-more (frame_rows (selection_of first) first.input) 1 (p.frames + 1) frames frame at)
 
 -- so it is with the refusals
-refusals_next : (first p : Selector) (frames : List Found) (frame : Found) → Keeps first p
+refusals_next : (first p : FrameSelector) (frames : List Found) (frame : Found) → Keeps first p
     → p.frames ≡ length frames
     → refusals_of first frames ++ frame_refusal (selection_of p) p.input (p.frames + 1) frame
     ≡ refusals_of first (frames ++ frame ∷ [])
@@ -94,7 +94,7 @@ refusals_next first p frames frame keeps count =
     at)
 
 -- a frame more was taken
-pub selected_more : (first : Selector) (begin : Writings) (p p' : Selector) (now now' : Writings)
+pub selected_more : (first : FrameSelector) (begin : Writings) (p p' : FrameSelector) (now now' : Writings)
     (frames : List Found) (frame : Found) (done : Unit {0}) → HasSelected first begin p now frames
     → CountsFrame p frame now p' now' (Ok done) → Keeps p p'
     → HasSelected first begin p' now' (frames ++ frame ∷ [])
@@ -122,7 +122,7 @@ selected_more first begin p p' now now' frames frame done h more keeps =
     }
 
 -- the refusals of the frames so far were told, and no more
-told_still : (first : Selector) (begin : Writings) (p p' : Selector) (now now' : Writings)
+told_still : (first : FrameSelector) (begin : Writings) (p p' : FrameSelector) (now now' : Writings)
     (frames : List Found) → HasSelected first begin p now frames → p'.unheard ≡ p.unheard
     → now'.refusals ≡ now.refusals
     → Tells (refusals_of first frames) first.unheard begin.refusals p'.unheard now'.refusals
@@ -133,7 +133,7 @@ told_still first begin p p' now now' frames h unheard same =
     (sym unheard) h.told)
 
 -- so they are those of the first of these frames
-told_all : (first : Selector) (begin : Writings) (p p' : Selector) (now now' : Writings)
+told_all : (first : FrameSelector) (begin : Writings) (p p' : FrameSelector) (now now' : Writings)
     (frames : List Found) → HasSelected first begin p now frames → p'.unheard ≡ p.unheard
     → now'.refusals ≡ now.refusals → TellsFirst first begin p' now' frames
 told_all first begin p p' now now' frames h unheard same = record {
@@ -144,7 +144,7 @@ told_all first begin p p' now now' frames h unheard same = record {
 }
 
 -- taking it stopped, and then the rows that wait were written
-pub selecting_stopped : (first : Selector) (begin : Writings) (p p' p'' : Selector)
+pub selecting_stopped : (first : FrameSelector) (begin : Writings) (p p' p'' : FrameSelector)
     (now now' now'' : Writings) (frames : List Found) (frame : Found) (e e' : ToolFault)
     → HasSelected first begin p now frames → CountsFrame p frame now p' now' (Err e)
     → p''.unheard ≡ p'.unheard → now''.refusals ≡ now'.refusals → IsStop e'
@@ -169,7 +169,7 @@ selecting_stopped first begin p p' p'' now now' now'' frames frame e e' h takes 
     }
 
 -- memory ran out after these frames, and then the rows that wait were written
-pub selecting_halted : (first : Selector) (begin : Writings) (p p' : Selector) (now now' : Writings)
+pub selecting_halted : (first : FrameSelector) (begin : Writings) (p p' : FrameSelector) (now now' : Writings)
     (frames : List Found) (e : ToolFault) → HasSelected first begin p now frames
     → p'.unheard ≡ p.unheard → now'.refusals ≡ now.refusals → IsStop e
     → ((start : Writing) (text : List ℕ)
@@ -191,29 +191,29 @@ selecting_halted first begin p p' now now' frames e h unheard same is stop = rec
 -- ---- a piece ends
 
 -- the rows that wait were written, and the frames are selected still
-pub selected_written : (first : Selector) (begin : Writings) (p p' : Selector) (now now' : Writings)
+pub selected_written : (first : FrameSelector) (begin : Writings) (p p' : FrameSelector) (now now' : Writings)
     (frames : List Found) (done : Unit {0}) → HasSelected first begin p now frames
     → WritesHeld p.rows p'.rows now.rows now'.rows (Ok done) → p' ≡ record p { rows = p'.rows }
     → now'.refusals ≡ now.refusals → HasSelected first begin p' now' frames
 selected_written first begin p p' now now' frames done h writes same refusals = record {
   started = h.started;
-  counts = ap (λ (x : Selector). x.frames) same ∙ h.counts;
+  counts = ap (λ (x : FrameSelector). x.frames) same ∙ h.counts;
   keeps = record {
     selection = ap selection_of same ∙ h.keeps.selection;
-    input = ap (λ (x : Selector). x.input) same ∙ h.keeps.input;
+    input = ap (λ (x : FrameSelector). x.input) same ∙ h.keeps.input;
   };
-  frames_are = ap (λ (x : Selector). x.frames) same ∙ h.frames_are;
-  refused_are = ap (λ (x : Selector). x.refused) same ∙ h.refused_are;
+  frames_are = ap (λ (x : FrameSelector). x.frames) same ∙ h.frames_are;
+  refused_are = ap (λ (x : FrameSelector). x.refused) same ∙ h.refused_are;
   ready = subst IsReady (sym same) (record { cells = h.ready.cells; covers = h.ready.covers });
   heard = record {
     works = writes.0.works;
     heard = ap (λ (w : Writing). w.failed) refusals ∙ h.heard.heard
-        ∙ sym (ap (λ (x : Selector). x.unheard) same);
+        ∙ sym (ap (λ (x : FrameSelector). x.unheard) same);
   };
   rows = λ start before put.
       rows_written start (before ++ rows_of first frames) p.rows p'.rows now.rows now'.rows
       (h.rows start before put) writes.0 writes.1 writes.2;
-  told = told_still first begin p p' now now' frames h (ap (λ (x : Selector). x.unheard) same)
+  told = told_still first begin p p' now now' frames h (ap (λ (x : FrameSelector). x.unheard) same)
       refusals;
 }
 
@@ -226,7 +226,7 @@ is_stop r r' w w' (Err (faults.WriteFailed written)) e writes is = subst IsStop 
 is_stop r r' w w' (Err fault) e writes is = absurd writes
 
 -- or that stopped
-pub written_stopped : (first : Selector) (begin : Writings) (p p' : Selector) (now now' : Writings)
+pub written_stopped : (first : FrameSelector) (begin : Writings) (p p' : FrameSelector) (now now' : Writings)
     (frames : List Found) (result : Result (Unit {0}) ToolFault) (e : ToolFault)
     → HasSelected first begin p now frames
     → WritesHeld p.rows p'.rows now.rows now'.rows result → e ≡ stop_fault result
@@ -246,10 +246,10 @@ written_stopped first begin p p' now now' frames result e h writes is unheard re
 }
 
 -- the frames are selected still after a piece
-pub piece_taken : {B : Type 0} (writings : B → Writings) (p p' : Selector) (now now' : Writings)
+pub piece_taken : {B : Type 0} (writings : B → Writings) (p p' : FrameSelector) (now now' : Writings)
     (r : Result (Unit {0}) ToolFault) → WritesHeld p.rows p'.rows now.rows now'.rows r
     → p' ≡ record p { rows = p'.rows } → now'.refusals ≡ now.refusals
-    → OnOk r ((first : Selector) (begin : B) (frames : List Found)
+    → OnOk r ((first : FrameSelector) (begin : B) (frames : List Found)
     → HasSelected first (writings begin) p now frames
     → HasSelected first (writings begin) p' now' frames)
 piece_taken writings p p' now now' (Ok done) writes same refusals =
@@ -258,10 +258,10 @@ piece_taken writings p p' now now' (Ok done) writes same refusals =
 piece_taken writings p p' now now' (Err e) writes same refusals = tt
 
 -- or the writer failed
-pub piece_stopped : {B : Type 0} (writings : B → Writings) (p p' : Selector) (now now' : Writings)
+pub piece_stopped : {B : Type 0} (writings : B → Writings) (p p' : FrameSelector) (now now' : Writings)
     (r : Result (Unit {0}) ToolFault) → WritesHeld p.rows p'.rows now.rows now'.rows r
     → p'.unheard ≡ p.unheard → now'.refusals ≡ now.refusals
-    → IfErr r (λ e. (first : Selector) (begin : B) (frames : List Found)
+    → IfErr r (λ e. (first : FrameSelector) (begin : B) (frames : List Found)
     → HasSelected first (writings begin) p now frames
     → StopsSelecting first (writings begin) p' now' frames e)
 piece_stopped writings p p' now now' (Ok done) writes unheard refusals = tt
@@ -272,7 +272,7 @@ piece_stopped writings p p' now now' (Err e) writes unheard refusals =
 -- ---- the first frame
 
 -- before it, nothing was selected
-pub selected_none : (p : Selector) (w : Writings) → p.frames ≡ 0 → p.refused ≡ 0 → IsReady p
+pub selected_none : (p : FrameSelector) (w : Writings) → p.frames ≡ 0 → p.refused ≡ 0 → IsReady p
     → AreHeard p w → HasSelected p w p w []
 selected_none p w none unrefused ready heard = record {
   started = none;
@@ -289,7 +289,7 @@ selected_none p w none unrefused ready heard = record {
 -- ---- an input
 
 -- selecting stopped among some frames: so it did among more
-pub stops_further : (first : Selector) (begin : Writings) (p : Selector) (now : Writings)
+pub stops_further : (first : FrameSelector) (begin : Writings) (p : FrameSelector) (now : Writings)
     (front rest frames : List Found) (e : ToolFault) → frames ≡ front ++ rest
     → StopsSelecting first begin p now front e → StopsSelecting first begin p now frames e
 stops_further first begin p now front rest frames e is s =
@@ -328,7 +328,7 @@ stops_further first begin p now front rest frames e is s =
     stops_writing_longer start a b w f t = absurd t
 
 -- the rows of frames, and none that waits
-selected_frames : (first : Selector) (begin : Writings) (p : Selector) (now : Writings)
+selected_frames : (first : FrameSelector) (begin : Writings) (p : FrameSelector) (now : Writings)
     (frames : List Found) → HasSelected first begin p now frames → p.rows.held.items ≡ []
     → HasSelectedFrames first p frames begin now
 selected_frames first begin p now frames h none =
@@ -336,7 +336,7 @@ selected_frames first begin p now frames h none =
 
 -- no piece came after these octets, and no row waits
 input_unread : (reads : ℕ) (old new : Reading) (pieces : Pieces) (read : List ℕ)
-    (first p : Selector) (begin now : Writings) (e : ToolFault)
+    (first p : FrameSelector) (begin now : Writings) (e : ToolFault)
     → HasSelected first begin p now (sure read) → p.rows.held.items ≡ []
     → ReadsOn (Number first.input) reads old new pieces read (Err e)
     → SelectsInput reads first p old new begin now (Err e)
@@ -347,7 +347,7 @@ input_unread reads old new pieces read first p begin now (faults.EndlessInput wh
 input_unread reads old new pieces read first p begin now e h none r = absurd r
 
 -- selecting stopped among the frames that were found in what was read
-input_stopped : (reads : ℕ) (old new : Reading) (read : List ℕ) (ended : Bool) (first p : Selector)
+input_stopped : (reads : ℕ) (old new : Reading) (read : List ℕ) (ended : Bool) (first p : FrameSelector)
     (begin now : Writings) (e : ToolFault) → new.failed ≡ false → HasGiven old new read
     → new.met_end ≡ ended → (ended ≡ true → AreAllOf old read)
     → StopsSelecting first begin p now (frames_by ended read) e
@@ -374,7 +374,7 @@ not_ended : (P : Type 0) → false ≡ true → P
 not_ended P is = cc
 
 -- an input that was not taken in to its end
-pub input_early : (reads : ℕ) (old new : Reading) (first p : Selector) (begin now : Writings)
+pub input_early : (reads : ℕ) (old new : Reading) (first p : FrameSelector) (begin now : Writings)
     (e : ToolFault)
     → EndsEarly (HasSelected first begin p now) (p.rows.held.items ≡ [])
     (StopsSelecting first begin p now) (Number first.input) reads old new e
@@ -391,7 +391,7 @@ input_early reads old new first p begin now e (at_end stream out all given s) =
     (stops_further first begin p now s.front s.rest (cut stream) e s.parted s.stopped)
 
 -- an input came to its end, and the writer takes the rows that wait
-pub input_whole : (reads : ℕ) (old new : Reading) (first p p' : Selector) (begin mid now : Writings)
+pub input_whole : (reads : ℕ) (old new : Reading) (first p p' : FrameSelector) (begin mid now : Writings)
     (stream : List ℕ) (r : Result (Unit {0}) ToolFault) → WasReadOut new → AreAllOf old stream
     → HasGiven old new stream → HasSelected first begin p mid (cut stream)
     → length stream ≤ 2 ^ 48 → WritesHeld p.rows p'.rows mid.rows now.rows r
@@ -418,4 +418,4 @@ input_whole reads old new first p p' begin mid now stream (Err e) out all given 
     input_stopped reads old new stream true first p' begin now e out.works given out.met_end
     (λ met. all)
     (written_stopped first begin p p' mid now (cut stream) (Err e) e h w refl
-    (ap (λ (x : Selector). x.unheard) same) refusals)
+    (ap (λ (x : FrameSelector). x.unheard) same) refusals)

@@ -25,7 +25,7 @@ use Rattle.bufr_select_engine.specs.Selects.{Writings}
 use Rattle.bufr_io.specs.declared.held_rows.HeldRows.{HeldRows}
 use Rattle.bufr_select_rows.specs.declared.pairs.Unread.{Unread}
 use Rattle.bufr_select_rows.specs.declared.picker.Picker.{Picker}
-use Rattle.bufr_select_engine.specs.declared.selector.Selector.{Selector}
+use Rattle.bufr_select_engine.specs.declared.frame_selector.FrameSelector.{FrameSelector}
 use Rattle.bufr_io.specs.HeldLaws.{puts_none, stops_none}
 use Rattle.bufr_select_engine.proofs.ToldFacts.{tells_none}
 
@@ -46,7 +46,7 @@ pub from_lent : (input number place : ℕ) (s : LentSections) (m : Message)
 from_lent input number place s m is = ap (from_message input number place) is
 
 -- the rows that are picked are those of the selection
-pub rows_picked : (p : Selector) (number place : ℕ) (o : Origin) (m : Message) → IsReady p
+pub rows_picked : (p : FrameSelector) (number place : ℕ) (o : Origin) (m : Message) → IsReady p
     → o ≡ from_message p.input number place m
     → subsets_rows p.picker.each (map (λ c. c.column) p.picker.cells.items) o 1 m.subsets
     ≡ message_rows (selection_of p) p.input number place m
@@ -55,12 +55,12 @@ rows_picked p number place o m ready is =
     ∙ ap (λ x. subsets_rows p.picker.each p.columns.now x 1 m.subsets) is
 
 -- the descriptors of the cells are asked for
-pub cells_covered : (p : Selector) → IsReady p
+pub cells_covered : (p : FrameSelector) → IsReady p
     → IsSetOf p.picker.asked p.picker.each (map (λ c. c.column) p.picker.cells.items)
 cells_covered p ready = subst (IsSetOf p.picker.asked p.picker.each) (sym ready.cells) ready.covers
 
 -- a selector is ready still if its cells have their columns
-pub ready_kept : (p : Selector) (q : Picker) (r : HeldRows) (result : Result (Unit {0}) ToolFault)
+pub ready_kept : (p : FrameSelector) (q : Picker) (r : HeldRows) (result : Result (Unit {0}) ToolFault)
     → IsReady p → q.each ≡ p.picker.each → q.asked ≡ p.picker.asked
     → OnOk result (map (λ c. c.column) q.cells.items ≡ map (λ c. c.column) p.picker.cells.items)
     → OnOk result (IsReady (record p { picker = q; rows = r }))
@@ -72,7 +72,7 @@ ready_kept p q r (Ok done) ready each asked cells = record {
 ready_kept p q r (Err e) ready each asked cells = tt
 
 -- and the selection stays
-pub picker_kept : (p : Selector) (q : Picker) (r : HeldRows) → q.each ≡ p.picker.each
+pub picker_kept : (p : FrameSelector) (q : Picker) (r : HeldRows) → q.each ≡ p.picker.each
     → Keeps p (record p { picker = q; rows = r })
 picker_kept p q r each =
     let chosen : Option ℕ → Selection = λ e. record {
@@ -85,7 +85,7 @@ picker_kept p q r each =
 -- ---- a frame
 
 -- the rows of a frame that spells a message
-pub takes_shown : (p p' : Selector) (frame : Found) (w w' : Writings) (found : Decoded)
+pub takes_shown : (p p' : FrameSelector) (frame : Found) (w w' : Writings) (found : Decoded)
     (done : Unit {0}) → message_under p.pairs.items frame.bytes ≡ Ok found
     → PutsOrStops
     (message_rows (selection_of p) p.input (p.frames + 1) frame.place found.message) p.rows w.rows
@@ -109,7 +109,7 @@ takes_shown p p' frame w w' found done is puts same unheard heard works ready = 
 )
 
 -- putting them stopped
-pub shown_stops : (p p' : Selector) (frame : Found) (w w' : Writings) (found : Decoded)
+pub shown_stops : (p p' : FrameSelector) (frame : Found) (w w' : Writings) (found : Decoded)
     (e : ToolFault) → message_under p.pairs.items frame.bytes ≡ Ok found
     → PutsOrStops
     (message_rows (selection_of p) p.input (p.frames + 1) frame.place found.message) p.rows w.rows
@@ -123,7 +123,7 @@ shown_stops p p' frame w w' found e is stops same unheard = (
 )
 
 -- the line of a refused frame
-pub takes_refused : (p p' : Selector) (frame : Found) (w w' : Writings) (why : Unread)
+pub takes_refused : (p p' : FrameSelector) (frame : Found) (w w' : Writings) (why : Unread)
     → message_under p.pairs.items frame.bytes ≡ Err why
     → Tells (refusal_line p.input frame.place why) p.unheard w.refusals p'.unheard w'.refusals
     → p'.rows ≡ p.rows → w'.rows ≡ w.rows → AreHeard p w → w'.refusals.failed ≡ p'.unheard
@@ -142,7 +142,7 @@ takes_refused p p' frame w w' why is tells rows same heard heard' ready = (
 )
 
 -- memory ran out before either
-pub takes_none : (p p' : Selector) (frame : Found) (w w' : Writings) → AreHeard p w
+pub takes_none : (p p' : FrameSelector) (frame : Found) (w w' : Writings) → AreHeard p w
     → p'.rows ≡ p.rows → w'.rows ≡ w.rows → w'.refusals ≡ w.refusals → p'.unheard ≡ p.unheard
     → TakesFrame p frame w p' w' (Err faults.OutOfMemory)
 takes_none p p' frame w w' heard rows same refusals unheard =
@@ -157,7 +157,7 @@ takes_none p p' frame w w' heard rows same refusals unheard =
     )
 
 -- a frame that was taken counts
-pub counts_frame : (p q : Selector) (frame : Found) (w w' : Writings) (refused : Bool) (more : ℕ)
+pub counts_frame : (p q : FrameSelector) (frame : Found) (w w' : Writings) (refused : Bool) (more : ℕ)
     (done : Unit {0}) → more ≡ from_bool refused → TakesFrame p frame w q w' (Ok refused)
     → q.frames ≡ p.frames → q.refused ≡ p.refused
     → CountsFrame p frame w

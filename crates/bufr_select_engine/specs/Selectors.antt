@@ -19,12 +19,12 @@ use Rattle.bufr_select_engine.specs.Tells.{HasTold, Tells}
 use Rattle.bufr_select_engine.specs.Selected.{Selection, frame_refusal, frame_refused, frame_rows, refused_of}
 use Rattle.bufr_select_engine.specs.Selected.{counted, refusals, selected}
 use Rattle.bufr_select_engine.specs.Selects.{Selects, Writings}
-use Rattle.bufr_select_engine.specs.declared.selector.Selector.{Selector}
+use Rattle.bufr_select_engine.specs.declared.frame_selector.FrameSelector.{FrameSelector}
 
 -- ---- a selector
 
 -- what is selected
-abbrev pub selection_of : Selector → Selection
+abbrev pub selection_of : FrameSelector → Selection
 selection_of p = record {
   pairs = p.pairs.items;
   columns = p.columns.now;
@@ -32,32 +32,32 @@ selection_of p = record {
 }
 
 -- the rows of frames of an input
-abbrev pub rows_of : Selector → List Found → List ℕ
+abbrev pub rows_of : FrameSelector → List Found → List ℕ
 rows_of p frames = frames_from (frame_rows (selection_of p) p.input) 1 frames
 
 -- their refusals
-abbrev pub refusals_of : Selector → List Found → List ℕ
+abbrev pub refusals_of : FrameSelector → List Found → List ℕ
 refusals_of p frames = frames_from (frame_refusal (selection_of p) p.input) 1 frames
 
 -- each cell has its column, and the descriptors of all columns are asked for
-pub record IsReady (p : Selector) : Type 0 where
+pub record IsReady (p : FrameSelector) : Type 0 where
   pub cells : map (λ c. c.column) p.picker.cells.items ≡ p.columns.now
   pub covers : IsSetOf p.picker.asked p.picker.each p.columns.now
 
 -- what is selected and the number of the input stay
-pub record Keeps (p p' : Selector) : Type 0 where
+pub record Keeps (p p' : FrameSelector) : Type 0 where
   pub selection : selection_of p' ≡ selection_of p
   pub input : p'.input ≡ p.input
 
 -- the writers: that of rows works, and that of refusals works unless it is unheard
-pub record AreHeard (p : Selector) (w : Writings) : Type 0 where
+pub record AreHeard (p : FrameSelector) (w : Writings) : Type 0 where
   pub works : w.rows.failed ≡ false
   pub heard : w.refusals.failed ≡ p.unheard
 
 -- ---- a frame
 
 -- The rows and the refusal of a frame were put and told, and whether it is refused. Or that stopped.
-abbrev pub TakesFrame : Selector → Found → Writings → Selector → Writings → Result Bool ToolFault
+abbrev pub TakesFrame : FrameSelector → Found → Writings → FrameSelector → Writings → Result Bool ToolFault
     → Type 0
 TakesFrame p frame w p' w' (Ok refused) =
     Puts (frame_rows (selection_of p) p.input (p.frames + 1) frame) p.rows w.rows p'.rows w'.rows
@@ -71,7 +71,7 @@ TakesFrame p frame w p' w' (Err fault) =
     × (w'.refusals ≡ w.refusals) × (p'.unheard ≡ p.unheard)
 
 -- so it is, and the frame counts
-abbrev pub CountsFrame : Selector → Found → Writings → Selector → Writings
+abbrev pub CountsFrame : FrameSelector → Found → Writings → FrameSelector → Writings
     → Result (Unit {0}) ToolFault → Type 0
 CountsFrame p frame w p' w' (Ok done) =
     Puts (frame_rows (selection_of p) p.input (p.frames + 1) frame) p.rows w.rows p'.rows w'.rows
@@ -88,7 +88,7 @@ CountsFrame p frame w p' w' (Err fault) =
 
 -- since the first of these two states of a selector and its writers these frames of an input came, and
 -- their rows and refusals were put
-pub record HasSelected (first : Selector) (begin : Writings) (p : Selector) (now : Writings)
+pub record HasSelected (first : FrameSelector) (begin : Writings) (p : FrameSelector) (now : Writings)
     (frames : List Found) : Type 0 where
   pub started : first.frames ≡ 0
   pub counts : p.frames ≡ first.frames + length frames
@@ -101,7 +101,7 @@ pub record HasSelected (first : Selector) (begin : Writings) (p : Selector) (now
   pub told : Tells (refusals_of first frames) first.unheard begin.refusals p.unheard now.refusals
 
 -- the refusals of the first of these frames were told
-pub record TellsFirst (first : Selector) (begin : Writings) (p : Selector) (now : Writings)
+pub record TellsFirst (first : FrameSelector) (begin : Writings) (p : FrameSelector) (now : Writings)
     (frames : List Found) : Type 0 where
   pub done : List Found
   pub rest : List Found
@@ -109,7 +109,7 @@ pub record TellsFirst (first : Selector) (begin : Writings) (p : Selector) (now 
   pub told : Tells (refusals_of first done) first.unheard begin.refusals p.unheard now.refusals
 
 -- selecting these frames stopped
-pub record StopsSelecting (first : Selector) (begin : Writings) (p : Selector) (now : Writings)
+pub record StopsSelecting (first : FrameSelector) (begin : Writings) (p : FrameSelector) (now : Writings)
     (frames : List Found) (fault : ToolFault) : Type 0 where
   pub stops : IsStop fault
   pub rows : (start : Writing) (before : List ℕ) → HasPut start before first.rows begin.rows
@@ -119,13 +119,13 @@ pub record StopsSelecting (first : Selector) (begin : Writings) (p : Selector) (
 -- ---- an input
 
 -- the rows of frames were put and their refusals told, and no row waits
-pub record HasSelectedFrames (p p' : Selector) (frames : List Found) (w w' : Writings) : Type 0 where
+pub record HasSelectedFrames (p p' : FrameSelector) (frames : List Found) (w w' : Writings) : Type 0 where
   pub rows : Puts (rows_of p frames) p.rows w.rows p'.rows w'.rows
   pub told : Tells (refusals_of p frames) p.unheard w.refusals p'.unheard w'.refusals
   pub held : p'.rows.held.items ≡ []
 
 -- so it is with all frames of a stream, which count
-pub record HasSelectedAll (p p' : Selector) (stream : List ℕ) (w w' : Writings) : Type 0 where
+pub record HasSelectedAll (p p' : FrameSelector) (stream : List ℕ) (w w' : Writings) : Type 0 where
   pub selected : HasSelectedFrames p p' (cut stream) w w'
   pub keeps : Keeps p p'
   pub ready : IsReady p'
@@ -136,7 +136,7 @@ pub record HasSelectedAll (p p' : Selector) (stream : List ℕ) (w w' : Writings
 
 -- The input ended, and the writers took its rows and refusals. Or a read failed, or the input is endless,
 -- and they took those of the sure frames. Or selecting the frames so far stopped.
-abbrev pub SelectsInput : ℕ → Selector → Selector → Reading → Reading → Writings → Writings
+abbrev pub SelectsInput : ℕ → FrameSelector → FrameSelector → Reading → Reading → Writings → Writings
     → Result (Unit {0}) ToolFault → Type 0
 SelectsInput reads p p' reader reader' w w' (Ok done) =
     WasReadOut reader' × (stream : List ℕ) × AreAllOf reader stream
@@ -155,7 +155,7 @@ SelectsInput reads p p' reader reader' w w' (Err fault) =
 
 -- the writers took the rows and the refusals of the first inputs, which had these streams, and no row
 -- waits
-pub record HasSelectedInputs (s : Selection) (streams : List (List ℕ)) (p : Selector)
+pub record HasSelectedInputs (s : Selection) (streams : List (List ℕ)) (p : FrameSelector)
     (w w' : Writings) : Type 0 where
   pub selection : selection_of p ≡ s
   pub ready : IsReady p
@@ -166,7 +166,7 @@ pub record HasSelectedInputs (s : Selection) (streams : List (List ℕ)) (p : Se
 
 -- all inputs ended, and the writers took their rows and refusals; or selecting them ended early
 abbrev pub SelectsInputs : Selection → ℕ → List Reading → List Reading → Writings → Writings
-    → Selector → Result Tally ToolFault → Type 0
+    → FrameSelector → Result Tally ToolFault → Type 0
 SelectsInputs s reads readers readers' w w' p (Ok tally) =
     (streams : List (List ℕ)) × WereReadOut readers readers' streams
     × HasSelectedInputs s streams p w w' × (tally ≡ counted s streams)

@@ -4,7 +4,7 @@ ghost use Rattle.std.specs.Prelude.{◌≡◌, ◌≤◌, map};
 ghost use Rattle.bufr_io.specs.Readers.{AreFresh};
 
 use crate::command_line::{CommandLine, NAME, line};
-use crate::line_faults::{LineFault, Selection, selection_of};
+use crate::line_faults::{LineFault, LineSelection, selection_of};
 use crate::outputs::Outputs;
 use crate::select::run_select;
 use bufr_base::OutOfMemory;
@@ -53,7 +53,7 @@ fn open_files<'a, R: Files, O: Write + Drop, E: Write + Drop>(
     rt: &'a R,
     alloc: Global,
     line: &CommandLine<'a>,
-    selection: &Selection,
+    selection: &LineSelection,
     out: &mut O,
     err: &mut E,
 ) -> u8
@@ -78,7 +78,7 @@ fn open_files<'a, R: Files, O: Write + Drop, E: Write + Drop>(
 /// Loads the tables and selects the rows of files.
 fn select_files<S: Source, O: Write + Drop, E: Write + Drop>(
     alloc: Global,
-    selection: &Selection,
+    selection: &LineSelection,
     b: &mut [S],
     d: &mut [S],
     inputs: &mut [S],

@@ -6,14 +6,14 @@ ghost use Rattle.bufr_io.specs.Limits.{longest_piece, most_reads};
 ghost use Rattle.bufr_select_engine.specs.Selectors.{AreHeard, HasSelected, IsReady, SelectsInput};
 ghost use Rattle.bufr_select_engine.specs.Selectors.{StopsSelecting};
 
+use crate::frame_selector::FrameSelector;
 use crate::outputs::Outputs;
-use crate::selector::Selector;
 use bufr_bits::{Sink, Source};
 use bufr_io::{Input, TakesFrames, ToolFault, take_stream};
 use std::alloc::Global;
 
 /// Writes the rows of a piece of the input after it, also if memory runs out.
-impl<'t, 'c, W: Sink, E: Sink> TakesFrames<Outputs<W, E>> for Selector<'t, 'c> {
+impl<'t, 'c, W: Sink, E: Sink> TakesFrames<Outputs<W, E>> for FrameSelector<'t, 'c> {
     ghost count = { λ selector out. selector.frames };
 
     ghost HasTaken = { λ first begin selector out frames. HasSelected first
@@ -56,7 +56,7 @@ pub(crate) fn select_input<S: Source, W: Sink, E: Sink>(
     reads: u64,
     reader: &mut S,
     buffer: &mut [u8],
-    selector: &mut Selector<'_, '_>,
+    selector: &mut FrameSelector<'_, '_>,
     out: &mut Outputs<W, E>,
 ) -> Result<(), ToolFault>
     requires few { reads ≤ most_reads }

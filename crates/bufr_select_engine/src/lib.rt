@@ -3,12 +3,12 @@
 
 mod command;
 mod command_line;
+mod frame_selector;
 mod frames;
 pub mod laws;
 mod line_faults;
 mod outputs;
 mod select;
-mod selector;
 mod worked_frames;
 mod worked_lines;
 

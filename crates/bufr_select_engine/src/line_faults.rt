@@ -10,7 +10,7 @@ use thiserror::Error;
 /// A selection of a command line: the descriptor `each` opens spans, and each pair of tables has
 /// its greatest version.
 #[derive(Drop)]
-pub(crate) struct Selection {
+pub(crate) struct LineSelection {
     pub(crate) columns: Vec<Column>,
     pub(crate) each: Option<Fxy>,
     pub(crate) versions: Vec<Option<u8>>,
@@ -44,14 +44,14 @@ impl<'a> From<OutOfMemory> for LineFault<'a> {
 pub(crate) fn selection_of<'a>(
     alloc: Global,
     line: &CommandLine<'a>,
-) -> Result<Selection, LineFault<'a>> {
+) -> Result<LineSelection, LineFault<'a>> {
     let columns = match columns_of(alloc, line.columns) {
         Ok(columns) => columns,
         Err(fault) => return Err(LineFault::Columns(fault)),
     };
     let each = each_of(line.each)?;
     let versions = versions_of(alloc, line)?;
-    Ok(Selection {
+    Ok(LineSelection {
         columns,
         each,
         versions,

@@ -6,9 +6,9 @@ ghost use Rattle.bufr_io.specs.Readers.{AreFresh, AreReadAtMost};
 ghost use Rattle.bufr_select_engine.specs.Selects.{Selects, WritesFront};
 ghost use Rattle.bufr_select_engine.specs.Selectors.{IsReady, SelectsInputs, selection_of};
 
+use crate::frame_selector::FrameSelector;
 use crate::frames::select_input;
 use crate::outputs::Outputs;
-use crate::selector::Selector;
 use bufr_bits::{Sink, Source};
 use bufr_io::{Tally, ToolFault, read_buffer};
 use bufr_select_rows::{Column, VersionTables};
@@ -46,7 +46,7 @@ pub fn run_select<S: Source, W: Sink, E: Sink>(
         (map S.reading inputs.old) (W.writing out.old.rows) (W.writing out.new.rows)) }
 {
     let mut buffer = read_buffer(alloc)?;
-    let mut selector = Selector::new(alloc, pairs, columns, each)?;
+    let mut selector = FrameSelector::new(alloc, pairs, columns, each)?;
     let tally = select_inputs(alloc, reads, inputs, &mut buffer, &mut selector, out)?;
     selector.hand_on(&mut out.rows)?;
     Ok(tally)
@@ -58,7 +58,7 @@ fn select_inputs<S: Source, W: Sink, E: Sink>(
     reads: u64,
     inputs: &mut [S],
     buffer: &mut [u8],
-    selector: &mut Selector<'_, '_>,
+    selector: &mut FrameSelector<'_, '_>,
     out: &mut Outputs<W, E>,
 ) -> Result<Tally, ToolFault>
     requires few { reads ≤ most_reads }

@@ -17,8 +17,8 @@ use Rattle.bufr_select_rows.specs.ColumnSteps.{AddsColumn}
 use Rattle.bufr_select_rows.specs.declared.column.Column.{Column}
 use Rattle.bufr_select_rows.specs.declared.fact.Fact.{Fact}
 use Rattle.bufr_select_rows.specs.declared.fact.Fact.TheVariants as facts
-use Rattle.bufr_select_rows.specs.declared.columns.ColumnsFault.{ColumnsFault}
-use Rattle.bufr_select_rows.specs.declared.columns.ColumnsFault.TheVariants as faults
+use Rattle.bufr_select_rows.specs.declared.column_words.ColumnsFault.{ColumnsFault}
+use Rattle.bufr_select_rows.specs.declared.column_words.ColumnsFault.TheVariants as faults
 
 -- ---- all facts
 

@@ -4,8 +4,8 @@ use Rattle.std.specs.List.{list_any}
 use Rattle.std.specs.Str.{bytes_eq}
 use Rattle.bufr_select_rows.specs.Columns.{IsColumn, IsNoColumn, word}
 use Rattle.bufr_select_rows.specs.declared.column.Column.{Column}
-use Rattle.bufr_select_rows.specs.declared.columns.ColumnsFault.{ColumnsFault}
-use Rattle.bufr_select_rows.specs.declared.columns.ColumnsFault.TheVariants as faults
+use Rattle.bufr_select_rows.specs.declared.column_words.ColumnsFault.{ColumnsFault}
+use Rattle.bufr_select_rows.specs.declared.column_words.ColumnsFault.TheVariants as faults
 
 -- the column of a word comes after columns that do not have the word; or no column has it, or one of
 -- them has it

@@ -3,8 +3,8 @@ use Rattle.std.specs.Prelude.{◌≡◌, ◌≢◌, ℕ, ◌<◌, ◌^◌, true,
 use Rattle.std.specs.List.{IsDistinct, list_any, slice_split}
 use Rattle.std.specs.Str.{bytes_eq}
 use Rattle.bufr_tables.specs.Descriptors.{IsDescriptor, six_digits}
-use Rattle.bufr_select_rows.specs.declared.columns.ColumnsFault.{ColumnsFault}
-use Rattle.bufr_select_rows.specs.declared.columns.ColumnsFault.TheVariants as faults
+use Rattle.bufr_select_rows.specs.declared.column_words.ColumnsFault.{ColumnsFault}
+use Rattle.bufr_select_rows.specs.declared.column_words.ColumnsFault.TheVariants as faults
 use Rattle.bufr_select_rows.specs.declared.column.Column.{Column}
 use Rattle.bufr_select_rows.specs.declared.column.Column.TheVariants as columns
 use Rattle.bufr_select_rows.specs.declared.fact.Fact.{Fact}

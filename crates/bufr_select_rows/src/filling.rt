@@ -6,14 +6,14 @@ ghost use Rattle.bufr_select_rows.specs.Cells.{AreSettled, row_of, rows_left};
 
 use crate::awaited::Awaited;
 use crate::cell::Cell;
-use crate::cells::{first_unsettled, note_field, note_number, note_short};
 use crate::column_descriptors::ColumnDescriptors;
-use crate::picks::Picks;
+use crate::row_cells::{first_unsettled, note_field, note_number, note_short};
+use crate::subset_fields::SubsetFields;
 use bufr_base::OutOfMemory;
 use std::alloc::Global;
 
 /// Notes the fields that are left of a subset, and stops once no cell waits for one of them.
-pub(crate) fn fill_cells<P: Picks>(
+pub(crate) fn fill_cells<P: SubsetFields>(
     alloc: Global,
     asked: &ColumnDescriptors,
     fields: &mut P,
@@ -60,7 +60,7 @@ pub(crate) fn fill_cells<P: Picks>(
 
 /// Notes the next fields of a subset, at most `most`, as long as they are numbers. Returns how many
 /// of `most` are left.
-fn fill_numbers<P: Picks>(
+fn fill_numbers<P: SubsetFields>(
     asked: &ColumnDescriptors,
     fields: &mut P,
     cells: &mut [Cell],

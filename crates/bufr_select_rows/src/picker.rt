@@ -13,13 +13,13 @@ ghost use Rattle.bufr_io.specs.HeldTexts.{PutsOrStops};
 ghost use Rattle.bufr_select_rows.specs.MessageRows.{subsets_rows};
 
 use crate::cell::Cell;
-use crate::cells::{begin_cells, cells_of, note_field, note_number, open_cells};
 use crate::column::Column;
 use crate::column_descriptors::ColumnDescriptors;
 use crate::filling::fill_cells;
 use crate::origin::Origin;
-use crate::picks::Picks;
+use crate::row_cells::{begin_cells, cells_of, note_field, note_number, open_cells};
 use crate::row_line::RowLine;
+use crate::subset_fields::SubsetFields;
 use bufr_base::OutOfMemory;
 use bufr_bits::Sink;
 use bufr_data::{ChosenFields, NumberField};
@@ -201,7 +201,7 @@ fn take_field<W: Sink>(
 }
 
 /// Puts the rows of the fields that are left of a subset.
-fn put_fields<P: Picks, W: Sink>(
+fn put_fields<P: SubsetFields, W: Sink>(
     alloc: Global,
     each: Option<Fxy>,
     asked: &ColumnDescriptors,
@@ -248,7 +248,7 @@ fn put_fields<P: Picks, W: Sink>(
 
 /// Puts the rows of the fields that are left of a subset. Without spans it takes no more fields
 /// than the row needs.
-fn put_rows<P: Picks, W: Sink>(
+fn put_rows<P: SubsetFields, W: Sink>(
     alloc: Global,
     each: Option<Fxy>,
     asked: &ColumnDescriptors,

@@ -9,7 +9,7 @@ pub use Rattle.bufr_engines.specs.Collects
 pub use Rattle.bufr_engines.specs.Encoding
 pub use Rattle.bufr_engines.specs.Output
 pub use Rattle.bufr_engines.specs.StreamEngines
-pub use Rattle.bufr_engines.specs.declared.printing.Printing
+pub use Rattle.bufr_engines.specs.declared.frame_lines.OutputForm
 pub use Rattle.bufr_base.specs.Answers
 pub use Rattle.bufr_io.specs.Faults
 pub use Rattle.bufr_io.specs.declared.fault.ToolFault

@@ -83,7 +83,7 @@ all_put octets from end old r new so done =
     let same : r.place ≡ end = omega (arith, so.before, done) in
     so.put ∙ ap (λ n. old ++ take (n - from) (drop from (bits octets))) same
 
-bits_there : (n k : ℕ) (octets : List ℕ) → n + k ≤ length octets
+pub bits_there : (n k : ℕ) (octets : List ℕ) → n + k ≤ length octets
     → bits (take k (drop n octets)) ≡ take (8 * k) (drop (8 * n) (bits octets))
 bits_there n k octets room =
     let behind = drop n octets in
@@ -125,7 +125,7 @@ edge_put octets from end old mid new onward inside edge whole then =
     ∙ ap (λ xs. old ++ xs) (sym (take-add (8 * k) few all))
     ∙ ap (λ z. old ++ take z all) count
 
-bits_parted : (t v w n : ℕ) → t ≡ v + w → bin t n ≡ bin v (n / 2 ^ w) ++ bin w n
+pub bits_parted : (t v w n : ℕ) → t ≡ v + w → bin t n ≡ bin v (n / 2 ^ w) ++ bin w n
 unfolding bin
 bits_parted t zero w n e = ap (λ k. bin k n) (omega (arith, e))
 bits_parted zero (suc v) w n e = absurd (omega (arith, e))
@@ -134,12 +134,12 @@ bits_parted (suc t) (suc v) w n e =
     let same : n / 2 ^ w / 2 ^ v ≡ n / 2 ^ t = shr-shr n w v ∙ ap (λ k. n / 2 ^ k) turned in
     rw (same, bits_parted t v w n (omega (arith, e))) refl
 
-low_bits : (n : ℕ) → bin 8 (n % 256) ≡ bin 8 n
+pub low_bits : (n : ℕ) → bin 8 (n % 256) ≡ bin 8 n
 low_bits n =
     number_same (bin 8 (n % 256)) (bin 8 n) (length-bin 8 (n % 256) ∙ sym (length-bin 8 n))
     (number-bin 8 (n % 256) ∙ omega arith ∙ sym (number-bin 8 n))
 
-octet_more : (w n : ℕ) (octets : List ℕ) → bits octets ≡ bin w n
+pub octet_more : (w n : ℕ) (octets : List ℕ) → bits octets ≡ bin w n
     → bits (n / 2 ^ w % 256 ∷ octets) ≡ bin (8 + w) n
 octet_more w n octets e =
     (λ i. low_bits (n / 2 ^ w) i ++ e i) ∙ sym (bits_parted (8 + w) 8 w n refl)
@@ -165,7 +165,7 @@ pub ok_then : {A E P Q : Type 0} (r : Result A E) → (P → Q) → OnOk r P →
 ok_then (Ok x) f p = f p
 ok_then (Err e) f p = p
 
-zeros : (n : ℕ) → number (replicate n false) ≡ 0
+pub zeros : (n : ℕ) → number (replicate n false) ≡ 0
 unfolding number
 zeros zero = refl
 zeros (suc n) = omega (arith, zeros n)

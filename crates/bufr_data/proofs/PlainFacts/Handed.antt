@@ -22,7 +22,7 @@ use Rattle.bufr_data.specs.Plain.{SubsetRead, raw_at, stopped, field_then, field
 use Rattle.bufr_fields.specs.Forms.{number_of}
 use Rattle.bufr_data.specs.Plain.Reads.{raw_or_ends, behind_fields}
 use Rattle.bufr_data.specs.Plain.Starts.{fields_of}
-use Rattle.bufr_data.specs.declared.plain.layout.LaidField.{LaidField}
+use Rattle.bufr_data.specs.declared.plain.layout.CommonField.{CommonField}
 use Rattle.bufr_data.specs.declared.plain.fields.Due.{Due}
 use Rattle.bufr_data.specs.declared.plain.fields.Due.TheVariants.{Step, Text, Nothing}
 use Rattle.bufr_data.specs.Handed.{fields_ahead, text_first, StandAhead, StepsTo, StepsToNone}
@@ -101,7 +101,7 @@ due_course walk (Text f) = text_first f walk
 due_course walk Nothing = ends 0
 
 -- the fields after a text that comes next
-pub text_handed : (due : Due) (walk : Walk) (reader rest : BitPlace) (f : LaidField) (raw : Raw)
+pub text_handed : (due : Due) (walk : Walk) (reader rest : BitPlace) (f : CommonField) (raw : Raw)
     → due ≡ Text f → StandAhead due walk reader
     → raw_or_ends 1 1 (raw_at f.spec (left reader)) ≡ Ok (raw, left rest)
     → StepsTo (record { fxy = f.fxy; spec = f.spec; raw = raw }) due walk reader Step walk rest
@@ -204,7 +204,7 @@ stays Nothing walk reader other stand = record { ahead = stand; same = refl; nex
 
 -- no text comes next: no field is left
 pub none_after : (due : Due) (walk after : Walk) (reader rest : BitPlace) (later : Due)
-    → StepsToNone due walk reader later after rest → ((f : LaidField) → later ≡ Text f → ⊥)
+    → StepsToNone due walk reader later after rest → ((f : CommonField) → later ≡ Text f → ⊥)
     → (fields_ahead due walk reader ≡ []) × (fields_ahead later after rest ≡ [])
 none_after due walk after reader rest Step to none = absurd to.next
 none_after due walk after reader rest (Text f) to none = absurd (none f refl)

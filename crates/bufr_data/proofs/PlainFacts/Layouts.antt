@@ -21,7 +21,7 @@ use Rattle.bufr_fields.specs.declared.field.Raw.{Raw}
 use Rattle.bufr_fields.specs.declared.field.Field.{Field}
 use Rattle.bufr_fields.specs.declared.fault.DataFault.{DataFault}
 use Rattle.bufr_data.specs.declared.plain.index.SubsetStart.{SubsetStart}
-use Rattle.bufr_data.specs.declared.plain.layout.LaidField.{LaidField}
+use Rattle.bufr_data.specs.declared.plain.layout.CommonField.{CommonField}
 use Rattle.bufr_data.specs.declared.plain.layout.Layout.{Layout}
 use Rattle.bufr_data.specs.Plain.{SubsetRead, raw_at, field_then, fields_at}
 use Rattle.bufr_fields.specs.Forms.{number_of}
@@ -42,7 +42,7 @@ use Rattle.bufr_data.proofs.PlainFacts.Handed.{Handed, field_handed, asked_there
 use Rattle.bufr_data.proofs.PlainFacts.Reads.{asked_field, found_is}
 
 -- the fields laid out are those that the course asks for, none a count, up to the walk's place
-pub record LaidSoFar (c : Course) (fields : List LaidField) (later : Course) : Type 0 where
+pub record LaidSoFar (c : Course) (fields : List CommonField) (later : Course) : Type 0 where
   pub behind : After c (map told_laid fields) later
   pub no_count : HaveNoCount fields
 
@@ -50,12 +50,12 @@ pub none_laid : (c later : Course) → later ≡ c → LaidSoFar c [] later
 unfolding After
 none_laid c later is = record { behind = sym is; no_count = tt }
 
-one_asked : (met : ℕ) (f : LaidField) (more : ℕ → Course)
+one_asked : (met : ℕ) (f : CommonField) (more : ℕ → Course)
     → After (asks met f.fxy f.spec more) (told_laid f ∷ []) (more 0)
 unfolding After
 one_asked met f more = (refl, refl, refl)
 
-pub one_laid : (c : Course) (old new : Walk) (fields grown : List LaidField) (f : LaidField)
+pub one_laid : (c : Course) (old new : Walk) (fields grown : List CommonField) (f : CommonField)
     → grown ≡ fields ++ f ∷ [] → Goes (left old) (Ok (steps.Field f.fxy f.spec)) new
     → LaidSoFar c fields (left old) → LaidSoFar c grown (left new)
 one_laid c old new fields grown f is goes so_far =
@@ -78,7 +78,7 @@ none_at_end : (P : ℕ → Bool) (n : ℕ) → TellsNone P (ends n)
 unfolding TellsNone
 none_at_end P n = tt
 
-pub all_laid : (tree : Tree) (old new : Walk) (list : List ℕ) (fields : List LaidField)
+pub all_laid : (tree : Tree) (old new : Walk) (list : List ℕ) (fields : List CommonField)
     (items : ℕ) (layout : Layout) → AreUnrolled → AreAllowed
     → Goes (left old) (Ok steps.End) new → items ≡ items_met new
     → LaidSoFar (course tree 0) fields (left old) → HasPlaces list fields true items layout
@@ -105,7 +105,7 @@ all_laid tree old new list laid items layout unrolled allowed goes met so_far ha
     }
 
 -- the fields up to the last chosen one
-pub front_laid : (tree : Tree) (w : Walk) (list : List ℕ) (fields : List LaidField) (items : ℕ)
+pub front_laid : (tree : Tree) (w : Walk) (list : List ℕ) (fields : List CommonField) (items : ℕ)
     (layout : Layout) → LaidSoFar (course tree 0) fields (left w)
     → TellsNone (is_listed list) (left w) → HasPlaces list fields false items layout
     → IsLaid tree layout
@@ -146,7 +146,7 @@ field_uncounted i d spec one other (Some x) same =
     (other (number_of x.0) x.1) (same (number_of x.0) x.1)
 
 -- the fields alone are those before an end, but for the number of items
-alone_uncounted : (met i : ℕ) (fields : List LaidField) (front : List Bool)
+alone_uncounted : (met i : ℕ) (fields : List CommonField) (front : List Bool)
     → fields_at 1 i (laid_course fields) front
     ≡ uncounted (fields_at 1 i (laid_then fields (ends met)) front)
 unfolding fields_at laid_then
@@ -164,7 +164,7 @@ field_same i d spec one other (Some x) same =
     ap (with_front (record { fxy = d; spec = spec; raw = x.0 })) (same (number_of x.0) x.1)
 
 -- a course is read like the fields that it asks for first, and what it asks for later
-pub read_as_laid : (used i : ℕ) (c later : Course) (fields : List LaidField) (front : List Bool)
+pub read_as_laid : (used i : ℕ) (c later : Course) (fields : List CommonField) (front : List Bool)
     → IsSteady used c → HaveNoCount fields → After c (map told_laid fields) later
     → fields_at 1 i (laid_then fields later) front ≡ fields_at 1 i c front
 unfolding After IsSteady fields_at laid_then
@@ -192,7 +192,7 @@ there_uncounted (Ok found) ok = refl
 there_uncounted (Err e) ok = absurd cc
 
 -- the fields of a layout are those of a subset, if it is there
-pub record Same (fields : List LaidField) (subset : Result SubsetRead DataFault)
+pub record Same (fields : List CommonField) (subset : Result SubsetRead DataFault)
     (front : List Bool) : Type 0 where
   pub there : IsOk (fields_at 1 1 (laid_course fields) front)
   pub are : fields_of (fields_at 1 1 (laid_course fields) front) ≡ fields_of subset
@@ -223,13 +223,13 @@ laid_here octets tree s kept one two three same_one same_two same_three laid who
     (ap (λ (l : Layout). l.is_whole) (sym same_one) ∙ whole)
     (subst (λ (l : Layout). s.used + l.items ≤ most_items) same_two room) begins.1)
 
-pub none_left : (fields : List LaidField) (reader : BitPlace) → length fields ≡ 0
+pub none_left : (fields : List CommonField) (reader : BitPlace) → length fields ≡ 0
     → StandLaid fields reader × (fields_laid fields reader ≡ [])
 unfolding fields_at laid_then
 none_left [] reader is = (refl, refl)
 none_left (f ∷ fields) reader is = absurd (omega (arith, is))
 
-pub first_handed : (fields others : List LaidField) (f : LaidField) (reader rest : BitPlace)
+pub first_handed : (fields others : List CommonField) (f : CommonField) (reader rest : BitPlace)
     (raw : Raw) → fields ≡ f ∷ others → StandLaid fields reader
     → raw_or_ends 1 1 (raw_at f.spec (ends_of.left reader)) ≡ Ok (raw, ends_of.left rest)
     → Handed (record { fxy = f.fxy; spec = f.spec; raw = raw })
@@ -247,7 +247,7 @@ first_handed (g ∷ fields) others f reader rest raw is stand read =
     (ends_of.left rest) (record { fxy = f.fxy; spec = f.spec; raw = raw }) stand
     (ap (λ fs. fields_at 1 1 (laid_course fs) (ends_of.left reader)) is ∙ step)
 
-pub first_there : (others : List LaidField) (f : LaidField) (reader : BitPlace)
+pub first_there : (others : List CommonField) (f : CommonField) (reader : BitPlace)
     → StandLaid (f ∷ others) reader → IsOk (raw_or_ends 1 1 (raw_at f.spec (ends_of.left reader)))
 unfolding fields_at laid_then
 first_there others f reader stand =
@@ -262,7 +262,7 @@ pub unmoved : (reader : BitPlace) → moved_on reader 0 ≡ reader
 unmoved reader =
     ap (λ (k : ℕ). record { octets = reader.octets; place = k }) (omega arith)
 
-pub none_passed : (P : ℕ → Bool) (fields : List LaidField) (reader : BitPlace)
+pub none_passed : (P : ℕ → Bool) (fields : List CommonField) (reader : BitPlace)
     → StandLaid fields reader → PassesLaid P fields fields reader 0
 none_passed P fields reader stand =
     let same = sym (unmoved reader) in
@@ -272,7 +272,7 @@ none_passed P fields reader stand =
       passed = ([], tt, ap (fields_laid fields) same);
     }
 
-pub one_more_passed : (P : ℕ → Bool) (all fields others : List LaidField) (f : LaidField)
+pub one_more_passed : (P : ℕ → Bool) (all fields others : List CommonField) (f : CommonField)
     (reader : BitPlace) (passed size : ℕ) → fields ≡ f ∷ others
     → PassesLaid P all fields reader passed → P f.fxy ≡ false
     → ((front : List Bool) → IsOk (raw_or_ends 1 1 (raw_at f.spec front))
@@ -306,7 +306,7 @@ one_more_passed P all fields others f reader passed size is so_far unasked takes
           so_far.passed (_, unasked, h.is);
     }
 
-pub first_asked : (P : ℕ → Bool) (fields others : List LaidField) (f : LaidField)
+pub first_asked : (P : ℕ → Bool) (fields others : List CommonField) (f : CommonField)
     (reader : BitPlace) → fields ≡ f ∷ others → P f.fxy ≡ true
     → FirstIsAsked P (fields_laid fields reader)
 unfolding fields_at laid_then

@@ -23,9 +23,9 @@ use Rattle.bufr_fields.specs.declared.field.Field.{Field}
 use Rattle.bufr_fields.specs.declared.fault.DataFault.{DataFault}
 use Rattle.bufr_fields.specs.CourseLaws.{AreUnrolled, AreAllowed}
 use Rattle.bufr_data.specs.declared.plain.index.SubsetStart.{SubsetStart}
-use Rattle.bufr_data.specs.declared.plain.layout.LaidField.{LaidField}
+use Rattle.bufr_data.specs.declared.plain.layout.CommonField.{CommonField}
 use Rattle.bufr_data.specs.declared.plain.layout.Layout.{Layout}
-use Rattle.bufr_data.specs.declared.plain.places.PlacedField.{PlacedField}
+use Rattle.bufr_data.specs.declared.plain.places.ChosenPlace.{ChosenPlace}
 use Rattle.bufr_data.specs.Chosen.{is_listed, chosen, field_size_by, field_size, placed_from}
 use Rattle.bufr_data.specs.Chosen.{placed, placed_then, fields_placed, HoldPlaced}
 use Rattle.bufr_data.specs.Handed.{NoneAsked}
@@ -116,12 +116,12 @@ size_taken spec front x read =
 -- ---- the places of a layout
 
 -- the fields of a subset that are chosen are those at the places
-pub record ArePlaced (list : List ℕ) (places : List PlacedField) (front : List Bool)
+pub record ArePlaced (list : List ℕ) (places : List ChosenPlace) (front : List Bool)
     (whole : Result SubsetRead DataFault) : Type 0 where
   pub holds : HoldPlaced places front
   pub are : fields_placed places front ≡ chosen list (fields_of whole)
 
-listed_placed : (list : List ℕ) (gap : ℕ) (f : LaidField) (others : List PlacedField)
+listed_placed : (list : List ℕ) (gap : ℕ) (f : CommonField) (others : List ChosenPlace)
     (front : List Bool) (x : Raw × List Bool) (r : Result SubsetRead DataFault)
     → is_listed list f.fxy ≡ true → gap ≤ length front → raw_at f.spec (drop gap front) ≡ Some x
     → IsOk (with_front (record { fxy = f.fxy; spec = f.spec; raw = x.0 }) r)
@@ -138,7 +138,7 @@ listed_placed list gap f others front x (Ok found) listed within read ok after =
     }
 listed_placed list gap f others front x (Err e) listed within read ok after = absurd cc
 
-unlisted_placed : (list : List ℕ) (places : List PlacedField) (front : List Bool) (f : Field)
+unlisted_placed : (list : List ℕ) (places : List ChosenPlace) (front : List Bool) (f : Field)
     (r : Result SubsetRead DataFault) → is_listed list f.fxy ≡ false → IsOk (with_front f r)
     → (IsOk r → ArePlaced list places front r) → ArePlaced list places front (with_front f r)
 unlisted_placed list places front f (Ok found) listed ok after =
@@ -151,10 +151,10 @@ unlisted_placed list places front f (Ok found) listed ok after =
 unlisted_placed list places front f (Err e) listed ok after = absurd cc
 
 -- what is read after a field of a layout
-abbrev Later : List LaidField → Course → ℕ → List Bool → Result SubsetRead DataFault
+abbrev Later : List CommonField → Course → ℕ → List Bool → Result SubsetRead DataFault
 Later fields c i front = fields_at 1 (i + 1) (laid_then fields c) front
 
-field_placed : (listed : Bool) (list : List ℕ) (gap : ℕ) (f : LaidField) (fields : List LaidField)
+field_placed : (listed : Bool) (list : List ℕ) (gap : ℕ) (f : CommonField) (fields : List CommonField)
     (c : Course) (i : ℕ) (front : List Bool) (o : Option (Raw × List Bool))
     → is_listed list f.fxy ≡ listed
     → raw_at f.spec (drop gap front) ≡ o → gap ≤ length front
@@ -188,7 +188,7 @@ none_chosen list (f ∷ fields) none =
     ∙ none_chosen list fields none.1
 
 -- the course after the fields has none of the chosen ones
-places_hold : (list : List ℕ) (gap : ℕ) (fields : List LaidField) (c : Course) (i : ℕ)
+places_hold : (list : List ℕ) (gap : ℕ) (fields : List CommonField) (c : Course) (i : ℕ)
     (front : List Bool) → TellsNone (is_listed list) c → gap ≤ length front
     → IsOk (fields_at 1 i (laid_then fields c) (drop gap front))
     → ArePlaced list (placed_from list gap fields) front
@@ -216,7 +216,7 @@ alone unrolled allowed tree used front f le read =
     )
 
 -- it is read like the fields of the layout, and what comes after them
-begun : AreUnrolled → AreAllowed → (tree : Tree) (used : ℕ) (fields : List LaidField)
+begun : AreUnrolled → AreAllowed → (tree : Tree) (used : ℕ) (fields : List CommonField)
     (later : Course) (front : List Bool) (found : Result SubsetRead DataFault)
     → HaveNoCount fields → After (course tree 0) (map told_laid fields) later → used ≤ most_items
     → fields_at 1 1 (course tree used) front ≡ found → IsOk found
@@ -256,14 +256,14 @@ placed_here unrolled allowed octets tree s kept one two three asked same_one sam
 
 -- ---- one place after another
 
-pub placed_there : (places others : List PlacedField) (p : PlacedField) (front : List Bool)
+pub placed_there : (places others : List ChosenPlace) (p : ChosenPlace) (front : List Bool)
     → places ≡ p ∷ others → HoldPlaced places front
     → (p.gap ≤ length front) × IsOk (raw_or_ends 1 1 (raw_at p.field.spec (drop p.gap front)))
 placed_there places others p front is holds =
     let here = subst (λ ps. HoldPlaced ps front) is holds in
     (here.0, subst IsOk (sym (ap (raw_or_ends 1 1) here.2)) refl)
 
-pub placed_handed : (places others : List PlacedField) (p : PlacedField) (front rest : List Bool)
+pub placed_handed : (places others : List ChosenPlace) (p : ChosenPlace) (front rest : List Bool)
     (raw : Raw) → places ≡ p ∷ others → HoldPlaced places front
     → raw_or_ends 1 1 (raw_at p.field.spec (drop p.gap front)) ≡ Ok (raw, rest)
     → HoldPlaced others rest
@@ -278,18 +278,18 @@ placed_handed places others p front rest raw is holds read =
           ∙ ap (placed_then p.field (fields_placed others)) found,
     )
 
-pub placed_greatest : (places others : List PlacedField) (p : PlacedField) (front : List Bool)
+pub placed_greatest : (places others : List ChosenPlace) (p : ChosenPlace) (front : List Bool)
     → places ≡ p ∷ others → HoldPlaced places front → p.greatest ≡ greatest_short p.field.spec
 placed_greatest places others p front is holds =
     (subst (λ ps. HoldPlaced ps front) is holds).4
 
-pub none_placed : (places : List PlacedField) (front : List Bool) → length places ≡ 0
+pub none_placed : (places : List ChosenPlace) (front : List Bool) → length places ≡ 0
     → fields_placed places front ≡ []
 none_placed [] front is = refl
 none_placed (p ∷ places) front is = absurd (omega (arith, is))
 
 -- no field is placed if there is no place, and only then
-pub none_alike : (places : List PlacedField) (front : List Bool) → HoldPlaced places front
+pub none_alike : (places : List ChosenPlace) (front : List Bool) → HoldPlaced places front
     → (length places == 0) ≡ (length (fields_placed places front) == 0)
 none_alike [] front holds = refl
 none_alike (p ∷ places) front holds =
@@ -300,11 +300,11 @@ none_alike (p ∷ places) front holds =
 -- ---- the places found
 
 -- the places of the fields so far, and those of the fields left
-abbrev pub PlacedSoFar : List ℕ → List LaidField → List PlacedField → ℕ → List LaidField → Type 0
+abbrev pub PlacedSoFar : List ℕ → List CommonField → List ChosenPlace → ℕ → List CommonField → Type 0
 PlacedSoFar list all places gap left = placed_from list 0 all ≡ places ++ placed_from list gap left
 
-pub one_placed : (list : List ℕ) (all left others : List LaidField) (f : LaidField)
-    (places grown : List PlacedField) (gap : ℕ) → left ≡ f ∷ others → is_listed list f.fxy ≡ true
+pub one_placed : (list : List ℕ) (all left others : List CommonField) (f : CommonField)
+    (places grown : List ChosenPlace) (gap : ℕ) → left ≡ f ∷ others → is_listed list f.fxy ≡ true
     → grown ≡ places ++ placed gap f ∷ []
     → PlacedSoFar list all places gap left → PlacedSoFar list all grown 0 others
 one_placed list all left others f places grown gap is listed more so_far =
@@ -316,8 +316,8 @@ one_placed list all left others f places grown gap is listed more so_far =
     ∙ sym (append_assoc places (place ∷ []) (placed_from list 0 others))
     ∙ ap (λ ps. ps ++ placed_from list 0 others) (sym more)
 
-pub none_more_placed : (list : List ℕ) (all left others : List LaidField) (f : LaidField)
-    (places : List PlacedField) (gap more : ℕ) → left ≡ f ∷ others
+pub none_more_placed : (list : List ℕ) (all left others : List CommonField) (f : CommonField)
+    (places : List ChosenPlace) (gap more : ℕ) → left ≡ f ∷ others
     → is_listed list f.fxy ≡ false → more ≡ gap + field_size f.spec
     → PlacedSoFar list all places gap left → PlacedSoFar list all places more others
 none_more_placed list all left others f places gap more is listed sum so_far =
@@ -328,7 +328,7 @@ none_more_placed list all left others f places gap more is listed sum so_far =
     so_far ∙ ap (λ fs. places ++ placed_from list gap fs) is ∙ ap (λ ps. places ++ ps) next
     ∙ ap (λ n. places ++ placed_from list n others) (sym sum)
 
-pub all_placed : (list : List ℕ) (all left : List LaidField) (places : List PlacedField) (gap : ℕ)
+pub all_placed : (list : List ℕ) (all left : List CommonField) (places : List ChosenPlace) (gap : ℕ)
     → length left ≡ 0 → PlacedSoFar list all places gap left → places ≡ placed_from list 0 all
 all_placed list all [] places gap is so_far = sym (so_far ∙ append-nil places)
 all_placed list all (f ∷ left) places gap is so_far = absurd (omega (arith, is))

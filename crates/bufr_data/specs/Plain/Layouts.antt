@@ -13,31 +13,31 @@ use Rattle.bufr_expand.specs.Trees.{Tree}
 use Rattle.bufr_expand.specs.Asked.{TellsNone}
 use Rattle.bufr_expand.specs.Unrolling.{NumberedField, After, Allows}
 use Rattle.bufr_expand.specs.Limits.{most_items}
-use Rattle.bufr_data.specs.declared.plain.layout.LaidField.{LaidField}
+use Rattle.bufr_data.specs.declared.plain.layout.CommonField.{CommonField}
 use Rattle.bufr_data.specs.declared.plain.layout.Layout.{Layout}
 use Rattle.bufr_data.specs.declared.plain.field_layout.FieldLayout.{FieldLayout}
 use Rattle.bufr_data.specs.Chosen.{is_listed, placed_from}
 use Rattle.bufr_data.specs.declared.plain.field_layout.FieldLayout.TheVariants.{Unserved, Served, Laid, Unlaid}
 
 -- the course that asks for these fields, whatever their numbers are, and then goes on
-unfoldable pub laid_then : List LaidField → Course → Course
+unfoldable pub laid_then : List CommonField → Course → Course
 laid_then [] later = later
 laid_then (f ∷ fields) later = asks 0 f.fxy f.spec (λ number. laid_then fields later)
 
 -- the course that asks for these fields alone
-abbrev pub laid_course : List LaidField → Course
+abbrev pub laid_course : List CommonField → Course
 laid_course fields = laid_then fields (ends 0)
 
 -- a field of a layout as unrollings have it, with 0 for its unknown number
-abbrev pub told_laid : LaidField → NumberedField
+abbrev pub told_laid : CommonField → NumberedField
 told_laid f = record { fxy = f.fxy; spec = f.spec; number = 0 }
 
 -- none of the fields is a count
-abbrev pub HaveNoCount : List LaidField → Type 0
+abbrev pub HaveNoCount : List CommonField → Type 0
 HaveNoCount fields = AllByRecursion (λ f. same_kind f.spec.kind kinds.Count ≡ false) fields
 
 -- a course asks for these fields first, and for none of the chosen ones after them
-pub record BeginsWithLaid (c : Course) (fields : List LaidField) (list : List ℕ) : Type 0 where
+pub record BeginsWithLaid (c : Course) (fields : List CommonField) (list : List ℕ) : Type 0 where
   pub later : Course
   pub first : After c (map told_laid fields) later
   pub no_more : TellsNone (is_listed list) later
@@ -53,7 +53,7 @@ pub record IsLaid (tree : Tree) (layout : Layout) : Type 0 where
   pub placed : layout.places ≡ placed_from layout.asked 0 layout.fields
 
 -- the layout of these fields and items, with the places of the fields that were asked for
-pub record HasPlaces (asked : List ℕ) (fields : List LaidField) (whole : Bool) (items : ℕ)
+pub record HasPlaces (asked : List ℕ) (fields : List CommonField) (whole : Bool) (items : ℕ)
     (layout : Layout) : Type 0 where
   pub same_asked : layout.asked ≡ asked
   pub same_fields : layout.fields ≡ fields
@@ -69,6 +69,6 @@ IsFieldLayout tree (Laid layout) = IsLaid tree layout.value
 IsFieldLayout tree Unlaid = Unit {0}
 
 -- a walk returned this field, which is no count, or its end
-abbrev pub TellsNext : Walk → Option LaidField → Walk → Type 0
+abbrev pub TellsNext : Walk → Option CommonField → Walk → Type 0
 TellsNext old (Some f) new = Goes (left old) (Ok (steps.Field f.fxy f.spec)) new
 TellsNext old None new = Goes (left old) (Ok steps.End) new

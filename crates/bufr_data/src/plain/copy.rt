@@ -8,6 +8,12 @@ ghost use Rattle.bufr_data.specs.Subsets.{Extends, filled};
 use bufr_base::OutOfMemory;
 use bufr_bits::{BitReader, BitSink};
 
+/// The octets of a room for a subset: 64, and seven for the rest of the last word.
+pub const SUBSET_ROOM: usize = 71;
+
+/// The most bits that a room takes.
+const MOST_FILLED_BITS: u128 = 512;
+
 /// Seven octets, which always lie within eight.
 const BITS_AT_ONCE: u32 = 56;
 
@@ -84,4 +90,51 @@ pub(crate) fn lent_octets(octets: &[u8], from: u128, end: u128) -> Option<&[u8]>
         }
         _ => None,
     }
+}
+
+/// Lends the octets of these bits as `lent_octets`, or puts them in `room`.
+pub(crate) fn filled_octets<'a>(
+    octets: &'a [u8],
+    from: u128,
+    end: u128,
+    room: &'a mut [u8; SUBSET_ROOM],
+) -> Option<&'a [u8]>
+    requires onward { from ≤ end }
+    requires inside { end ≤ 8 * length octets.now }
+    ensures { IfSome result (λ lent. bits lent.now
+        ≡ filled (take (end - from) (drop from (bits octets.now)))) }
+{
+    match lent_octets(octets, from, end) {
+        Some(lent) => Some(lent),
+        None => {
+            let count = fill_room(octets, from, end, room)?;
+            Some(&room[..count])
+        }
+    }
+}
+
+/// Puts bits at the start of `room`, seven octets at a time, and zero bits after them. Returns the
+/// number of octets; `None` for more than 512 bits.
+fn fill_room(octets: &[u8], from: u128, end: u128, room: &mut [u8; SUBSET_ROOM]) -> Option<usize>
+    requires onward { from ≤ end }
+    requires inside { end ≤ 8 * length octets.now }
+    ensures filled { IfSome result (λ count. bits (take count room.new)
+        ≡ filled (take (end - from) (drop from (bits octets.now)))) }
+    ensures within { IfSome result (λ count. count ≤ SUBSET_ROOM) }
+{
+    let bits = end - from;
+    if bits > MOST_FILLED_BITS {
+        return None;
+    }
+    let mut reader = BitReader::at(octets, from);
+    let mut left = bits as u32;
+    let mut at = 0;
+    while left > 0 {
+        let width = left.min(BITS_AT_ONCE);
+        let word = reader.take_left(width) << (64 - width);
+        room[at..at + 8].copy_from_slice(&word.to_be_bytes());
+        left -= width;
+        at += 7;
+    }
+    Some(bits.div_ceil(8) as usize)
 }

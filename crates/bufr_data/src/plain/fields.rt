@@ -7,7 +7,7 @@ ghost use Rattle.bufr_data.specs.Handed.{HandsOut, HandsOutAsked, NoneAsked, Pas
 ghost use Rattle.bufr_data.specs.Handed.{StandAhead, StepsTo, StepsToNone, fields_ahead};
 ghost use Rattle.bufr_data.specs.declared.plain.fields.Due.TheVariants as dues;
 
-use crate::plain::layout::LaidField;
+use crate::plain::layout::CommonField;
 use crate::plain::pass::{pass_bits, present_bits};
 use crate::plain::read::{read_count, read_number, read_raw};
 use bufr_base::OutOfMemory;
@@ -21,7 +21,7 @@ use std::marker::Model;
 #[derive(Clone, Copy)]
 pub(crate) enum Due {
     Step,
-    Text(LaidField),
+    Text(CommonField),
     Nothing,
 }
 
@@ -162,7 +162,7 @@ fn next_chosen<A: Asks>(
                 if asked.asks(fxy) {
                     return match read_number(spec, reader) {
                         Some(number) => Ok(NumberField { fxy, spec, number }),
-                        None => Err(Due::Text(LaidField { fxy, spec })),
+                        None => Err(Due::Text(CommonField { fxy, spec })),
                     };
                 }
                 pass_bits(reader, present_bits(spec));
@@ -198,7 +198,7 @@ fn step(due: Due, walk: &mut Walk, reader: &mut BitReader) -> Result<NumberField
         None => step_to_any(walk, reader),
         Some((fxy, spec)) => match read_number(spec, reader) {
             Some(number) => Ok(NumberField { fxy, spec, number }),
-            None => Err(Due::Text(LaidField { fxy, spec })),
+            None => Err(Due::Text(CommonField { fxy, spec })),
         },
     }
 }
@@ -219,7 +219,7 @@ fn step_to_any(walk: &mut Walk, reader: &mut BitReader) -> Result<NumberField, D
         Step::End => Err(Due::Nothing),
         Step::Field(fxy, spec) => match read_number(spec, reader) {
             Some(number) => Ok(NumberField { fxy, spec, number }),
-            None => Err(Due::Text(LaidField { fxy, spec })),
+            None => Err(Due::Text(CommonField { fxy, spec })),
         },
         Step::Count(fxy, spec) => {
             let number = read_count(spec, reader);

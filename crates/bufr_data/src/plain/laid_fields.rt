@@ -7,7 +7,7 @@ ghost use Rattle.bufr_fields.specs.Values.{as_field};
 
 use crate::fields::by_parts;
 use crate::plain::laid_reader::LaidReader;
-use crate::plain::layout::LaidField;
+use crate::plain::layout::CommonField;
 use crate::plain::pass::present_bits;
 use bufr_base::OutOfMemory;
 use bufr_expand::Asks;
@@ -18,7 +18,7 @@ use std::marker::Model;
 /// A reader of the fields left in a plain subset with a layout. Contracts see the list of fields.
 #[derive(Drop)]
 pub struct LaidFields<'v> {
-    pub(crate) fields: &'v [LaidField],
+    pub(crate) fields: &'v [CommonField],
     pub(crate) reader: LaidReader<'v>,
 }
 
@@ -110,9 +110,9 @@ impl<'v> LaidFields<'v> {
 /// Finds the first chosen field, and the bits before it.
 fn first_asked<'f, A: Asks>(
     asked: &A,
-    fields: &'f [LaidField],
+    fields: &'f [CommonField],
     reader: &LaidReader,
-) -> (&'f [LaidField], u64)
+) -> (&'f [CommonField], u64)
     requires { StandLaid fields.now reader.now }
     ensures passed { PassesLaid (A.is_asked asked.now) fields.now result.0.now reader.now
         result.1 }

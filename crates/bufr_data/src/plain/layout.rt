@@ -7,7 +7,7 @@ ghost use Rattle.bufr_data.specs.Plain.Layouts.{HasPlaces, IsLaid, TellsNext};
 ghost use Rattle.bufr_fields.specs.Steady.{IsReady};
 
 use crate::chosen::Listed;
-use crate::plain::places::{PlacedField, place_fields};
+use crate::plain::places::{ChosenPlace, place_fields};
 use bufr_base::{Items, OutOfMemory};
 use bufr_expand::laws::courses_are_unrollings;
 use bufr_expand::{Asks, MOST_ITEMS, Spec, Step, Template, Walk};
@@ -19,7 +19,7 @@ const MOST_LAID_FIELDS: usize = 4096;
 
 /// A field of every subset.
 #[derive(Clone, Copy, PartialEq)]
-pub(crate) struct LaidField {
+pub(crate) struct CommonField {
     pub(crate) fxy: Fxy,
     pub(crate) spec: Spec,
 }
@@ -28,12 +28,12 @@ pub(crate) struct LaidField {
 /// of the fields asked for. No field asked for comes later.
 #[derive(Drop)]
 pub(crate) struct Layout {
-    pub(crate) fields: Items<LaidField>,
+    pub(crate) fields: Items<CommonField>,
     /// Whether these are all fields of a subset.
     pub(crate) is_whole: bool,
     pub(crate) items: u64,
     pub(crate) asked: Items<u16>,
-    pub(crate) places: Items<PlacedField>,
+    pub(crate) places: Items<ChosenPlace>,
 }
 
 impl Layout {
@@ -99,7 +99,7 @@ impl Layout {
 fn laid_out(
     alloc: Global,
     asked: &[u16],
-    fields: Vec<LaidField>,
+    fields: Vec<CommonField>,
     is_whole: bool,
     items: u64,
 ) -> Result<Option<Layout>, OutOfMemory>
@@ -120,7 +120,7 @@ fn laid_out(
 }
 
 /// Returns the next field of a walk, `None` at its end, or an error at a count or fault.
-fn next_laid(walk: &mut Walk) -> Result<Option<LaidField>, ()>
+fn next_laid(walk: &mut Walk) -> Result<Option<CommonField>, ()>
     requires { IsReady walk.old }
     ensures { IfOk result (λ next. TellsNext walk.old next walk.new) }
 {
@@ -130,7 +130,7 @@ fn next_laid(walk: &mut Walk) -> Result<Option<LaidField>, ()>
     };
     match step {
         Step::End => Ok(None),
-        Step::Field(fxy, spec) => Ok(Some(LaidField { fxy, spec })),
+        Step::Field(fxy, spec) => Ok(Some(CommonField { fxy, spec })),
         Step::Count(_, _) => Err(()),
     }
 }

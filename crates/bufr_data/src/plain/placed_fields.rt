@@ -7,7 +7,7 @@ ghost use Rattle.bufr_fields.specs.Values.{as_field};
 
 use crate::fields::by_parts;
 use crate::plain::laid_reader::LaidReader;
-use crate::plain::places::PlacedField;
+use crate::plain::places::ChosenPlace;
 use crate::short::ShortNumber;
 use bufr_base::OutOfMemory;
 use bufr_fields::{Field, NumberField};
@@ -17,7 +17,7 @@ use std::marker::Model;
 /// A reader of the chosen fields left in a plain subset. Contracts see the list of fields.
 #[derive(Drop)]
 pub(crate) struct PlacedFields<'v> {
-    pub(crate) places: &'v [PlacedField],
+    pub(crate) places: &'v [ChosenPlace],
     pub(crate) reader: LaidReader<'v>,
 }
 

@@ -5,7 +5,7 @@ ghost use Rattle.bufr_data.specs.Chosen as chosen;
 ghost use Rattle.bufr_data.specs.Chosen.{placed_from};
 
 use crate::chosen::is_listed;
-use crate::plain::layout::LaidField;
+use crate::plain::layout::CommonField;
 use crate::short::greatest_short;
 use bufr_base::OutOfMemory;
 use bufr_expand::Spec;
@@ -16,9 +16,9 @@ use std::alloc::Global;
 /// A chosen field of every subset, the bits between it and the chosen field before it, and its
 /// greatest number if its numbers are short.
 #[derive(Clone, Copy, PartialEq)]
-pub(crate) struct PlacedField {
+pub(crate) struct ChosenPlace {
     pub(crate) gap: u64,
-    pub(crate) field: LaidField,
+    pub(crate) field: CommonField,
     pub(crate) greatest: Option<u16>,
 }
 
@@ -27,8 +27,8 @@ pub(crate) struct PlacedField {
 pub(crate) fn place_fields(
     alloc: Global,
     asked: &[u16],
-    fields: &[LaidField],
-) -> Result<Option<Vec<PlacedField>>, OutOfMemory>
+    fields: &[CommonField],
+) -> Result<Option<Vec<ChosenPlace>>, OutOfMemory>
     ensures { IfOk result (λ found. IfSome found (λ places.
         places.items ≡ placed_from asked.now 0 fields.now)) }
 {
@@ -52,10 +52,10 @@ pub(crate) fn place_fields(
 }
 
 /// Makes the place of a field after `gap` bits.
-fn placed(gap: u64, field: LaidField) -> PlacedField
+fn placed(gap: u64, field: CommonField) -> ChosenPlace
     ensures { result ≡ chosen.placed gap field }
 {
-    PlacedField {
+    ChosenPlace {
         gap,
         field,
         greatest: greatest_short(field.spec),

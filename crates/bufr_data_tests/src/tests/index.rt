@@ -3,7 +3,7 @@
 use super::same;
 use super::samples::{DELAYED, Descriptors, TEMPERATURE, Wanted, octets_of, same_subset, template};
 use bufr_bits::{BitReader, BitSink};
-use bufr_data::SubsetIndex;
+use bufr_data::{SUBSET_ROOM, SubsetIndex};
 use std::alloc::Global;
 use std::process::Abort;
 
@@ -139,14 +139,17 @@ fn subsets_in_any_order(rt: HostRuntime) {
     }
 }
 
-/// Descriptors, whether compressed, the octets, the place after the subsets, and the lent octets of
-/// each, or none.
+/// Octets, or none.
+type Octets<'a> = Option<&'a [u8]>;
+
+/// Descriptors, whether compressed, the octets, the place after the subsets, and of each subset the
+/// lent octets and the filled ones.
 type Lent<'a> = (
     Descriptors<'a>,
     bool,
     &'a [u8],
     u128,
-    &'a [Option<&'a [u8]>],
+    &'a [(Octets<'a>, Octets<'a>)],
 );
 
 const LENT: &[Lent] = &[
@@ -157,8 +160,14 @@ const LENT: &[Lent] = &[
         &[0x6A, 0xB3, 0x6A, 0xB4, 0x00, 0x05, 0xFF, 0xFE],
         64,
         &[
-            Some(&[0x6A, 0xB3, 0x6A, 0xB4]),
-            Some(&[0x00, 0x05, 0xFF, 0xFE]),
+            (
+                Some(&[0x6A, 0xB3, 0x6A, 0xB4]),
+                Some(&[0x6A, 0xB3, 0x6A, 0xB4]),
+            ),
+            (
+                Some(&[0x00, 0x05, 0xFF, 0xFE]),
+                Some(&[0x00, 0x05, 0xFF, 0xFE]),
+            ),
         ],
     ),
     // 0000110 1001011001, and then seven bits, all zero or not
@@ -167,19 +176,34 @@ const LENT: &[Lent] = &[
         false,
         &[0x0D, 0x2C, 0x80, 0xFF],
         17,
-        &[Some(&[0x0D, 0x2C, 0x80])],
+        &[(Some(&[0x0D, 0x2C, 0x80]), Some(&[0x0D, 0x2C, 0x80]))],
     ),
-    (STATION, false, &[0x0D, 0x2C, 0x81, 0x00], 17, &[None]),
+    (
+        STATION,
+        false,
+        &[0x0D, 0x2C, 0x81, 0x00],
+        17,
+        &[(None, Some(&[0x0D, 0x2C, 0x80]))],
+    ),
     // 0000110 1001011001 and 0000000 0000000000: the second begins inside an octet
     (
         STATION,
         false,
         &[0x0D, 0x2C, 0x80, 0x00, 0x00],
         34,
-        &[Some(&[0x0D, 0x2C, 0x80]), None],
+        &[
+            (Some(&[0x0D, 0x2C, 0x80]), Some(&[0x0D, 0x2C, 0x80])),
+            (None, Some(&[0x00, 0x00, 0x00])),
+        ],
     ),
     // one temperature, twice, with no increments
-    (TEMPERATURE, true, &[0x6A, 0xB3, 0x00], 22, &[None, None]),
+    (
+        TEMPERATURE,
+        true,
+        &[0x6A, 0xB3, 0x00],
+        22,
+        &[(None, None), (None, None)],
+    ),
 ];
 
 fn lends(rt: &impl Abort, alloc: Global, row: &Lent) {
@@ -188,9 +212,17 @@ fn lends(rt: &impl Abort, alloc: Global, row: &Lent) {
     let index = indexed(rt, alloc, list, compressed, count, octets, place);
     for (at, wanted) in subsets.iter().enumerate() {
         assert!(rt; at < index.count());
-        same(rt, index.lent(at), *wanted);
+        same(rt, index.lent(at), wanted.0);
+        fills(rt, &index, at, wanted.1);
     }
     drop(index);
+}
+
+/// The subset has these octets, in a room without a zero bit at first.
+fn fills(rt: &impl Abort, index: &SubsetIndex, at: usize, wanted: Octets) {
+    assert!(rt; at < index.count());
+    let mut room = [0xFF; SUBSET_ROOM];
+    same(rt, index.filled_octets(at, &mut room), wanted);
 }
 
 #[test]
@@ -236,21 +268,83 @@ const PUT: &[(Descriptors, &[u8])] = &[
     ),
 ];
 
-fn puts(rt: &impl Abort, alloc: Global, list: Descriptors, wanted: &[u8]) {
+/// Puts the first subset, fills its octets, and compares both.
+fn puts(rt: &impl Abort, alloc: Global, first: u128, list: Descriptors, wanted: &[u8]) {
     let mut reader = BitReader::new(OFF_AN_EDGE);
-    same(rt, reader.pass(3), true);
+    same(rt, reader.pass(first), true);
     let template = template(rt, alloc, list);
     let index = SubsetIndex::index(alloc, template, false, &mut reader, 1).expect(rt, "an index");
     assert!(rt; 0 < index.count());
     let mut sink = BitSink::new(alloc);
     index.put(alloc, 0, &mut sink).expect(rt, "room");
+    fills(rt, &index, 0, Some(wanted));
     drop(index);
     same(rt, octets_of(sink).as_slice(), wanted);
 }
 
+/// The first 57 of the bits after none to seven.
+const FROM_EACH_BIT: [&[u8]; 8] = [
+    &[0x57, 0x0C, 0x42, 0xBD, 0xA5, 0x6A, 0x7F, 0x80],
+    &[0xAE, 0x18, 0x85, 0x7B, 0x4A, 0xD4, 0xFF, 0x80],
+    &[0x5C, 0x31, 0x0A, 0xF6, 0x95, 0xA9, 0xFF, 0x80],
+    &[0xB8, 0x62, 0x15, 0xED, 0x2B, 0x53, 0xFF, 0x80],
+    &[0x70, 0xC4, 0x2B, 0xDA, 0x56, 0xA7, 0xFF, 0x00],
+    &[0xE1, 0x88, 0x57, 0xB4, 0xAD, 0x4F, 0xFE, 0x00],
+    &[0xC3, 0x10, 0xAF, 0x69, 0x5A, 0x9F, 0xFC, 0x80],
+    &[0x86, 0x21, 0x5E, 0xD2, 0xB5, 0x3F, 0xF9, 0x80],
+];
+
 #[test]
 fn bits_that_are_put(rt: HostRuntime) {
     for (list, wanted) in PUT {
-        puts(&rt, rt.alloc(), list, *wanted);
+        puts(&rt, rt.alloc(), 3, list, *wanted);
+    }
+    for (first, wanted) in FROM_EACH_BIT.iter().enumerate() {
+        let list: Descriptors = &[(2, 1, 178), (0, 1, 1)];
+        puts(&rt, rt.alloc(), first as u128, list, *wanted);
+    }
+}
+
+/// The octets 1, 2, 3 to 65.
+fn counted_up(rt: &impl Abort, alloc: Global) -> Vec<u8> {
+    let mut octets = Vec::new(alloc);
+    for octet in 1..66 {
+        octets.push(octet).expect(rt, "room");
+    }
+    octets
+}
+
+/// The octets of a subset of one-octet counts, if they fit the room.
+const COUNTS: &[(u8, bool)] = &[
+    (1, true),
+    (7, true),
+    (8, true),
+    (9, true),
+    (63, true),
+    (64, true),
+    (65, false),
+];
+
+/// A subset of the first octets, after five bits, has them in the room if they fit.
+fn counts_fill(rt: &impl Abort, alloc: Global, octets: &[u8], row: (u8, bool)) {
+    let mut sink = BitSink::new(alloc);
+    sink.put(5, 21).expect(rt, "room");
+    sink.put_bytes(octets).expect(rt, "room");
+    let all = octets_of(sink);
+    let mut reader = BitReader::new(all.as_slice());
+    same(rt, reader.pass(5), true);
+    let template = template(rt, alloc, &[(1, 1, row.0), (0, 31, 1)]);
+    let index = SubsetIndex::index(alloc, template, false, &mut reader, 1).expect(rt, "an index");
+    assert!(rt; 0 < index.count());
+    let wanted = octets.get(..usize::from(row.0));
+    fills(rt, &index, 0, if row.1 { wanted } else { None });
+    drop(index);
+}
+
+#[test]
+fn octets_that_fit_a_room(rt: HostRuntime) {
+    let octets = counted_up(&rt, rt.alloc());
+    for row in COUNTS {
+        counts_fill(&rt, rt.alloc(), octets.as_slice(), *row);
     }
 }

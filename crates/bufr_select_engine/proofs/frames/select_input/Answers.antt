@@ -3,7 +3,7 @@ use Rattle.std.proofs.Common.{◌≤◌, ◌^◌, length, arith, refl}
 use Rattle.bufr_io.specs.PassingLaws.{passed}
 use Rattle.bufr_select_engine.specs.Selectors.{SelectsInput}
 use Rattle.bufr_select_engine.specs.Selects.{Writings}
-use Rattle.bufr_select_engine.specs.declared.selector.Selector.{Selector}
+use Rattle.bufr_select_engine.specs.declared.frame_selector.FrameSelector.{FrameSelector}
 use Rattle.bufr_select_engine.proofs.SelectedFacts.{input_early, input_whole, selected_none}
 use Rattle.bufr_select_engine.proofs.frames.select_input.Goals as goal
 
@@ -53,7 +53,7 @@ returns-clause-selects g c =
       rows = g.W.Sink.writing c.write.new.writer;
       refusals = g.E.Sink.writing c.take_stream.new.out.refusals;
     } in
-    let p' : Selector = record c.take_stream.new.taker { rows = c.write.new.self } in
+    let p' : FrameSelector = record c.take_stream.new.taker { rows = c.write.new.self } in
     input_whole c.args.reads (g.S.Source.reading c.args.reader.now)
     (g.S.Source.reading c.take_stream.new.reader) c.args.selector.now c.take_stream.new.taker p' begin
     mid now t.1 c.write.result t.0 t.2 t.3 t.4 few c.write.ensures.writes refl refl

@@ -5,12 +5,12 @@ use Rattle.bufr_select_rows.proofs.filling.fill_cells.Given as goal
 
 abbrev pub invariant-fields : goal.invariant-fields
 invariant-fields g l = record {
-  row : rows_left None l.fn.cells true (g.P.Picks.left l.fn.fields)
-      ≡ rows_left None l.cells true (g.P.Picks.left l.fields);
+  row : rows_left None l.fn.cells true (g.P.SubsetFields.left l.fn.fields)
+      ≡ rows_left None l.cells true (g.P.SubsetFields.left l.fields);
   columns : map (λ c. c.column) l.cells ≡ map (λ c. c.column) l.fn.cells;
   settled : AreSettled l.settled l.cells;
 }
 
 -- the fields that are left
 abbrev pub decreases-fields : goal.decreases-fields
-decreases-fields g l = length (g.P.Picks.left l.fields)
+decreases-fields g l = length (g.P.SubsetFields.left l.fields)

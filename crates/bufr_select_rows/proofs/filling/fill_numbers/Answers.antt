@@ -17,7 +17,7 @@ due-preserved-in-Some g c =
     let e = c.note_short.ensures found.0 found.1 in
     record {
       row = inv.row ∙ row_first c.due.cells c.note_short.new.cells field
-          (g.P.Picks.left c.due.fields) (g.P.Picks.left c.pick_short.new.self) found.2 e;
+          (g.P.SubsetFields.left c.due.fields) (g.P.SubsetFields.left c.pick_short.new.self) found.2 e;
       columns = columns_kept c.due.cells c.note_short.new.cells field e ∙ inv.columns;
       settled = λ n settled. settled_next n c.due.cells c.note_short.new.cells field e
           (inv.settled n settled);
@@ -36,7 +36,7 @@ due-preserved g c =
     record {
       row = inv.row ∙ ap (rows_left None c.due.cells true) (sym same)
           ∙ row_next (flagged a.asked.now) c.due.cells c.note_number.new.cells field
-          (g.P.Picks.left c.pick_short.new.self) (g.P.Picks.left c.pick_number.new.self) covers.0
+          (g.P.SubsetFields.left c.pick_short.new.self) (g.P.SubsetFields.left c.pick_number.new.self) covers.0
           c.in-Some-pick_number.ensures.found e;
       columns = columns_kept c.due.cells c.note_number.new.cells field e ∙ inv.columns;
       settled = λ n settled. settled_next n c.due.cells c.note_number.new.cells field e
@@ -46,7 +46,7 @@ due-preserved g c =
         inv.fewer,
         ap length same,
         hands_fewer (flagged a.asked.now) field
-            (g.P.Picks.left c.pick_short.new.self) (g.P.Picks.left c.pick_number.new.self)
+            (g.P.SubsetFields.left c.pick_short.new.self) (g.P.SubsetFields.left c.pick_number.new.self)
             c.in-Some-pick_number.ensures.found,
       );
     }
@@ -58,8 +58,8 @@ returns-in-None-clause-row g c =
     let inv = c.due.invariant in
     let covers = subst (IsSetOf a.asked.now None) (sym inv.columns) c.requires in
     inv.row ∙ ap (rows_left None c.due.cells true) (sym c.in_default.ensures.others)
-    ∙ row_passed (flagged a.asked.now) c.due.cells (g.P.Picks.left c.pick_short.new.self)
-    (g.P.Picks.left c.pick_number.new.self) covers.0 c.in-None.ensures.others
+    ∙ row_passed (flagged a.asked.now) c.due.cells (g.P.SubsetFields.left c.pick_short.new.self)
+    (g.P.SubsetFields.left c.pick_number.new.self) covers.0 c.in-None.ensures.others
 
 pub returns-in-None-clause-fewer : goal.returns-in-None-clause-fewer
 returns-in-None-clause-fewer g c =
@@ -67,6 +67,6 @@ returns-in-None-clause-fewer g c =
       arith,
       c.due.invariant.fewer,
       ap length c.in_default.ensures.others,
-      passes_fewer (flagged c.args.asked.now) (g.P.Picks.left c.pick_short.new.self)
-          (g.P.Picks.left c.pick_number.new.self) c.in-None.ensures.others,
+      passes_fewer (flagged c.args.asked.now) (g.P.SubsetFields.left c.pick_short.new.self)
+          (g.P.SubsetFields.left c.pick_number.new.self) c.in-None.ensures.others,
     )

@@ -5,11 +5,11 @@ use Rattle.bufr_select_rows.proofs.filling.fill_numbers.Given as goal
 
 abbrev pub invariant-due : goal.invariant-due
 invariant-due g l = record {
-  row : rows_left None l.fn.cells true (g.P.Picks.left l.fn.fields)
-      ≡ rows_left None l.cells true (g.P.Picks.left l.fields);
+  row : rows_left None l.fn.cells true (g.P.SubsetFields.left l.fn.fields)
+      ≡ rows_left None l.cells true (g.P.SubsetFields.left l.fields);
   columns : map (λ c. c.column) l.cells ≡ map (λ c. c.column) l.fn.cells;
   settled : (n : ℕ) → AreSettled n l.fn.cells → AreSettled n l.cells;
-  fewer : length (g.P.Picks.left l.fields) ≤ length (g.P.Picks.left l.fn.fields);
+  fewer : length (g.P.SubsetFields.left l.fields) ≤ length (g.P.SubsetFields.left l.fn.fields);
 }
 
 abbrev pub decreases-due : goal.decreases-due

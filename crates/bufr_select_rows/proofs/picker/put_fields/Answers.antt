@@ -17,10 +17,10 @@ use Rattle.bufr_select_rows.proofs.picker.put_fields.Goals as goal
 pub fields-init : goal.fields-init
 fields-init g c =
     let a = c.args in
-    let whole = rows_left a.each a.cells.now (opens_at_once a.each) (g.P.Picks.left a.fields.now) in
+    let whole = rows_left a.each a.cells.now (opens_at_once a.each) (g.P.SubsetFields.left a.fields.now) in
     let w = g.W.Sink.writing a.writer.now in
     record {
-      rows = subst (λ b. PutsSome whole (rows_left a.each a.cells.now b (g.P.Picks.left a.fields.now)) a.rows.now w
+      rows = subst (λ b. PutsSome whole (rows_left a.each a.cells.now b (g.P.SubsetFields.left a.fields.now)) a.rows.now w
           a.rows.now w)
           (at_once a.each c.is_none-in_span.result c.is_none-in_span.ensures)
           (some_first whole a.rows.now w c.requires.works);
@@ -36,11 +36,11 @@ returns-in_err-take_number-clause-puts g c =
     let field = as_field c.in-Some.number in
     let handed = c.in-Some.ensures.found in
     let covers = subst (IsSetOf a.asked.now a.each) (sym inv.columns) c.requires.covers in
-    let whole = rows_left a.each a.cells.now (opens_at_once a.each) (g.P.Picks.left a.fields.now) in
-    let left = rows_left a.each c.fields.cells c.fields.in_span (g.P.Picks.left c.fields.fields) in
+    let whole = rows_left a.each a.cells.now (opens_at_once a.each) (g.P.SubsetFields.left a.fields.now) in
+    let left = rows_left a.each c.fields.cells c.fields.in_span (g.P.SubsetFields.left c.fields.fields) in
     let here = due a.each c.fields.in_span c.fields.cells field in
     let rest = field_due (flagged a.asked.now) a.each c.fields.cells c.fields.in_span field
-    (g.P.Picks.left c.fields.fields) (g.P.Picks.left c.pick_number.new.self) covers.0 handed in
+    (g.P.SubsetFields.left c.fields.fields) (g.P.SubsetFields.left c.pick_number.new.self) covers.0 handed in
     passed
     (PutsOrStops whole a.rows.now (g.W.Sink.writing a.writer.now) c.take_number.new.rows
     (g.W.Sink.writing c.take_number.new.writer))
@@ -58,8 +58,8 @@ fields-preserved-in-Some g c =
     let field = as_field c.in-Some.number in
     let handed = c.in-Some.ensures.found in
     let covers = subst (IsSetOf a.asked.now a.each) (sym inv.columns) c.requires.covers in
-    let whole = rows_left a.each a.cells.now (opens_at_once a.each) (g.P.Picks.left a.fields.now) in
-    let left = rows_left a.each c.fields.cells c.fields.in_span (g.P.Picks.left c.fields.fields) in
+    let whole = rows_left a.each a.cells.now (opens_at_once a.each) (g.P.SubsetFields.left a.fields.now) in
+    let left = rows_left a.each c.fields.cells c.fields.in_span (g.P.SubsetFields.left c.fields.fields) in
     let here = due a.each c.fields.in_span c.fields.cells field in
     let e = c.in_ok-take_number.ensures in
     record {
@@ -67,8 +67,8 @@ fields-preserved-in-Some g c =
           (g.W.Sink.writing a.writer.now) (g.W.Sink.writing c.fields.writer)
           (g.W.Sink.writing c.take_number.new.writer) inv.rows
           (field_next (flagged a.asked.now) a.each c.fields.cells c.take_number.new.cells
-          c.fields.in_span c.is_open_after_number-in_span.result field (g.P.Picks.left c.fields.fields)
-          (g.P.Picks.left c.pick_number.new.self) covers.0 handed e.cells c.is_open_after_number-in_span.ensures)
+          c.fields.in_span c.is_open_after_number-in_span.result field (g.P.SubsetFields.left c.fields.fields)
+          (g.P.SubsetFields.left c.pick_number.new.self) covers.0 handed e.cells c.is_open_after_number-in_span.ensures)
           e.puts e.works;
       columns = ap (λ (cells : List Cell). map (λ cell. cell.column) cells) e.cells
           ∙ columns_after a.each c.fields.in_span c.fields.cells field ∙ inv.columns;
@@ -83,14 +83,14 @@ returns-in_err-take_field-in-Ok-Some-clause-puts g c =
     let field = c.in-Ok-Some.field in
     let so : c.in-Ok-Some.field-0 ≡ Some field = rw c.in-Ok-Some.is at c.in-Ok-Some.field-0-is in
     let handed = rw (c.in-Ok-Some.is, so) at (picked_after (flagged a.asked.now) c.pick-next.result
-    (g.P.Picks.left c.fields.fields) (g.P.Picks.left c.pick_number.new.self)
-    (g.P.Picks.left c.pick-next.new.self) c.in_default.ensures.others c.pick-next.ensures) in
+    (g.P.SubsetFields.left c.fields.fields) (g.P.SubsetFields.left c.pick_number.new.self)
+    (g.P.SubsetFields.left c.pick-next.new.self) c.in_default.ensures.others c.pick-next.ensures) in
     let covers = subst (IsSetOf a.asked.now a.each) (sym inv.columns) c.requires.covers in
-    let whole = rows_left a.each a.cells.now (opens_at_once a.each) (g.P.Picks.left a.fields.now) in
-    let left = rows_left a.each c.fields.cells c.fields.in_span (g.P.Picks.left c.fields.fields) in
+    let whole = rows_left a.each a.cells.now (opens_at_once a.each) (g.P.SubsetFields.left a.fields.now) in
+    let left = rows_left a.each c.fields.cells c.fields.in_span (g.P.SubsetFields.left c.fields.fields) in
     let here = due a.each c.fields.in_span c.fields.cells field in
     let rest = field_due (flagged a.asked.now) a.each c.fields.cells c.fields.in_span field
-    (g.P.Picks.left c.fields.fields) (g.P.Picks.left c.pick-next.new.self) covers.0 handed in
+    (g.P.SubsetFields.left c.fields.fields) (g.P.SubsetFields.left c.pick-next.new.self) covers.0 handed in
     passed
     (PutsOrStops whole a.rows.now (g.W.Sink.writing a.writer.now) c.take_field.new.rows
     (g.W.Sink.writing c.take_field.new.writer))
@@ -107,24 +107,24 @@ returns-in-Ok-None-clause-puts g c =
     let inv = c.fields.invariant in
     let so : c.in-Ok-None.field-0 ≡ None = rw c.in-Ok-None.is at c.in-Ok-None.field-0-is in
     let handed = rw (c.in-Ok-None.is, so) at (picked_after (flagged a.asked.now) c.pick-next.result
-    (g.P.Picks.left c.fields.fields) (g.P.Picks.left c.pick_number.new.self)
-    (g.P.Picks.left c.pick-next.new.self) c.in_default.ensures.others c.pick-next.ensures) in
+    (g.P.SubsetFields.left c.fields.fields) (g.P.SubsetFields.left c.pick_number.new.self)
+    (g.P.SubsetFields.left c.pick-next.new.self) c.in_default.ensures.others c.pick-next.ensures) in
     let covers = subst (IsSetOf a.asked.now a.each) (sym inv.columns) c.requires.covers in
-    some_last (rows_left a.each a.cells.now (opens_at_once a.each) (g.P.Picks.left a.fields.now))
-    (rows_left a.each c.fields.cells c.fields.in_span (g.P.Picks.left c.fields.fields))
+    some_last (rows_left a.each a.cells.now (opens_at_once a.each) (g.P.SubsetFields.left a.fields.now))
+    (rows_left a.each c.fields.cells c.fields.in_span (g.P.SubsetFields.left c.fields.fields))
     (ended c.fields.in_span c.fields.cells) a.rows.now c.fields.rows c.put_ended.new.rows
     (g.W.Sink.writing a.writer.now) (g.W.Sink.writing c.fields.writer)
     (g.W.Sink.writing c.put_ended.new.writer) c.put_ended.result inv.rows
-    (rows_last (flagged a.asked.now) a.each c.fields.cells c.fields.in_span (g.P.Picks.left c.fields.fields)
-    (g.P.Picks.left c.pick-next.new.self) covers.0 handed)
+    (rows_last (flagged a.asked.now) a.each c.fields.cells c.fields.in_span (g.P.SubsetFields.left c.fields.fields)
+    (g.P.SubsetFields.left c.pick-next.new.self) covers.0 handed)
     c.put_ended.ensures.puts
 
 -- there was no memory for a field
 pub returns-in-Err-clause-puts : goal.returns-in-Err-clause-puts
 returns-in-Err-clause-puts g c =
     let a = c.args in
-    some_ran_out (rows_left a.each a.cells.now (opens_at_once a.each) (g.P.Picks.left a.fields.now))
-    (rows_left a.each c.fields.cells c.fields.in_span (g.P.Picks.left c.fields.fields)) a.rows.now c.fields.rows
+    some_ran_out (rows_left a.each a.cells.now (opens_at_once a.each) (g.P.SubsetFields.left a.fields.now))
+    (rows_left a.each c.fields.cells c.fields.in_span (g.P.SubsetFields.left c.fields.fields)) a.rows.now c.fields.rows
     (g.W.Sink.writing a.writer.now) (g.W.Sink.writing c.fields.writer) c.fields.invariant.rows
 
 -- one field more was taken
@@ -135,11 +135,11 @@ fields-preserved-in_ok-take_field-in-Ok-Some g c =
     let field = c.in-Ok-Some.field in
     let so : c.in-Ok-Some.field-0 ≡ Some field = rw c.in-Ok-Some.is at c.in-Ok-Some.field-0-is in
     let handed = rw (c.in-Ok-Some.is, so) at (picked_after (flagged a.asked.now) c.pick-next.result
-    (g.P.Picks.left c.fields.fields) (g.P.Picks.left c.pick_number.new.self)
-    (g.P.Picks.left c.pick-next.new.self) c.in_default.ensures.others c.pick-next.ensures) in
+    (g.P.SubsetFields.left c.fields.fields) (g.P.SubsetFields.left c.pick_number.new.self)
+    (g.P.SubsetFields.left c.pick-next.new.self) c.in_default.ensures.others c.pick-next.ensures) in
     let covers = subst (IsSetOf a.asked.now a.each) (sym inv.columns) c.requires.covers in
-    let whole = rows_left a.each a.cells.now (opens_at_once a.each) (g.P.Picks.left a.fields.now) in
-    let left = rows_left a.each c.fields.cells c.fields.in_span (g.P.Picks.left c.fields.fields) in
+    let whole = rows_left a.each a.cells.now (opens_at_once a.each) (g.P.SubsetFields.left a.fields.now) in
+    let left = rows_left a.each c.fields.cells c.fields.in_span (g.P.SubsetFields.left c.fields.fields) in
     let here = due a.each c.fields.in_span c.fields.cells field in
     let e = c.in_ok-take_field-in-Ok-Some.ensures in
     record {
@@ -147,8 +147,8 @@ fields-preserved-in_ok-take_field-in-Ok-Some g c =
           (g.W.Sink.writing a.writer.now) (g.W.Sink.writing c.fields.writer)
           (g.W.Sink.writing c.take_field.new.writer) inv.rows
           (field_next (flagged a.asked.now) a.each c.fields.cells c.take_field.new.cells
-          c.fields.in_span c.is_open_after-in_span.result field (g.P.Picks.left c.fields.fields)
-          (g.P.Picks.left c.pick-next.new.self) covers.0 handed e.cells c.is_open_after-in_span.ensures)
+          c.fields.in_span c.is_open_after-in_span.result field (g.P.SubsetFields.left c.fields.fields)
+          (g.P.SubsetFields.left c.pick-next.new.self) covers.0 handed e.cells c.is_open_after-in_span.ensures)
           e.puts e.works;
       columns = ap (λ (cells : List Cell). map (λ cell. cell.column) cells) e.cells
           ∙ columns_after a.each c.fields.in_span c.fields.cells field ∙ inv.columns;
@@ -162,11 +162,11 @@ fields-preserved-in_ok-take_field-in-Ok-Some-2 g c =
     let field = c.in-Ok-Some.field in
     let so : c.in-Ok-Some.field-0 ≡ Some field = rw c.in-Ok-Some.is at c.in-Ok-Some.field-0-is in
     let handed = rw (c.in-Ok-Some.is, so) at (picked_after (flagged a.asked.now) c.pick-next.result
-    (g.P.Picks.left c.fields.fields) (g.P.Picks.left c.pick_number.new.self)
-    (g.P.Picks.left c.pick-next.new.self) c.in_default.ensures.others c.pick-next.ensures) in
+    (g.P.SubsetFields.left c.fields.fields) (g.P.SubsetFields.left c.pick_number.new.self)
+    (g.P.SubsetFields.left c.pick-next.new.self) c.in_default.ensures.others c.pick-next.ensures) in
     let covers = subst (IsSetOf a.asked.now a.each) (sym inv.columns) c.requires.covers in
-    let whole = rows_left a.each a.cells.now (opens_at_once a.each) (g.P.Picks.left a.fields.now) in
-    let left = rows_left a.each c.fields.cells c.fields.in_span (g.P.Picks.left c.fields.fields) in
+    let whole = rows_left a.each a.cells.now (opens_at_once a.each) (g.P.SubsetFields.left a.fields.now) in
+    let left = rows_left a.each c.fields.cells c.fields.in_span (g.P.SubsetFields.left c.fields.fields) in
     let here = due a.each c.fields.in_span c.fields.cells field in
     let e = c.in_ok-take_field-in-Ok-Some.ensures in
     record {
@@ -174,8 +174,8 @@ fields-preserved-in_ok-take_field-in-Ok-Some-2 g c =
           (g.W.Sink.writing a.writer.now) (g.W.Sink.writing c.fields.writer)
           (g.W.Sink.writing c.take_field.new.writer) inv.rows
           (field_next (flagged a.asked.now) a.each c.fields.cells c.take_field.new.cells
-          c.fields.in_span c.is_open_after-in_span.result field (g.P.Picks.left c.fields.fields)
-          (g.P.Picks.left c.pick-next.new.self) covers.0 handed e.cells c.is_open_after-in_span.ensures)
+          c.fields.in_span c.is_open_after-in_span.result field (g.P.SubsetFields.left c.fields.fields)
+          (g.P.SubsetFields.left c.pick-next.new.self) covers.0 handed e.cells c.is_open_after-in_span.ensures)
           e.puts e.works;
       columns = ap (λ (cells : List Cell). map (λ cell. cell.column) cells) e.cells
           ∙ columns_after a.each c.fields.in_span c.fields.cells field ∙ inv.columns;

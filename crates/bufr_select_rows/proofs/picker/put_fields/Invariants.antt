@@ -7,12 +7,12 @@ use Rattle.bufr_select_rows.proofs.picker.put_fields.Given as goal
 -- with the rows of the fields that are left all are put, and the cells keep their columns
 abbrev pub invariant-fields : goal.invariant-fields
 invariant-fields g l = record {
-  rows : PutsSome (rows_left l.each l.fn.cells (opens_at_once l.each) (g.P.Picks.left l.fn.fields))
-      (rows_left l.each l.cells l.in_span (g.P.Picks.left l.fields)) l.fn.rows (g.W.Sink.writing l.fn.writer) l.rows
+  rows : PutsSome (rows_left l.each l.fn.cells (opens_at_once l.each) (g.P.SubsetFields.left l.fn.fields))
+      (rows_left l.each l.cells l.in_span (g.P.SubsetFields.left l.fields)) l.fn.rows (g.W.Sink.writing l.fn.writer) l.rows
       (g.W.Sink.writing l.writer);
   columns : map (λ c. c.column) l.cells ≡ map (λ c. c.column) l.fn.cells;
 }
 
 -- the fields that are left
 abbrev pub decreases-fields : goal.decreases-fields
-decreases-fields g l = length (g.P.Picks.left l.fields)
+decreases-fields g l = length (g.P.SubsetFields.left l.fields)

@@ -5,7 +5,7 @@ use Rattle.bufr_message.specs.declared.Decoded.{Decoded}
 use Rattle.bufr_message.specs.declared.Refused.{Refused}
 use Rattle.bufr_message.specs.Messages.{message_of}
 use Rattle.bufr_io.specs.Taking.{frame_at}
-use Rattle.bufr_engines.specs.declared.printing.Printing.TheVariants.{Shown}
+use Rattle.bufr_engines.specs.declared.frame_lines.OutputForm.TheVariants.{Shown}
 use Rattle.bufr_engines.specs.Output.{printed_as}
 use Rattle.bufr_engines.proofs.LineFacts.{printed_whole}
 use Rattle.bufr_engines.proofs.LineLengths.{listing_short}

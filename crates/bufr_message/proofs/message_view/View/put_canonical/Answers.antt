@@ -13,8 +13,8 @@ returns-in-Some-clause-put c =
     (own_behind (slice_get (reports_of c.args.self.now.message) 0) c.in-Some.own.now
     c.args.out.now.items _ c.in-Some.ensures.is c.in_ok-extend_from_slice.ensures.items)
 
-pub returns-in-Some-lent-clause-put : goal.returns-in-Some-lent-clause-put
-returns-in-Some-lent-clause-put c =
+pub returns-in-Some-filled_octets-clause-put : goal.returns-in-Some-filled_octets-clause-put
+returns-in-Some-filled_octets-clause-put c =
     let v = c.self.inside in
     let m : Message =
     record {
@@ -28,8 +28,8 @@ returns-in-Some-lent-clause-put c =
     let below = rw (← c.self.view_is) at c.requires in
     let put = rw (c.as_slice-descriptors.ensures, c.deref.ensures) at c.put_alone.ensures.put in
     rw (← c.self.view_is)
-    (put_there m c.args.index c.in-Some-lent.contents.now c.args.out.now.items _
-    c.put_alone.result below c.self.invariant.rooms c.in-Some-lent.ensures put)
+    (put_there m c.args.index c.in-Some-filled_octets.contents.now c.args.out.now.items _
+    c.put_alone.result below c.self.invariant.rooms c.in-Some-filled_octets.ensures put)
 
 pub returns-clause-put : goal.returns-clause-put
 returns-clause-put c =
