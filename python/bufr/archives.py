@@ -11,6 +11,7 @@ from .streams import Fed, Inputs, Output, leave_out, note, say, tables_of
 from .versions import VERSIONS, version_of
 
 NEWEST = VERSIONS[-1]
+INPUT = re.compile(rb" input ([0-9]+)")
 SECTION_1 = re.compile(rb"^section1(?: [0-9]+){6} ([0-9]+) ", re.M)
 
 
@@ -105,7 +106,7 @@ class Archives:
             written.append(each.target.path)
             status = max(status, ended)
             extra = self.refused if version == max(self.programs) else 0
-            print_last(text, self.out, version, extra)
+            print_last(text, self.out, version, written, extra)
         return status
 
     def drop(self):
@@ -125,16 +126,22 @@ def fail_after(written):
     raise Ended(2)
 
 
-def print_last(text, out, version, refused=0):
-    """Prints the last line of `add` or `merge`, with its version before it if the name of the archive has one; so many more
-    frames were refused."""
+def print_last(text, out, version, written, refused=0):
+    """Prints the last line of `add` or `merge`, with its version before it if the name of the archive has one. It counts so many
+    more frames as refused. If it can't be written, the archives that are written are named."""
     words = text.split()
     if refused:
         words[1], words[3] = b"%d" % (int(words[1]) + refused), b"%d" % (int(words[3]) + refused)
     line = b" ".join([b"%d" % version] * ("{}" in out) + words) + b"\n"
     to = Output()
-    to.put(line)
-    to.flush()
+    try:
+        to.put(line)
+        to.flush()
+    except Fault as fault:
+        if "{}" not in out:
+            raise
+        say("bufr", fault)
+        fail_after(written)
 
 
 def add(out, names):
@@ -149,24 +156,42 @@ def add(out, names):
 
 
 class Versions:
-    """How many messages of each version there are in each input."""
+    """How many messages of each version there are in each input, and the first input with one that no table here reads."""
 
     def __init__(self, inputs):
-        self.inputs, self.counts = inputs, {}
+        self.inputs, self.counts, self.unread = inputs, {}, None
 
     def has_room(self):
         return True
 
     def give(self, part):
-        if part.version == 0:
-            raise Fault(f"not an archive input {part.number + 1}: no table here reads version {part.named} of the message at "
-                        f"{part.places()[0]}")
+        if part.version == 0 and not self.unread:
+            self.unread = part.number, f"no table here reads version {part.named} of the message at {part.places()[0]}"
         if part.version:
             of_it = self.counts.setdefault(part.number, {})
             of_it[part.version] = of_it.get(part.version, 0) + part.count
 
     def waits(self):
         return []
+
+    def totals(self):
+        """How many messages of each version there are in all."""
+        totals = {}
+        for counts in self.counts.values():
+            for version, count in counts.items():
+                totals[version] = totals.get(version, 0) + count
+        return totals
+
+    def first_wrong(self):
+        """The index of the first input whose messages say that it is no archive, and why; or none."""
+        mixed = [(number, f"its messages take tables of several versions ({counted(counts)})")
+                 for number, counts in sorted(self.counts.items()) if len(counts) > 1]
+        return min([*mixed[:1], *([self.unread] if self.unread else [])], default=None)
+
+    def chosen(self, version, count):
+        """The indices of those of the first inputs that go to the tables of a version; inputs without messages go to the first."""
+        first = min(self.totals(), default=NEWEST)
+        return [number for number in range(count) if min(self.counts.get(number, {first: 0})) == version]
 
 
 def in_memory(path):
@@ -198,30 +223,27 @@ def merge(out, names):
         bufr_streams.pump(versions.inputs, versions)
     finally:
         end_all()
-    totals = {}
-    for number, counts in versions.counts.items():
-        for version, count in counts.items():
-            totals[version] = totals.get(version, 0) + count
-    if "{}" not in out and len(totals) > 1:
+    totals, wrong, written = versions.totals(), versions.first_wrong(), []
+    if "{}" not in out and len(totals) > 1 and not versions.unread:
         raise several(totals)
-    for number, counts in sorted(versions.counts.items()):
-        if len(counts) > 1:
-            raise Fault(f"not an archive input {number + 1}: its messages take tables of several versions ({counted(counts)})")
-    written, first = [], min(totals, default=NEWEST)
-    if "{}" in out and not totals:
-        # there is no archive to write, but each input has to be one
-        merged(NEWEST, os.devnull, paths, range(len(paths)), written)
-        return 0
+    if wrong:
+        said = f"bufr: not an archive input {wrong[0] + 1}: {wrong[1]}\n".encode()
+        fail_at_first(said, paths, versions, sorted(totals) or [NEWEST], written)
+    # without messages there is no archive to write under a name with {}, but each input has to be one
+    is_written = bool(totals) or "{}" not in out
     for version in sorted(totals) or [NEWEST]:
-        chosen = [number for number in range(len(paths)) if min(versions.counts.get(number, {first: 0})) == version]
+        name = out.replace("{}", str(version)) if is_written else os.devnull
         note(version)
-        text = merged(version, out.replace("{}", str(version)), paths, chosen, written)
-        print_last(text, out, version)
+        text, said = merged(version, name, paths, versions.chosen(version, len(paths)), written)
+        if text is None:
+            fail_at_first(said, paths, versions, [other for other in sorted(totals) if other > version], written)
+        if is_written:
+            print_last(text, out, version, written)
     return 0
 
 
 def merged(version, out, paths, chosen, written):
-    """Merges archives of one version, and returns the line that says so."""
+    """Merges archives of one version. Returns the last line, or none if the program failed, and what it said then."""
     target = Target(out)
     words = [program("bufr"), "merge", *tables_of(version), "-o", target.written, "--", *(paths[number] for number in chosen)]
     try:
@@ -229,15 +251,24 @@ def merged(version, out, paths, chosen, written):
         text, said = process.rest_of(1), process.rest_of(2)
         if process.wait():
             # the number of an input is that in the whole call
-            said = re.sub(rb"( input )([0-9]+)", lambda found: found[1] + b"%d" % (chosen[int(found[2]) - 1] + 1), said)
-            os.write(2, said)
-            fail_after(written)
+            return None, INPUT.sub(lambda found: b" input %d" % (chosen[int(found[1]) - 1] + 1), said)
         target.put()
         written.append(target.path)
-        return text
+        return text, b""
     finally:
         end_all()
         target.drop()
+
+
+def fail_at_first(said, paths, versions, others, written):
+    """Ends the call with what was said of an input, or with what the program says of an earlier one under other versions."""
+    for version in others:
+        found = INPUT.search(said)
+        chosen = versions.chosen(version, int(found[1]) - 1) if found else []
+        if chosen:
+            said = merged(version, os.devnull, paths, chosen, [])[1] or said
+    os.write(2, said)
+    fail_after(written)
 
 
 # ---- encode: each message by the version in its section1

@@ -2,9 +2,9 @@
 on. `bufr` without -b, -d and BUFR_TABLES runs it for what takes several versions. Called by its own name it parts streams by
 these versions, and writes the messages of each to a file version_NN.bufr, or runs a command for each:
 
-    by-version --into FOLDER FILE..
-    by-version --run 'bufr check' FILE..
-    by-version --run 'bufr add -o day_{}.bufr' FILE..
+    bufr-by-version --into FOLDER FILE..
+    bufr-by-version --run 'bufr check' FILE..
+    bufr-by-version --run 'bufr add -o day_{}.bufr' FILE..
 
 The command gets the tables of the version, and its messages as a file; {} in it stands for the version. What `bufr check` and
 `bufr show` print comes in the order of the messages, while the streams come, with the places of their own file, and a line
@@ -19,7 +19,7 @@ import sys
 from . import streams as bufr_streams
 from .commands import called, run
 from .errors import Ended, Fault
-from .processes import end_all, halt_at_signals, program
+from .processes import end_all, halt_at_signals, is_word, program
 from .streams import Fed, Inputs, Output, leave_out, note, tables_of
 from .versions import VERSIONS
 
@@ -252,7 +252,7 @@ def read_words(words):
     is_archive = words[0] in ("add", "merge")
     if before == "o" or len(outs) != is_archive or len(options) > (words[0] == "encode") or not names:
         return None
-    if not is_archive and len(names) > 1 or any("\udc80" <= octet <= "\udcff" for word in words for octet in word):
+    if not is_archive and len(names) > 1 or not all(map(is_word, words)):
         return None
     return options, outs, names
 

@@ -12,8 +12,8 @@ def called(name):
 
 
 def listing_out():
-    """Standard output for a listing, of which each character is an octet."""
-    return open(sys.stdout.fileno(), "w", encoding="latin-1", newline="\n", closefd=False)
+    """Standard output for a listing, of which each character is an octet. One that is none is escaped, as of a name in a table."""
+    return open(sys.stdout.fileno(), "w", encoding="latin-1", errors="backslashreplace", newline="\n", closefd=False)
 
 
 def run(name, main):

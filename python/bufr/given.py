@@ -4,6 +4,7 @@ import stat
 import sys
 
 from .errors import Fault
+from .processes import is_word
 
 TYPE_CHECKING = False
 if TYPE_CHECKING:
@@ -13,7 +14,7 @@ PIECE = 1 << 20
 
 
 class Given:
-    """A file of a call: its name there, and a path by which programs can read it several times, like no line of a listing."""
+    """A file of a call: its name there, and a path by which programs can read it several times: UTF-8, and like no line of a listing."""
 
     def __init__(self, name: str, path: str) -> None:
         self.name, self.path = name, path
@@ -49,7 +50,7 @@ class Files:
             if name != "-" and stat.S_ISREG(os.stat(name).st_mode):
                 with open(name, "rb"):
                     pass
-                if not name.startswith(("-", "refused ")) and not name.endswith(("subset", "end")) and "\n" not in name:
+                if not name.startswith(("-", "refused ")) and not name.endswith(("subset", "end")) and "\n" not in name and is_word(name):
                     return name
                 os.symlink(os.path.abspath(name), self.beside(at))
                 return self.beside(at)

@@ -10,7 +10,7 @@ from io import BytesIO
 from itertools import chain, islice
 
 from .errors import Ended, Fault
-from .processes import PIECE, Process, program
+from .processes import PIECE, Process, is_word, program
 from .progress import Progress
 from .skipped import NOTHING, TEXT, Skipped
 from .versions import HERE, version_of
@@ -116,10 +116,11 @@ class Listed:
             raise Fault(f"cannot open {self.path}: {getattr(error, 'strerror', None) or error}") from error
 
     def look(self):
-        """The head of the input, and its size if it is a regular file: then it is read again, and else what was read is kept."""
+        """The head of the input, and its size if it is a regular file that programs can open: then it is read again, and else what was
+        read is kept."""
         try:
             kept = os.fstat(self.input)
-            self.is_regular = stat.S_ISREG(kept.st_mode)
+            self.is_regular = stat.S_ISREG(kept.st_mode) and is_word(self.path)
             if self.is_regular:
                 at = os.lseek(self.input, 0, os.SEEK_CUR)
                 return os.pread(self.input, HEAD, at), kept.st_size - at

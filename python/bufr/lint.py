@@ -1,12 +1,14 @@
 """Reads a listing, and says for each bad line what is wanted there and what was found: the element with its unit, the digits after
 the point, the least and the greatest value, or the length of a text. It reads each message under the tables of its version, unless
-an option names others. After a line that is another than the one that is wanted, it goes on with the next message.
+an option names others. After a line that is another than the one that is wanted, it goes on with the next message. It looks at lines
+alone: bufr encode may still refuse a message of good lines, by E2 if its subsets cannot be compressed, or by E3 if it is too long.
 
 It also warns if section 1 still has what bufr-skeleton puts there: the centre 0, or the time 2000-01-01 00:00:00. With --set-time
 it writes the listing with the time of each message from the fields 004001 to 004006 of its first subset, and says the rest on
 standard error.
 
 The status is 1 if a line is bad."""
+import os
 import re
 import sys
 
@@ -39,10 +41,10 @@ class Message:
 
 
 class Linter:
-    """Judges the lines of listings, one after the other."""
+    """Judges the lines of listings, one after the other. With `sets_time` the time of each message is set by its fields."""
 
-    def __init__(self, tables, say):
-        self.tables, self.say = tables, say
+    def __init__(self, tables, say, sets_time=False):
+        self.tables, self.say, self.sets_time = tables, say, sets_time
         self.bad = 0
         self.message, self.is_stray = None, False
 
@@ -176,9 +178,11 @@ class Linter:
         message, self.message = self.message, None
         if message.words.get("section1", [""])[0] == "0":
             self.say(message.number, "warning: the originating centre is 0: write the centre that makes the message")
-        if message.words.get("time") == "2000 1 1 0 0 0".split(" "):
-            self.say(message.time_line, "warning: the time is 2000-01-01 00:00:00: write that of the data, or call "
-                     "bufr-lint --set-time")
+        if message.words.get("time") != "2000 1 1 0 0 0".split(" ") or self.sets_time and moment_of(message):
+            return
+        said = "warning: the time is 2000-01-01 00:00:00"
+        self.say(message.time_line, f"{said}, and the fields 004001 to 004004 of the first subset have no other: write that of the data"
+                 if self.sets_time else f"{said}: write that of the data, or call bufr-lint --set-time")
 
     def finish(self, number):
         if self.message is not None and not self.message.is_off:
@@ -226,9 +230,10 @@ def main():
         raise Fault(f"{arguments.listing} is no listing")
     listed.is_told = False
     out = listing_out()
-    said = sys.stderr if arguments.set_time else out
+    # each character of a listing is an octet, so those of the name are too
+    said, name = (sys.stderr, arguments.listing) if arguments.set_time else (out, os.fsencode(arguments.listing).decode("latin-1"))
     linter = Linter(bufr_tables.TablesByVersion.chosen(arguments),
-                    lambda number, text: said.write(f"{arguments.listing}:{number}: {text}\n"))
+                    lambda number, text: said.write(f"{name}:{number}: {text}\n"), arguments.set_time)
     timed = Timed(out) if arguments.set_time else None
     number = 0
     for number, line in enumerate(listed, 1):

@@ -32,6 +32,11 @@ def program(name):
     return name
 
 
+def is_word(name):
+    """Whether the programs take a name: it is UTF-8."""
+    return not any("\udc80" <= octet <= "\udcff" for octet in name)
+
+
 class Process:
     """A program that runs beside this one, with pipes at those of its files 0 to 2 that are named, and the files that `given` has for
     others. It inherits the files that this one inherited. It is in RUNNING from its start to its end, whatever signal comes

@@ -355,8 +355,8 @@ def rows(files: Union[PathLike, Iterable[PathLike]], columns: Columns, each: Opt
 
     Parameters
     ----------
-    files : str, path or iterable of them
-        The files, in order: no folder and no pattern.
+    files : str, bytes, path or iterable of them
+        The files, in order, with names in UTF-8: no folder and no pattern.
     columns : sequence of str, or dict of str to str
         What each column has. A descriptor such as ``"012101"``, or the name of its element in Table B, is the first field of the
         subset with that descriptor, and ``"012101#2"`` the second. Other words: ``file``, ``message``, ``place``, ``subset``;
@@ -664,8 +664,8 @@ def read(files: Union[PathLike, Iterable[PathLike]], columns: Columns, each: Opt
 
     Parameters
     ----------
-    files : str, path or iterable of them
-        The files, in order: no folder and no pattern.
+    files : str, bytes, path or iterable of them
+        The files, in order, with names in UTF-8: no folder and no pattern.
     columns : sequence of str, or dict of str to str
         What each column has. A descriptor such as ``"012101"``, or the name of its element in Table B, is the first field of the
         subset with that descriptor, and ``"012101#2"`` the second. Other words: ``file``, ``message``, ``place``, ``subset``;
@@ -742,7 +742,7 @@ def messages(file: PathLike, tables: TablesLike = None, *, strict: bool = False,
 
     Parameters
     ----------
-    file : str or path
+    file : str, bytes or path
         The file.
     tables, strict, refusals
         As of :func:`rows`.
@@ -845,7 +845,7 @@ def check(file: PathLike, tables: TablesLike = None) -> List[Checked]:
 
     Parameters
     ----------
-    file : str or path
+    file : str, bytes or path
         The file.
     tables : int or pair of paths, optional
         As of :func:`rows`.

@@ -428,7 +428,7 @@ def plan_of(names: List[str], columns: Sequence[str], each: Optional[str], paths
     """Return how rows are selected, or nothing if listings have to tell them. Columns are descriptors, with spaces between those of
     which one has the value; `parts` are those whose value depends on whether they are there."""
     path = selector()
-    if path is None or not names or not all(map(is_regular, names)) or any("\udc80" <= each <= "\udcff" for each in "".join(names)):
+    if path is None or not names or not all(map(is_regular, names)):
         return None
     levels = each.split() if each is not None else []
     templates = Templates(names, paths, frozenset(levels))

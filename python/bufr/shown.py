@@ -10,11 +10,11 @@ from contextlib import contextmanager
 from typing import IO, Any, Iterable, Iterator, List, Optional, Sequence, Tuple, Union
 
 from .errors import BufrError, Fault
-from .processes import PIECE, program
+from .processes import PIECE, is_word, program
 from .programs import launcher
 from .versions import HERE, VERSIONS, read_version, table_paths
 
-PathLike = Union[str, "os.PathLike[str]"]
+PathLike = Union[str, bytes, "os.PathLike[str]", "os.PathLike[bytes]"]
 TablesLike = Union[None, int, Sequence[PathLike]]
 LEFT_OUT = re.compile(r"^bufr(?:-by-version)?: (.*): no table here reads version (\d+) of the message at (\d+)$", re.M)
 BY_VERSION = [sys.executable, "-IS", os.path.join(HERE, "__main__.py"), "by-version"]
@@ -29,7 +29,7 @@ def paths_of(tables: TablesLike) -> Optional[List[str]]:
             return table_paths(read_version(str(tables)))
         if not isinstance(tables, (str, bytes, os.PathLike)):
             b_path, d_path = tables
-            return [os.fspath(b_path), os.fspath(d_path)]
+            return [os.fsdecode(b_path), os.fsdecode(d_path)]
     except Fault as fault:
         raise BufrError(str(fault)) from None
     except (TypeError, ValueError):
@@ -133,7 +133,7 @@ def error_of(words: Sequence[str], status: int, said: bytes) -> BufrError:
 
 def files_of(files: Union[PathLike, Iterable[PathLike]]) -> List[str]:
     """Return the names of one file or of several."""
-    if isinstance(files, (str, os.PathLike)):
+    if isinstance(files, (str, bytes, os.PathLike)):
         return [file_of(files)]
     try:
         return [file_of(file) for file in files]
@@ -143,9 +143,11 @@ def files_of(files: Union[PathLike, Iterable[PathLike]]) -> List[str]:
 
 def file_of(file: PathLike) -> str:
     """Return the name of a file."""
-    if not isinstance(file, (str, os.PathLike)):
+    if not isinstance(file, (str, bytes, os.PathLike)):
         raise BufrError(f"a file is named by a path, not by {file!r}")
-    name = os.fspath(file)
+    name = os.fsdecode(file)
+    if not is_word(name):
+        raise BufrError(f"the name of a file has to be UTF-8: {os.fsencode(name)!r}")
     if os.path.isdir(name):
         raise BufrError(f"{name} is a folder: name its files, as glob.glob(\"{os.path.join(name, '*.bufr')}\") does")
     if "*" in name and not os.path.exists(name):

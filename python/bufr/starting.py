@@ -2,7 +2,7 @@
 import os
 import stat
 
-from .processes import Process, program
+from .processes import Process, is_word, program
 
 TYPE_CHECKING = False
 if TYPE_CHECKING:
@@ -72,6 +72,6 @@ def octets_of(names: "List[str]") -> int:
 
 def start_early(words: "List[str]", most: int) -> "List[Process]":
     """Start `bufr-ls` on the words of a call, if they are the names of files of more than so many octets, and no options."""
-    if any(word.startswith("-") for word in words) or octets_of(words) <= most:
+    if any(word.startswith("-") or not is_word(word) for word in words) or octets_of(words) <= most:
         return []
     return start_all(words)

@@ -3,7 +3,7 @@ edition, version of the tables and descriptors; reports with and without a key, 
 It also tells the octets between messages, and of a file without a message what it is: packed, or text.
 
 More than 4,000,000 octets have their data read by --data alone. Without it a message is refused for its sections and its descriptors,
-and reports and stations are not counted.
+reports and stations are not counted, and a message that is cut or broken is not found in a file that has others.
 
 The status is 1 if a message was refused, if one is cut or broken, or if a file has octets and no message."""
 import os

@@ -152,9 +152,9 @@ def add(out: PathLike, files: Union[PathLike, Iterable[PathLike]], tables: Table
 
     Parameters
     ----------
-    out : str or path
+    out : str, bytes or path
         The archive. ``{}`` in it stands for the version of the tables: then there is an archive for each.
-    files : str, path or iterable of them
+    files : str, bytes, path or iterable of them
         The files.
     tables : int or pair of paths, optional
         As of :func:`bufr.rows`.
@@ -171,7 +171,7 @@ def add(out: PathLike, files: Union[PathLike, Iterable[PathLike]], tables: Table
     BufrError
         With the line of the program.
     """
-    found = _archive("add", os.fspath(out), files_of(files), tables, progress)
+    found = _archive("add", os.fsdecode(out), files_of(files), tables, progress)
     return [Added(path, version, counts["frames"], counts["refused"], counts["reports"]) for path, version, counts in found]
 
 
@@ -187,13 +187,15 @@ def merge(out: PathLike, files: Union[PathLike, Iterable[PathLike]], tables: Tab
     list of Merged
         Of each archive its path and counts.
     """
-    found = _archive("merge", os.fspath(out), files_of(files), tables, progress)
+    found = _archive("merge", os.fsdecode(out), files_of(files), tables, progress)
     return [Merged(path, version, counts["archives"], counts["reports"]) for path, version, counts in found]
 
 
 def _archive(command: str, out: str, files: List[str], tables: TablesLike,
              progress: Optional[Progress]) -> List[Tuple[str, Optional[int], Dict[str, int]]]:
     paths = paths_of(tables)
+    if not files:
+        raise BufrError(f"there is no file to {command}")
     running = Running([*words_of(command, paths), "-o", out, "--", *files])
     try:
         if progress is not None:

@@ -304,6 +304,37 @@ def test_archives(folder):
     assert one == [bufr.writing.Added(f"{folder}/one", None, 1, 1, 0)]
 
 
+@pytest.mark.parametrize("files", [[], (), iter(())])
+def test_an_archive_of_no_file_is_refused(folder, files):
+    with pytest.raises(bufr.BufrError, match="^there is no file to merge$"):
+        bufr.merge(f"{folder}/out", files)
+    with pytest.raises(bufr.BufrError, match="^there is no file to add$"):
+        bufr.add(f"{folder}/out", files)
+    assert os.listdir(folder) == []
+
+
+def test_paths_of_octets(folder):
+    """A path may be bytes, as os.listdir(b"..") gives it. The programs take names in UTF-8 alone."""
+    name = "pl\xe4in.bufr"
+    path = write(f"{folder}/{name}", read(f"{TOP}/examples/bulletin.bufr"))
+    octets = os.fsencode(path)
+    assert list(bufr.rows(octets, ["file", "place"])) == list(bufr.rows([octets], ["file", "place"])) == [(path, 18), (path, 84)]
+    assert bufr.read(octets, ["012101"])["012101"].tolist() == [273.15] * 2
+    assert len(bufr.check(octets)) == len(list(bufr.messages(octets))) == 2
+    tables = [each.encode() for each in named(46)[1::2]]
+    assert bufr.check(octets, tables=tables) == bufr.check(path)
+    out = os.fsencode(f"{folder}/out_{{}}")
+    assert bufr.add(out, octets) == [bufr.writing.Added(f"{folder}/out_46", 46, 2, 0, 1)]
+    assert bufr.merge(out, [f"{folder}/out_46".encode()] * 2) == [bufr.writing.Merged(f"{folder}/out_46", 46, 2, 1)]
+    latin = os.path.join(os.fsencode(folder), b"pl\xe4in.bufr")
+    with open(latin, "wb") as file:
+        file.write(message(46))
+    for each in (latin, os.fsdecode(latin), [path, latin]):
+        for call in (lambda: bufr.rows(each, ["place"]), lambda: bufr.read(each, ["place"]), lambda: bufr.add(f"{folder}/out", each)):
+            with pytest.raises(bufr.BufrError, match="^the name of a file has to be UTF-8: " + re.escape(repr(latin)) + "$"):
+                call()
+
+
 def test_progress_of_an_archive_comes_while_it_is_read(folder):
     path = write(f"{folder}/stream", read(f"{TOP}/examples/sequences.bufr") * 100000)
     slow = write(f"{folder}/slow", f"#!/bin/sh\nexec 3<'{path}'\nhead -c 1000000 <&3 >/dev/null\n"

@@ -400,6 +400,35 @@ def test_names_like_lines_of_listings(folder):
     assert found["reports"]["without_key"] == 28
 
 
+def test_names_that_are_not_utf_8(folder):
+    """Programs refuse them; each command gives them another one. The name is printed with its own octets."""
+    path = os.fsdecode(os.fsencode(folder) + b"/pl\xe4in")
+    with open(path, "wb") as file:
+        file.write(message(46) * 3 + message(46, edition=5))
+    plain = write(f"{folder}/file", message(46))
+    found, status = said(plain, path)
+    assert status == 1 and [(each["file"], each["messages"], each["refused"]) for each in found["files"]] == [(plain, 1, 0), (path, 4, 1)]
+    status, out, error = command("summary", path, plain)
+    assert (status, error) == (1, "") and f"         4         3         1  {folder}/pl\xe4in\n" in out
+    # also of so many octets that bufr-ls starts early
+    with open(path, "wb") as file:
+        file.write(message(46) * 100000)
+    status, out, error = command("summary", path)
+    assert (status, error) == (0, "") and "\nmessages 100,000, refused 0, subsets 100,000\n" in out
+
+
+@pytest.mark.parametrize("name", ["annotate", "to-json", "geojson"])
+def test_one_file_whose_name_is_not_utf_8(folder, name):
+    path = os.fsdecode(os.fsencode(folder) + b"/pl\xe4in")
+    octets = read(f"{TOP}/examples/bulletin.bufr") + message(46, edition=5)
+    with open(path, "wb") as file:
+        file.write(octets)
+    status, out, error = command(name, path)
+    assert (status, error) == (1, f"bufr-{name}: {folder}/pl\\udce4in: refused 146 M2 Edition 5\n")
+    plain = write(f"{folder}/file", octets)
+    assert out.replace(json.dumps(path)[1:-1], plain) == command(name, plain)[1]
+
+
 def test_tables_that_are_named(folder):
     path = write(f"{folder}/file", message(60) + message(13, edition=5))
     assert said(path)[0]["refused"] == 2

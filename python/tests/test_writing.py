@@ -146,9 +146,24 @@ def test_what_a_skeleton_leaves_is_warned_of(folder):
         "-:3: warning: the time is 2000-01-01 00:00:00: write that of the data, or call bufr-lint --set-time\n"
     status, out, error = command("lint", "--set-time", given=("# first\n" + listing + GOOD).encode())
     wanted = listing.replace("time 2000 1 1 0 0 0", "time 2024 1 15 12 30 0") + GOOD.replace(" 12 0 0", " 12 30 0")
-    assert (status, out) == (0, "# first\n" + wanted) and error.count("warning") == 2
+    assert (status, out) == (0, "# first\n" + wanted)
+    assert error == "-:2: warning: the originating centre is 0: write the centre that makes the message\n"
+    # of these fields no time can be made
     status, out, error = command("lint", "--set-time", given=listing.replace("004004 12", "004004 missing").encode())
     assert (status, out) == (0, listing.replace("004004 12", "004004 missing"))
+    assert error.endswith("\n-:3: warning: the time is 2000-01-01 00:00:00, and the fields 004001 to 004004 of the first subset have no other: "
+                          "write that of the data\n")
+
+
+@pytest.mark.parametrize("name", ["pl\xe4in", "\u017eluna", "pl\udce4in"])
+def test_lint_prints_the_octets_of_a_name(folder, name):
+    """In UTF-8, or whatever they are."""
+    path = write(f"{folder}/{name}", GOOD.replace("section1 98", "section1 0").replace("time 2024 1 15 12", "time 2000 1 1 0"))
+    shown = os.fsencode(path).decode("latin-1")
+    assert command("lint", path) == (0, f"{shown}:1: warning: the originating centre is 0: write the centre that makes the message\n"
+                                        f"{shown}:3: warning: the time is 2000-01-01 00:00:00: write that of the data, or call "
+                                        "bufr-lint --set-time\n", "")
+    assert command("lint", "--set-time", path)[:2] == (0, GOOD.replace("section1 98", "section1 0").replace(" 12 0 0", " 12 30 0"))
 
 
 def test_lint_takes_the_tables_of_the_version(folder):

@@ -84,7 +84,11 @@ pub(crate) fn time_numbers(head: &Head) -> [u16; 6]
 }
 
 /// Adds a line of at most eight numbers. Fills a row from its end, and adds it at once.
-fn push_numbers(text: &mut Vec<u8>, title: &[u8], numbers: &[u16]) -> Result<(), OutOfMemory>
+pub(crate) fn push_numbers(
+    text: &mut Vec<u8>,
+    title: &[u8],
+    numbers: &[u16],
+) -> Result<(), OutOfMemory>
     requires { length numbers.now ≤ 8 }
     ensures { OnOk result (text.new.items
         ≡ text.old.items ++ line (numbers_line title.now numbers.now)) }
@@ -132,7 +136,11 @@ fn push_word(text: &mut Vec<u8>, title: &[u8], word: &[u8]) -> Result<(), OutOfM
     text.extend_from_slice(b"\n")
 }
 
-fn push_flags(text: &mut Vec<u8>, observed: bool, compressed: bool) -> Result<(), OutOfMemory>
+pub(crate) fn push_flags(
+    text: &mut Vec<u8>,
+    observed: bool,
+    compressed: bool,
+) -> Result<(), OutOfMemory>
     ensures { OnOk result (text.new.items
         ≡ text.old.items ++ line (flags_line observed compressed)) }
 {
@@ -145,7 +153,7 @@ fn push_flags(text: &mut Vec<u8>, observed: bool, compressed: bool) -> Result<()
     text.extend_from_slice(words.as_bytes())
 }
 
-fn push_descriptors(text: &mut Vec<u8>, descriptors: &[Fxy]) -> Result<(), OutOfMemory>
+pub(crate) fn push_descriptors(text: &mut Vec<u8>, descriptors: &[Fxy]) -> Result<(), OutOfMemory>
     ensures { OnOk result (text.new.items
         ≡ text.old.items ++ line (descriptors_line descriptors.now)) }
 {

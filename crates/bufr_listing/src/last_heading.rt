@@ -7,10 +7,10 @@ ghost use Rattle.bufr_listing.specs.Listings.{heading_lines, joined};
 ghost use Rattle.bufr_listing.specs.Listings.{section1_numbers, time_numbers};
 ghost use Rattle.bufr_listing.specs.KeptHeadings.{bare_heading_lines};
 
-use crate::heading::{push_heading, section1_numbers, time_numbers};
+use crate::heading::{push_heading, push_numbers, section1_numbers, time_numbers};
+use crate::last_lines::{LinesAfterTime, LinesBeforeTime, are_same};
 use bufr_base::OutOfMemory;
 use bufr_sections::LentSections;
-use bufr_tables::Fxy;
 use std::alloc::Global;
 use std::marker::Model;
 
@@ -18,26 +18,23 @@ use std::marker::Model;
 #[derive(Drop)]
 pub struct LastHeading {
     text: Vec<u8>,
-    section1: [u16; 8],
+    before: LinesBeforeTime,
     time: [u16; 6],
-    observed: bool,
-    compressed: bool,
-    descriptors: Vec<Fxy>,
-    /// Whether a message with these numbers, flags and descriptors has this text.
+    after: LinesAfterTime,
+    /// Whether the text has these lines and this time.
     is_kept: bool,
 }
 
 impl Model for LastHeading {
-    ghost use Rattle.std.specs.Prelude.{◌≡◌, ℕ, List, true};
-    ghost use Rattle.bufr_listing.specs.KeptHeadings.{bare_heading_lines};
-    ghost use Rattle.bufr_listing.specs.Listings.{joined};
+    ghost use Rattle.std.specs.Prelude.{◌≡◌, ◌++◌, ℕ, List, true, codes};
+    ghost use Rattle.bufr_listing.specs.Listings.{line, numbers_line};
 
     ghost Value = { List ℕ };
 
     ghost view = { λ h. h.text.items };
 
-    ghost invariant = { λ h. h.is_kept ≡ true → h.text.items ≡ joined (bare_heading_lines
-        h.section1 h.time h.observed h.compressed h.descriptors.items) };
+    ghost invariant = { λ h. h.is_kept ≡ true
+        → h.text.items ≡ h.before ++ line (numbers_line (codes "time") h.time) ++ h.after };
 }
 
 impl LastHeading {
@@ -47,11 +44,9 @@ impl LastHeading {
     {
         LastHeading {
             text: Vec::new(alloc),
-            section1: [0; 8],
+            before: LinesBeforeTime::new(alloc),
             time: [0; 6],
-            observed: false,
-            compressed: false,
-            descriptors: Vec::new(alloc),
+            after: LinesAfterTime::new(alloc),
             is_kept: false,
         }
     }
@@ -63,8 +58,8 @@ impl LastHeading {
         &self.text
     }
 
-    /// Makes the lines those of a message with these sections, whatever its subsets. Writes nothing
-    /// if the last message had the same. If memory runs out, holds a part of the lines.
+    /// Makes the lines those of a message with these sections, whatever its subsets. Writes only
+    /// what differs from the last message. If memory runs out, holds a part of the lines.
     pub fn set(&mut self, alloc: Global, sections: &LentSections<'_>) -> Result<(), OutOfMemory>
         ensures { (subsets : List Subset) → OnOk result (self.new
             ≡ joined (heading_lines (message_lent sections.now subsets))) }
@@ -76,16 +71,15 @@ impl LastHeading {
         }
         self.is_kept = false;
         self.text.clear();
-        push_heading(alloc, &mut self.text, sections)?;
         if !is_bare(sections) {
-            return Ok(());
+            return push_heading(alloc, &mut self.text, sections);
         }
-        self.descriptors.clear();
-        self.descriptors.extend_from_slice(sections.descriptors)?;
-        self.section1 = section1;
+        self.before.set(&section1)?;
+        self.after.set(sections)?;
+        self.text.extend_from_slice(self.before.as_slice())?;
+        push_numbers(&mut self.text, b"time", &time)?;
+        self.text.extend_from_slice(self.after.as_slice())?;
         self.time = time;
-        self.observed = sections.observed;
-        self.compressed = sections.compressed;
         self.is_kept = true;
         Ok(())
     }
@@ -100,26 +94,11 @@ impl LastHeading {
         if !self.is_kept || !is_bare(sections) {
             return false;
         }
-        if self.observed != sections.observed || self.compressed != sections.compressed {
+        if !are_same(&self.time, time) || !self.before.are_of(section1) {
             return false;
         }
-        if !are_same(&self.section1, section1) || !are_same(&self.time, time) {
-            return false;
-        }
-        are_same_descriptors(&self.descriptors, sections.descriptors)
+        self.after.are_of(sections)
     }
-}
-
-fn are_same_descriptors(descriptors: &[Fxy], others: &[Fxy]) -> bool
-    ensures { result ≡ true → descriptors.now ≡ others.now }
-{
-    descriptors == others
-}
-
-fn are_same(numbers: &[u16], others: &[u16]) -> bool
-    ensures { result ≡ true → numbers.now ≡ others.now }
-{
-    numbers == others
 }
 
 /// Whether there are no octets for local use.

@@ -8,6 +8,7 @@ mod fault;
 mod fields;
 mod heading;
 mod last_heading;
+mod last_lines;
 pub mod laws;
 mod text;
 mod worked_values;

@@ -331,3 +331,17 @@ ends_unwritten columns reads olds news begin mid now p tally (faults.WriteFailed
           (fails_more begin mid now text [] w.0 lists.2.written w.2)),
     )
 ends_unwritten columns reads olds news begin mid now p tally e lists w = absurd w
+
+-- the writer took all lines, and the rest of none
+pub ends_written : (columns : List Column) (reads : ℕ) (olds news : List Reading)
+    (begin mid now : Writing) (p : Lister) (tally : Tally)
+    → ListsInputs columns reads olds news begin mid p (Ok tally) → WritesAll mid now []
+    → Lists columns reads olds news begin now (Ok tally)
+ends_written columns reads olds news begin mid now p tally lists w =
+    let text = listed_heads columns lists.0 in (
+      lists.0,
+      lists.1,
+      subst (WritesAll begin now) (append-nil text)
+          (writes_more begin mid now text [] lists.2.written w),
+      lists.3,
+    )

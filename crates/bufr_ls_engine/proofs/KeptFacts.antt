@@ -12,7 +12,7 @@ use Rattle.bufr_sections.specs.declared.fault.Refused.TheVariants.{Section4Lengt
 use Rattle.bufr_sections.specs.declared.layout.Layout.{Layout}
 use Rattle.bufr_sections.specs.declared.layout.Layout.TheVariants.{Edition4}
 use Rattle.bufr_sections.specs.declared.message.Head.{Head}
-use Rattle.bufr_sections.specs.Sections.{Envelope, contents_of, description_of, descriptors_of}
+use Rattle.bufr_sections.specs.Sections.{Envelope, contents_of, description_of}
 use Rattle.bufr_sections.specs.Sections.{envelope_of, head4_of, room_in, room_of, section2_at}
 use Rattle.bufr_sections.specs.Sections.{section_at, sections_of, three}
 use Rattle.bufr_sections.specs.SectionsRead.{head4_with}

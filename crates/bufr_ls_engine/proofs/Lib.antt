@@ -11,3 +11,4 @@ mod NumberFacts
 mod LineFacts
 mod KeptFacts
 mod FieldTexts
+mod SameHeads

@@ -1,10 +1,10 @@
 -- The fields of the row of a message (private contracts).
-use Rattle.std.specs.Prelude.{◌≡◌, ℕ, Bool, decimal, drop, get_or, List, [], ◌∷◌, ◌++◌}
+use Rattle.std.specs.Prelude.{◌≡◌, ℕ, ◌-◌, Bool, codes, decimal, drop, get_or, length, List, Ok, take, [], ◌∷◌, ◌++◌}
 use Rattle.std.specs.Int.{from_bool}
 use Rattle.std.specs.List.{join_by}
 use Rattle.bufr_tables.specs.Descriptors.{six_digits}
 use Rattle.bufr_sections.specs.declared.message.Head.{Head}
-use Rattle.bufr_sections.specs.Sections.{Envelope, descriptors_of}
+use Rattle.bufr_sections.specs.Sections.{AreOctets, Envelope, descriptors_of, envelope_of}
 use Rattle.bufr_sections.specs.SectionsRead.{head4_with}
 use Rattle.bufr_ls_engine.specs.Columns.{all_columns}
 use Rattle.bufr_ls_engine.specs.Rows.{edition_of}
@@ -12,6 +12,7 @@ use Rattle.bufr_ls_engine.specs.declared.column.Column.{Column}
 use Rattle.bufr_ls_engine.specs.declared.column.Column.TheVariants.{MasterVersion}
 use Rattle.bufr_ls_engine.specs.declared.column_list.Shape.{Shape}
 use Rattle.bufr_ls_engine.specs.declared.column_list.Shape.TheVariants as shapes
+use Rattle.bufr_ls_engine.specs.declared.last_head.LastHead.{LastHead}
 use Rattle.bufr_ls_engine.specs.declared.numbers.Number.{Number}
 use Rattle.bufr_ls_engine.specs.declared.numbers.Number.TheVariants as numbers
 
@@ -55,6 +56,17 @@ abbrev pub AreFieldsOf : List ℕ → ℕ → Bool → Bool → List ℕ → Lis
 AreFieldsOf head count observed compressed listed text = (get_or head 0 0 ≡ 4)
     × (text ≡ fields_from 4 (head4_with (drop 4 head) []) count observed compressed
     (descriptors_of listed))
+
+-- octets have this head and the end of a message
+abbrev pub HasHead : LastHead → List ℕ → Type 0
+HasHead h octets = (length octets ≡ h.total) × (take 32 octets ≡ h.first)
+    × (take 32 (drop h.at octets) ≡ h.last) × (drop (length octets - 4) octets ≡ codes "7777")
+
+-- messages with this head have this version of the master tables, and these fields
+abbrev pub SaysAgain : LastHead → ℕ → List ℕ → Type 0
+SaysAgain h version fields = (octets : List ℕ) → AreOctets octets → HasHead h octets
+    → (e : Envelope) × (envelope_of octets ≡ Ok e) × (e.head.master_version ≡ version)
+    × (fields ≡ fields_after_length octets e)
 
 -- columns of a shape
 abbrev pub HasShape : Shape → List Column → Type 0

@@ -1,13 +1,14 @@
 //! The end of the last row, kept for a message with the same sections 1 and 3.
 
-ghost use Rattle.std.specs.Prelude.{◌≡◌, [], true, Ok, OnOk};
-ghost use Rattle.bufr_sections.specs.Sections.{envelope_of};
+ghost use Rattle.std.specs.Prelude.{◌≡◌, [], true, Ok, IfOk, OnOk};
+ghost use Rattle.bufr_sections.specs.Sections.{Envelope, envelope_of};
 ghost use Rattle.bufr_ls_engine.specs.RowSteps.{fields_after_length};
 
+use crate::last_head::LastHead;
 use crate::row::edition_of;
 use crate::whole_row::push_fields;
 use bufr_base::OutOfMemory;
-use bufr_sections::SectionsInPlace;
+use bufr_sections::{SectionsInPlace, find_sections};
 use std::alloc::Global;
 use std::marker::Model;
 
@@ -27,20 +28,23 @@ pub(crate) struct LastFields {
     observed: bool,
     compressed: bool,
     listed: Vec<u8>,
+    /// The head of the last message.
+    whole: LastHead,
     /// Whether a message of edition 4 with these octets has this text.
     is_kept: bool,
 }
 
 impl Model for LastFields {
     ghost use Rattle.std.specs.Prelude.{◌≡◌, ℕ, List, true};
-    ghost use Rattle.bufr_ls_engine.specs.RowSteps.{AreFieldsOf};
+    ghost use Rattle.bufr_ls_engine.specs.RowSteps.{AreFieldsOf, SaysAgain};
 
     ghost Value = { List ℕ };
 
     ghost view = { λ l. l.text.items };
 
-    ghost invariant = { λ l. l.is_kept ≡ true
-        → AreFieldsOf l.head l.count l.observed l.compressed l.listed.items l.text.items };
+    ghost invariant = { λ l. (l.is_kept ≡ true
+        → AreFieldsOf l.head l.count l.observed l.compressed l.listed.items l.text.items)
+        × (version : ℕ) × SaysAgain l.whole version l.text.items };
 }
 
 impl LastFields {
@@ -55,6 +59,7 @@ impl LastFields {
             observed: false,
             compressed: false,
             listed: Vec::new(alloc),
+            whole: LastHead::none(),
             is_kept: false,
         }
     }
@@ -66,17 +71,39 @@ impl LastFields {
         &self.text
     }
 
+    /// Makes the text the fields of a frame. Returns false if the frame has a refusal.
+    #[inline(always)]
+    pub(crate) fn set(&mut self, octets: &[u8]) -> Result<bool, OutOfMemory>
+        ensures { IfOk result (λ set. set ≡ true → (e : Envelope)
+            × (envelope_of octets.now ≡ Ok e) × (self.new ≡ fields_after_length octets.now e)) }
+    {
+        if self.whole.is_of(octets) {
+            return Ok(true);
+        }
+        self.set_next(octets)
+    }
+
+    /// Does what `set` does, for a frame with another head.
+    #[inline(never)]
+    fn set_next(&mut self, octets: &[u8]) -> Result<bool, OutOfMemory>
+        ensures { IfOk result (λ set. set ≡ true → (e : Envelope)
+            × (envelope_of octets.now ≡ Ok e) × (self.new ≡ fields_after_length octets.now e)) }
+    {
+        let Ok(said) = find_sections(octets) else {
+            return Ok(false);
+        };
+        self.set_to(octets, &said)?;
+        Ok(true)
+    }
+
     /// Makes the text the fields of a message. Writes nothing if the last message had the same.
     #[inline(always)]
-    pub(crate) fn set(
-        &mut self,
-        octets: &[u8],
-        said: &SectionsInPlace<'_>,
-    ) -> Result<(), OutOfMemory>
+    fn set_to(&mut self, octets: &[u8], said: &SectionsInPlace<'_>) -> Result<(), OutOfMemory>
         requires { envelope_of octets.now ≡ Ok said.now }
         ensures { OnOk result (self.new ≡ fields_after_length octets.now said.now) }
     {
         if self.is_of(octets, said) {
+            self.whole.keep(octets, said);
             return Ok(());
         }
         self.write(octets, said)
@@ -111,8 +138,10 @@ impl LastFields {
         ensures { OnOk result (self.new ≡ fields_after_length octets.now said.now) }
     {
         self.is_kept = false;
+        self.whole.forget();
         self.text.clear();
         push_fields(&mut self.text, octets, said)?;
+        self.whole.keep(octets, said);
         if edition_of(octets) != 4 || octets.len() < HEAD_END {
             return Ok(());
         }

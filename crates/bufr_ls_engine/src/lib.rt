@@ -8,6 +8,8 @@ mod command;
 mod command_line;
 mod frames;
 mod last_fields;
+mod last_head;
+mod last_version;
 pub mod laws;
 mod lister;
 mod ls;

@@ -8,8 +8,9 @@ ghost use Rattle.bufr_ls_engine.specs.Listers.{HoldsRow, IsUnchanged, Keeps, Sto
 use crate::column::Column;
 use crate::column_list::ColumnList;
 use crate::last_fields::LastFields;
+use crate::last_version::LastVersion;
 use crate::numbers::push_octet_line;
-use crate::row::{Numbered, hold_row, push_header, version_of};
+use crate::row::{Numbered, hold_row, push_header};
 use bufr_base::OutOfMemory;
 use bufr_bits::Sink;
 use bufr_io::{HeldRows, ToolFault, write_out};
@@ -29,6 +30,8 @@ pub(crate) struct Lister<'c> {
     pub(crate) rows: HeldRows,
     /// The fields of the last row, if the rows have all columns.
     pub(crate) last: LastFields,
+    /// The version of the last message, if the rows have it alone.
+    pub(crate) version: LastVersion,
 }
 
 impl<'c> Lister<'c> {
@@ -44,6 +47,7 @@ impl<'c> Lister<'c> {
             refused: 0,
             rows: HeldRows::new(alloc),
             last: LastFields::new(alloc),
+            version: LastVersion::new(),
         }
     }
 
@@ -87,7 +91,7 @@ impl<'c> Lister<'c> {
         ensures err { OnErr result (IsUnchanged self.old self.new) }
     {
         if self.columns.is_master_version() {
-            if let Some(version) = version_of(octets) {
+            if let Some(version) = self.version.version_of(octets) {
                 push_octet_line(&mut self.rows.held, version)?;
                 self.frames += 1;
                 return Ok(());

@@ -39,23 +39,6 @@ pub(crate) struct Numbered<'a> {
     pub(crate) octets: &'a [u8],
 }
 
-/// Returns the version of the master tables of a frame, if the frame has no refusal.
-// The launcher asks for this column.
-#[inline(always)]
-#[tactic(auto, unfolding(crate::specs::Rows::field_as, crate::specs::Rows::said_in))]
-pub(crate) fn version_of(octets: &[u8]) -> Option<u8>
-    ensures row { IfSome result (λ version. (input message place : ℕ)
-        → row (MasterVersion ∷ []) input message (frame_at place octets.now)
-        ≡ decimal version ++ 10 ∷ []) }
-    ensures read { IfSome result (λ version. (place : ℕ)
-        → frame_refused (frame_at place octets.now) ≡ 0) }
-{
-    match find_sections(octets) {
-        Ok(said) => Some(said.master_version()),
-        Err(_) => None,
-    }
-}
-
 /// Adds the row of a frame, and returns whether it has a refusal. If memory runs out, the text stays.
 #[inline(always)]
 pub(crate) fn hold_row(
@@ -82,8 +65,8 @@ pub(crate) fn hold_row(
     }
     if columns.is_all() {
         if let Some(counts) = Counts::new(frame) {
-            if let Ok(said) = find_sections(frame.octets) {
-                hold_all(text, last, &counts, &said)?;
+            if last.set(frame.octets)? {
+                hold_all(text, &counts, last.as_slice())?;
                 return Ok(false);
             }
         }

@@ -3,12 +3,12 @@
 ghost use Rattle.std.specs.Prelude.{◌≡◌, ◌++◌, ◌∷◌, ◌≤◌, ◌+◌, true, [], length, take, drop, decimal, Ok};
 ghost use Rattle.std.specs.Prelude.{IfSome, OnOk, OnErr};
 ghost use Rattle.std.specs.Int.{from_bool};
-ghost use Rattle.bufr_sections.specs.Sections.{envelope_of};
+ghost use Rattle.bufr_sections.specs.Sections.{Envelope, envelope_of};
 ghost use Rattle.bufr_io.specs.Taking.{frame_at};
 ghost use Rattle.bufr_ls_engine.specs.Places.{place_of};
 ghost use Rattle.bufr_ls_engine.specs.Columns.{all_columns};
 ghost use Rattle.bufr_ls_engine.specs.RowSteps.{fields_after_length, numbers_from, texts_before};
-ghost use Rattle.bufr_ls_engine.specs.Rows.{edition_of, row_as};
+ghost use Rattle.bufr_ls_engine.specs.Rows.{edition_of, row};
 ghost use Rattle.bufr_ls_engine.specs.declared.column.Column.TheVariants.{Input, Message, Place, Length};
 ghost use Rattle.bufr_ls_engine.specs.declared.column.Column.TheVariants.{Edition, Centre, SubCentre};
 ghost use Rattle.bufr_ls_engine.specs.declared.column.Column.TheVariants.{Update, Category, International};
@@ -19,7 +19,6 @@ ghost use Rattle.bufr_ls_engine.specs.declared.column.Column.TheVariants.{Second
 ghost use Rattle.bufr_ls_engine.specs.declared.column.Column.TheVariants.{Compressed, Descriptors, Reason};
 
 use crate::column::Column;
-use crate::last_fields::LastFields;
 use crate::placed::{put_count, put_number, put_octet};
 use crate::row::{Numbered, edition_of, push_listed};
 use bufr_base::OutOfMemory;
@@ -177,22 +176,20 @@ impl<'a> Counts<'a> {
     }
 }
 
-/// Adds the row of a frame with these sections. If memory runs out, the text stays.
+/// Adds the row of a frame with these fields after the length. If memory runs out, the text stays.
 #[inline(always)]
 pub(crate) fn hold_all(
     text: &mut Vec<u8>,
-    last: &mut LastFields,
     frame: &Counts<'_>,
-    said: &SectionsInPlace<'_>,
+    fields: &[u8],
 ) -> Result<(), OutOfMemory>
-    requires { envelope_of frame.now.octets.now ≡ Ok said.now }
-    ensures ok { OnOk result (text.new.items ≡ text.old.items
-        ++ row_as all_columns frame.now.input frame.now.message
-        (frame_at frame.now.place frame.now.octets.now) (Ok said.now)) }
+    ensures ok { OnOk result ((e : Envelope) → envelope_of frame.now.octets.now ≡ Ok e
+        → fields.now ≡ fields_after_length frame.now.octets.now e
+        → text.new.items ≡ text.old.items ++ row all_columns frame.now.input frame.now.message
+        (frame_at frame.now.place frame.now.octets.now)) }
     ensures err { OnErr result (text.new.items ≡ text.old.items) }
 {
-    last.set(frame.octets, said)?;
-    hold_with(text, frame, last.as_slice())
+    hold_with(text, frame, fields)
 }
 
 /// Adds the fields of where a frame is, and then these. If memory runs out, the text stays.

@@ -106,6 +106,157 @@ fn rows_in_any_pieces(rt: HostRuntime) {
     }
 }
 
+/// The fields of `EDITION_4` after the length.
+const FIELDS: &str = "4,258,772,5,6,7,8,0,9,10,2828,13,14,15,16,17,5398,1,0,023024 025026,\n";
+
+fn of_parts(rt: &impl Abort, alloc: Global, parts: &[&[u8]]) -> Vec<u8> {
+    let mut all = Vec::new(alloc);
+    for part in parts {
+        all.extend_from_slice(part).expect(rt, "memory");
+    }
+    all
+}
+
+/// Lists `EDITION_4`, another message and it again in the first input, the other in the second, it in
+/// the third. Stops the test unless these lines come, and this many messages are refused.
+fn assert_between(
+    rt: &impl Abort,
+    alloc: Global,
+    columns: &[Column],
+    other: &[u8],
+    refused: u128,
+    lines: &[&str],
+) {
+    let stream = of_parts(rt, alloc, &[EDITION_4, other, EDITION_4]);
+    let run = Run::new(columns, &stream, other, EDITION_4);
+    assert_run(rt, alloc, run, Ok((5, refused)), &joined(rt, alloc, lines));
+}
+
+/// Returns `EDITION_4` with another octet at an index.
+fn changed(rt: &impl Abort, alloc: Global, place: usize, octet: u8) -> Vec<u8> {
+    let front = EDITION_4.get(..place).expect(rt, "a front");
+    let rest = EDITION_4.get(place..).expect(rt, "a rest");
+    let (_, after) = rest.split_first().expect(rt, "an octet");
+    of_parts(rt, alloc, &[front, &[octet], after])
+}
+
+/// A message, one that differs in an octet, and the first one again: each row has its own fields.
+#[test]
+fn heads_that_change_and_come_back(rt: HostRuntime) {
+    let alloc = rt.alloc();
+    let changes = [
+        (12, 2, 0),
+        (16, 21, 0),
+        (29, 18, 0),
+        (30, 19, 0),
+        (36, 30, 0),
+        (41, 22, 0),
+        (43, 0, 0),
+        (43, 192, 0),
+        (47, 27, 0),
+        (50, 6, 2),
+        (54, 30, 0),
+    ];
+    let others = [
+        "4,514,772,5,6,7,8,0,9,10,2828,13,14,15,16,17,5398,1,0,023024 025026,\n",
+        "4,258,772,21,6,7,8,0,9,10,2828,13,14,15,16,17,5398,1,0,023024 025026,\n",
+        "4,258,772,5,6,7,8,0,9,10,2828,13,14,15,16,18,5398,1,0,023024 025026,\n",
+        FIELDS,
+        FIELDS,
+        "4,258,772,5,6,7,8,0,9,10,2828,13,14,15,16,17,5654,1,0,023024 025026,\n",
+        "4,258,772,5,6,7,8,0,9,10,2828,13,14,15,16,17,5398,0,0,023024 025026,\n",
+        "4,258,772,5,6,7,8,0,9,10,2828,13,14,15,16,17,5398,1,1,023024 025026,\n",
+        "4,258,772,5,6,7,8,0,9,10,2828,13,14,15,16,17,5398,1,0,023024 025027,\n",
+        "4,,,,,,,,,,,,,,,,,,,,M9 Section4Length\n",
+        FIELDS,
+    ];
+    for ((place, octet, refused), other) in changes.into_iter().zip(others) {
+        let message = changed(&rt, alloc, place, octet);
+        let lines = [
+            HEADER,
+            "1,1,0,59,",
+            FIELDS,
+            "1,2,59,59,",
+            other,
+            "1,3,118,59,",
+            FIELDS,
+            "2,1,0,59,",
+            other,
+            "3,1,0,59,",
+            FIELDS,
+        ];
+        assert_between(&rt, alloc, Column::all(), &message, refused, &lines);
+    }
+}
+
+/// A longer message with the same sections 1 to 3.
+#[test]
+fn lengths_that_change_and_come_back(rt: HostRuntime) {
+    let alloc = rt.alloc();
+    let parts = [
+        &EDITION_4[..6],
+        &[60],
+        &EDITION_4[7..50],
+        &[8],
+        &EDITION_4[51..55],
+        b"\x1e7777",
+    ];
+    let longer = of_parts(&rt, alloc, &parts);
+    let lines = [
+        HEADER,
+        "1,1,0,59,",
+        FIELDS,
+        "1,2,59,60,",
+        FIELDS,
+        "1,3,119,59,",
+        FIELDS,
+        "2,1,0,60,",
+        FIELDS,
+        "3,1,0,59,",
+        FIELDS,
+    ];
+    assert_between(&rt, alloc, Column::all(), &longer, 0, &lines);
+}
+
+/// A message of edition 3 between two of edition 4.
+#[test]
+fn editions_that_change_and_come_back(rt: HostRuntime) {
+    let fields = "3,2,1,3,4,255,5,0,6,7,1970,9,10,11,12,0,1,0,1,301001,\n";
+    let lines = [
+        HEADER,
+        "1,1,0,59,",
+        FIELDS,
+        "1,2,59,44,",
+        fields,
+        "1,3,103,59,",
+        FIELDS,
+        "2,1,0,44,",
+        fields,
+        "3,1,0,59,",
+        FIELDS,
+    ];
+    assert_between(&rt, rt.alloc(), Column::all(), EDITION_3, 0, &lines);
+}
+
+/// The version of the master tables alone, of messages that differ in an octet.
+#[test]
+fn versions_that_change_and_come_back(rt: HostRuntime) {
+    let alloc = rt.alloc();
+    let changes = [
+        (11, 1, 2, "\n"),
+        (21, 40, 0, "40\n"),
+        (36, 30, 0, "9\n"),
+        (50, 6, 2, "\n"),
+        (54, 30, 0, "9\n"),
+    ];
+    for (place, octet, refused, other) in changes {
+        let message = changed(&rt, alloc, place, octet);
+        let lines = ["master_version\n", "9\n", other, "9\n", other, "9\n"];
+        let columns = [Column::MasterVersion];
+        assert_between(&rt, alloc, &columns, &message, refused, &lines);
+    }
+}
+
 /// A thousand refused frames and a thousand messages, by turns: 56,000 octets in one read and in many.
 #[test]
 fn thousand_messages(rt: HostRuntime) {

@@ -152,7 +152,10 @@ fn under_tables<'a>(alloc: Global) -> Result<Command<'a>, OutOfMemory>
             alloc,
             "b",
             'b',
-            ["TABLE_B", "The CSV file of Table B: the elements"],
+            [
+                "TABLE_B",
+                "The CSV file of Table B: the elements (the launcher finds it)",
+            ],
             ArgAction::Append,
             true,
         ))?
@@ -160,7 +163,10 @@ fn under_tables<'a>(alloc: Global) -> Result<Command<'a>, OutOfMemory>
             alloc,
             "d",
             'd',
-            ["TABLE_D", "The CSV file of Table D: the sequences"],
+            [
+                "TABLE_D",
+                "The CSV file of Table D: the sequences (the launcher finds it)",
+            ],
             ArgAction::Append,
             true,
         ))

@@ -245,8 +245,8 @@ fn under_tables<'a>(
 ) -> Result<Command<'a>, OutOfMemory>
     ensures { IfOk result (λ c. app_of c ≡ under_tables name.now) }
 {
-    let b = "The CSV file of Table B: the elements";
-    let d = "The CSV file of Table D: the sequences";
+    let b = "The CSV file of Table B: the elements (the launcher finds it)";
+    let d = "The CSV file of Table D: the sequences (the launcher finds it)";
     let [about, example] = texts;
     Command::new(alloc, name)
         .about(about)

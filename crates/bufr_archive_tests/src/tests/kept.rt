@@ -261,6 +261,14 @@ const MERGED: &[(&'static [u8], &'static [Step])] = &[
         ],
     ),
     (
+        &ROW_1,
+        &[
+            (Text(WARMER), &[WARMER]),
+            (Text(&ROW_1), &[WARMER]),
+            (Itself, &[WARMER]),
+        ],
+    ),
+    (
         &MONTH_13,
         &[
             (Text(b""), &[&MONTH_13]),

@@ -109,6 +109,15 @@ const ROWS: &[Row<'static>] = &[
         None,
     ),
     (UNTOUCHED, (0, 1, 2), MANY, Some((4, 6, 68)), 8, None),
+    // the last item
+    (
+        &[12101],
+        (16_777_215, 0, 0),
+        MANY,
+        None,
+        16_777_215,
+        TEMPERATURE,
+    ),
     // the greatest number of items, and one more
     (
         TEMPERATURES,

@@ -1,6 +1,7 @@
 -- The clause `ok` of `hold_all`: the fields before the edition and those after the length are the row.
-use Rattle.std.proofs.Common.{◌≡◌, ◌∙◌, ℕ, List, [], ◌∷◌, ◌++◌, Ok, ap}
+use Rattle.std.proofs.Common.{◌≡◌, ◌∙◌, ℕ, List, [], ◌∷◌, ◌++◌, Ok, Result, ap, sym}
 use Rattle.std.proofs.lemmas.Result.{on_ok_weaker}
+use Rattle.bufr_sections.specs.declared.fault.Refused.{Refused}
 use Rattle.bufr_sections.specs.Sections.{Envelope}
 use Rattle.bufr_io.specs.Taking.{frame_at}
 use Rattle.bufr_ls_engine.specs.Columns.{all_columns}
@@ -36,10 +37,11 @@ whole frame e =
 pub returns-clause-ok : goal.returns-clause-ok
 returns-clause-ok c =
     let frame = c.args.frame.now in
-    let fields : c.as_slice.result.now ≡ fields_after_length frame.octets.now c.args.said.now =
-    c.as_slice.ensures ∙ c.in_ok-set.ensures in
+    let old = c.args.text.now.items in
     on_ok_weaker c.hold_with.result
-    (λ is. is
-    ∙ ap (λ (t : List ℕ). c.args.text.now.items ++ t)
-    (ap (texts_before (place_of frame)) fields ∙ whole frame c.args.said.now))
+    (λ held e is fields. held
+    ∙ ap (λ (t : List ℕ). old ++ t)
+    (ap (texts_before (place_of frame)) fields ∙ whole frame e
+    ∙ ap (λ (r : Result Envelope Refused). row_as all_columns frame.input frame.message
+    (frame_at frame.place frame.octets.now) r) (sym is)))
     c.hold_with.ensures.ok

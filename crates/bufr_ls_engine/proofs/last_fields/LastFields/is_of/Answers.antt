@@ -13,7 +13,7 @@ returns c equal =
     let l = c.self.inside in
     let s = c.said.inside in
     let e = c.args.said.now in
-    let kept = c.self.invariant c.if-not-self.false in
+    let kept = c.self.invariant.0 c.if-not-self.false in
     let head : l.head ≡ take 23 (drop 7 c.args.octets.now) =
     c.are_same.ensures c.if-not-are_same.false in
     let listed : l.listed.items ≡ s.listed.now =
