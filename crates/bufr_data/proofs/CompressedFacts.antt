@@ -32,6 +32,7 @@ pub mod Chosen
 pub mod Courses
 pub mod Increments
 pub mod Indexed
+pub mod Lent
 pub mod Misfits
 pub mod Packed
 pub mod PackedMisfits

@@ -10,6 +10,7 @@ pub mod Shown
 pub mod Handed
 pub mod Chosen
 pub mod Short
+pub mod LentTexts
 pub mod LeftFields
 pub mod Kept
 pub use Rattle.bufr_base.specs.Answers

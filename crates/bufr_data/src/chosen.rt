@@ -4,11 +4,15 @@ ghost use Rattle.std.specs.Prelude.{◌≡◌, ◌==◌, length, Some, IfOk, IfS
 ghost use Rattle.bufr_data.specs.Chosen as chosen;
 ghost use Rattle.bufr_data.specs.Handed.{HandsOut};
 ghost use Rattle.bufr_data.specs.Short.{HandsOutShort};
+ghost use Rattle.bufr_data.specs.LentTexts.{HasOctets};
+ghost use Rattle.bufr_fields.specs.declared.field.Field.{Field as AField};
 ghost use Rattle.bufr_fields.specs.Values.{as_field};
 
 use crate::compressed::fields::ColumnFields;
+use crate::plain::copy::SUBSET_ROOM;
 use crate::plain::placed_fields::PlacedFields;
 use crate::short::ShortNumber;
+use crate::text::LentText;
 use bufr_base::OutOfMemory;
 use bufr_expand::Asks;
 use bufr_fields::{Field, NumberField};
@@ -76,6 +80,20 @@ impl<'v> ChosenFields<'v> {
         match &mut self.source {
             ChosenSource::Placed(fields) => fields.next_number(),
             ChosenSource::Compressed(fields) => fields.next_number(),
+        }
+    }
+
+    /// Hands out the next field, its octets in `room`, if it is a text of at most 64 octets. It may
+    /// return `None` at any other field, and at each text of plain data; then `next` takes it.
+    #[inline(always)]
+    pub fn next_text<'r>(&mut self, room: &'r mut [u8; SUBSET_ROOM]) -> Option<LentText<'r>>
+        ensures found { IfSome result (λ text.
+            (f : AField) × HasOctets f text.fxy text.octets.now × HandsOut self.old (Some f) self.new) }
+        ensures others { IfNone result (self.new ≡ self.old) }
+    {
+        match &mut self.source {
+            ChosenSource::Placed(_) => None,
+            ChosenSource::Compressed(fields) => fields.next_text(room),
         }
     }
 

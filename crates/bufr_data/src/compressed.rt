@@ -4,6 +4,7 @@ pub(crate) mod best;
 pub(crate) mod fields;
 pub(crate) mod head;
 pub(crate) mod index;
+pub(crate) mod lent_text;
 pub(crate) mod pass;
 pub(crate) mod places;
 pub(crate) mod read;

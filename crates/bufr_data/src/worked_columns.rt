@@ -70,7 +70,7 @@ pub fn columns_refused()
         ≡ Err (DataFault.DataEnds 0 1024) }
     ensures at_limit { columns_at 2 33554432 (sample_course (descriptor 0 12 101 ∷ []) 0) []
         ≡ Err (DataFault.DataEnds 0 33554432) }
-    ensures past_limit { columns_at 2 33554433 (sample_course (descriptor 0 12 101 ∷ []) 0) []
+    ensures past_limit { columns_at 5 13421773 (sample_course (descriptor 0 12 101 ∷ []) 0) []
         ≡ Err DataFault.TooLarge }
 {}
 

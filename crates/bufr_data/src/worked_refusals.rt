@@ -112,9 +112,8 @@ pub fn places_apart()
         (record { fxy = 1; spec = number_spec 7; values = Raw.Number 5 ∷ [] }
         ∷ record { fxy = 2; spec = number_spec 2; values = Raw.Number 1 ∷ [] } ∷ [])
         ≡ Ok (bin 7 5 ++ bin 6 0 ++ bin 2 1 ++ bin 6 0) }
-    ensures past_limit { packed 33554433
-        (record { fxy = 1; spec = number_spec 7; values = Raw.Number 5 ∷ [] }
-        ∷ record { fxy = 2; spec = number_spec 2; values = Raw.Number 1 ∷ [] } ∷ [])
+    ensures past_limit { packed 13421773
+        (replicate 5 (record { fxy = 1; spec = number_spec 7; values = Raw.Number 5 ∷ [] }))
         ≡ Err MisfitFault.TooLarge }
 {}
 

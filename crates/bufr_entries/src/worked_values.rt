@@ -5,7 +5,8 @@ ghost use Rattle.bufr_entries.specs.KeyOrders.{octets_cmp, station_cmp, moment_c
 ghost use Rattle.bufr_entries.specs.Entries.{coarse_key_cmp, slot_by, rank_cmp, slot_cmp, kept, changes, entry_at, entry_after};
 ghost use Rattle.bufr_entries.specs.Keeping.{first_of};
 ghost use Rattle.bufr_entries.specs.PackedKeys.{wmo_key};
-ghost use Rattle.bufr_entries.specs.Fronts.{front_cmp, front_of_key, first_octets};
+ghost use Rattle.bufr_entries.specs.Fronts.{front_cmp, front_of_key, first_octets, place_of_station};
+ghost use Rattle.bufr_entries.specs.declared.key_start.StationStart.TheVariants as places;
 ghost use Rattle.bufr_entries.specs.Samples.{orders, turned, time, moments_by_part, wmo, stations_by_part, stations_by_kind, key_of, keys_by_part, entry, gathered, held};
 
 /// The order of keys: the first part that differs decides, whatever follows it.
@@ -95,6 +96,8 @@ pub fn packed_keys()
 pub fn fronts()
     ensures short { first_octets 8 (codes "AB") ≡ 65 ∷ 66 ∷ 0 ∷ 0 ∷ 0 ∷ 0 ∷ 0 ∷ 0 ∷ [] }
     ensures long { first_octets 8 (codes "ABCDEFGHIJ") ≡ codes "ABCDEFGH" }
+    ensures name { place_of_station (Mobile (codes "ABCDEFGHIJ"))
+        ≡ places.Mobile (codes "ABCDEFGH") }
     ensures parts { orders (λ a b. front_cmp (front_of_key a) (front_of_key b)) keys_by_part
         ≡ Less ∷ Less ∷ Less ∷ Less ∷ Equal ∷ Equal ∷ Equal ∷ [] }
 {}

@@ -15,4 +15,5 @@ mod PickFacts
 mod PairFacts
 mod SettledFacts
 mod ShortFacts
+mod LentFacts
 mod ChosenFacts

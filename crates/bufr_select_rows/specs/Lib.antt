@@ -7,6 +7,7 @@ pub mod Asks
 pub mod Cells
 pub mod CellLaws
 pub mod ShortCells
+pub mod TextCells
 pub mod Samples
 pub mod ListedCells
 pub mod MessageRows

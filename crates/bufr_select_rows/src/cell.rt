@@ -1,15 +1,16 @@
 //! The cells of a row.
 
-ghost use Rattle.std.specs.Prelude.{◌≡◌, OnOk, if◌then◌else◌};
+ghost use Rattle.std.specs.Prelude.{◌≡◌, true, OnOk, if◌then◌else◌};
 ghost use Rattle.bufr_fields.specs.Values.{as_field};
 ghost use Rattle.bufr_select_rows.specs.Cells.{begun, counted, fresh, is_settled, noted, opened};
 ghost use Rattle.bufr_select_rows.specs.Cells.{put_before, shown, waits_for};
 ghost use Rattle.bufr_select_rows.specs.Rows.{origin};
 ghost use Rattle.bufr_select_rows.specs.ShortCells.{counted_short, noted_short};
+ghost use Rattle.bufr_select_rows.specs.TextCells.{counted_text, noted_text};
 
 use crate::column::Column;
 use crate::origin::Origin;
-use crate::text::{Text, field_of};
+use crate::text::Text;
 use bufr_base::OutOfMemory;
 use bufr_data::ShortNumber;
 use bufr_fields::{Field, NumberField};
@@ -92,32 +93,16 @@ impl Cell {
         }
     }
 
-    /// Notes a field with a number, in a span or before all spans.
+    /// Notes a field with a number of a span.
     #[inline(always)]
-    pub(crate) fn note_number(
-        &mut self,
-        in_span: bool,
-        number: NumberField,
-    ) -> Result<(), OutOfMemory>
-        ensures { OnOk result (self.new ≡ noted in_span (as_field number) self.old) }
+    pub(crate) fn note_number(&mut self, number: NumberField)
+        ensures { self.new ≡ noted true (as_field number) self.old }
     {
         let column = self.column;
         match column {
-            Column::Fact(_) => Ok(()),
-            Column::First(fxy) => {
-                if in_span {
-                    self.count_number_if(number.fxy == fxy, number);
-                    Ok(())
-                } else {
-                    self.put_if(number.fxy == fxy, &field_of(number))
-                }
-            }
-            Column::Nth(fxy, _) => {
-                if in_span {
-                    self.count_number_if(number.fxy == fxy, number);
-                }
-                Ok(())
-            }
+            Column::Fact(_) => {}
+            Column::First(fxy) => self.count_number_if(number.fxy == fxy, number),
+            Column::Nth(fxy, _) => self.count_number_if(number.fxy == fxy, number),
         }
     }
 
@@ -156,6 +141,33 @@ impl Cell {
             return;
         }
         self.here.keep_short(short);
+    }
+
+    /// Notes a field with the octets of a text in a span.
+    pub(crate) fn note_text(&mut self, fxy: Fxy, octets: &[u8]) -> Result<(), OutOfMemory>
+        ensures { OnOk result (self.new ≡ noted_text fxy octets.now self.old) }
+    {
+        let column = self.column;
+        match column {
+            Column::Fact(_) => Ok(()),
+            Column::First(asked) => self.count_text_if(fxy == asked, octets),
+            Column::Nth(asked, _) => self.count_text_if(fxy == asked, octets),
+        }
+    }
+
+    /// Counts a text if `is`, and shows it if it is the one to show.
+    fn count_text_if(&mut self, is: bool, octets: &[u8]) -> Result<(), OutOfMemory>
+        ensures { OnOk result (self.new
+            ≡ (if is then counted_text octets.now self.old else self.old)) }
+    {
+        if !is || self.ahead == 0 {
+            return Ok(());
+        }
+        self.ahead -= 1;
+        if self.ahead > 0 {
+            return Ok(());
+        }
+        self.here.put_text(octets)
     }
 
     /// Counts a field with a number in a span if `is`, and shows it if it is the one to show.
@@ -222,10 +234,13 @@ impl Cell {
     pub(crate) fn is_settled(&self) -> bool
         ensures { result ≡ is_settled self.now }
     {
+        if self.ahead == 0 {
+            return true;
+        }
         let column = self.column;
         match column {
             Column::Fact(_) => true,
-            Column::First(_) | Column::Nth(_, _) => self.ahead == 0,
+            Column::First(_) | Column::Nth(_, _) => false,
         }
     }
 

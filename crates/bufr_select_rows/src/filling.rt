@@ -7,9 +7,10 @@ ghost use Rattle.bufr_select_rows.specs.Cells.{AreSettled, row_of, rows_left};
 use crate::awaited::Awaited;
 use crate::cell::Cell;
 use crate::column_descriptors::ColumnDescriptors;
-use crate::row_cells::{first_unsettled, note_field, note_number, note_short};
+use crate::row_cells::{first_unsettled, note_field, note_number, note_short, note_text};
 use crate::subset_fields::SubsetFields;
 use bufr_base::OutOfMemory;
+use bufr_data::SUBSET_ROOM;
 use std::alloc::Global;
 
 /// Notes the fields that are left of a subset, and stops once no cell waits for one of them.
@@ -43,7 +44,7 @@ pub(crate) fn fill_cells<P: SubsetFields>(
         }
         noted += 1;
         if let Some(number) = fields.pick_number(asked) {
-            note_number(&mut *cells, asked, true, number)?;
+            note_number(&mut *cells, asked, number);
             continue 'fields;
         }
         let next = fields.pick(alloc, asked);
@@ -58,8 +59,8 @@ pub(crate) fn fill_cells<P: SubsetFields>(
     }
 }
 
-/// Notes the next fields of a subset, at most `most`, as long as they are numbers. Returns how many
-/// of `most` are left.
+/// Notes the next fields of a subset, at most `most`, as long as they are numbers or lent texts.
+/// Returns how many of `most` are left.
 fn fill_numbers<P: SubsetFields>(
     asked: &ColumnDescriptors,
     fields: &mut P,
@@ -81,9 +82,36 @@ fn fill_numbers<P: SubsetFields>(
             continue 'due;
         }
         match fields.pick_number(asked) {
-            Some(number) => note_number(&mut *cells, asked, true, number)?,
-            None => return Ok(due),
+            Some(number) => note_number(&mut *cells, asked, number),
+            None => {
+                if !fill_text(asked, fields, &mut *cells)? {
+                    return Ok(due);
+                }
+            }
         }
     }
     Ok(due)
+}
+
+/// Notes the next field of a subset, if it is a lent text. Returns whether it is.
+fn fill_text<P: SubsetFields>(
+    asked: &ColumnDescriptors,
+    fields: &mut P,
+    cells: &mut [Cell],
+) -> Result<bool, OutOfMemory>
+    requires { IsSetOf asked.now None (map (λ c. c.column) cells.old) }
+    ensures row { OnOk result (rows_left None cells.old true (P.left fields.old)
+        ≡ rows_left None cells.new true (P.left fields.new)) }
+    ensures columns { OnOk result (map (λ c. c.column) cells.new ≡ map (λ c. c.column) cells.old) }
+    ensures settled { OnOk result ((n : ℕ) → AreSettled n cells.old → AreSettled n cells.new) }
+    ensures fewer { OnOk result (length (P.left fields.new) ≤ length (P.left fields.old)) }
+{
+    let mut room = [0; SUBSET_ROOM];
+    match fields.pick_text(asked, &mut room) {
+        None => Ok(false),
+        Some(text) => {
+            note_text(cells, asked, text.fxy, text.octets)?;
+            Ok(true)
+        }
+    }
 }

@@ -20,6 +20,7 @@ use crate::origin::Origin;
 use crate::row_cells::{begin_cells, cells_of, note_field, note_number, open_cells};
 use crate::row_line::RowLine;
 use crate::subset_fields::SubsetFields;
+use crate::text::field_of;
 use bufr_base::OutOfMemory;
 use bufr_bits::Sink;
 use bufr_data::{ChosenFields, NumberField};
@@ -69,6 +70,7 @@ fn copied(each: &Option<Fxy>) -> Option<Fxy>
     }
 }
 
+#[inline(always)]
 fn put_row<W: Sink>(
     line: &mut RowLine,
     cells: &[Cell],
@@ -80,6 +82,9 @@ fn put_row<W: Sink>(
         (W.writing writer.new) result }
     ensures works { OnOk result ((W.writing writer.new).failed ≡ false) }
 {
+    if line.hold(cells, rows)? {
+        return Ok(());
+    }
     match line.row(cells) {
         Ok(row) => rows.put(row, writer),
         Err(_) => Err(ToolFault::OutOfMemory),
@@ -161,13 +166,17 @@ fn take_number<W: Sink>(
         ≡ after_field each in_span cells.old (as_field number.now)) }
     ensures works { OnOk result ((W.writing writer.new).failed ≡ false) }
 {
-    if !number_opens(each, number) {
-        note_number(cells, asked, in_span, *number)?;
+    if number_opens(each, number) {
+        put_ended(in_span, line, cells, rows, writer)?;
+        open_cells(cells);
+        note_number(cells, asked, *number);
         return Ok(());
     }
-    put_ended(in_span, line, cells, rows, writer)?;
-    open_cells(cells);
-    note_number(cells, asked, true, *number)?;
+    if !in_span {
+        note_field(cells, asked, false, &field_of(*number))?;
+        return Ok(());
+    }
+    note_number(cells, asked, *number);
     Ok(())
 }
 
@@ -347,8 +356,9 @@ pub fn put_message<W: Sink>(
     ensures asked { picker.new.asked ≡ picker.old.asked }
     ensures works { OnOk result ((W.writing writer.new).failed ≡ false) }
 {
+    // A copy for each subset would take as long as a field.
+    let mut here = *from;
     for index in 0..found.count() {
-        let mut here = *from;
         here.subset = index as u64 + 1;
         if let Some(fields) = found.chosen(picker.asked.listed(), index) {
             put_chosen(

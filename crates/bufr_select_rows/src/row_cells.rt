@@ -4,20 +4,23 @@ ghost use Rattle.std.specs.Prelude.{◌≡◌, map, true, IfOk, OnOk};
 ghost use Rattle.bufr_fields.specs.Values.{as_field};
 ghost use Rattle.bufr_fields.specs.declared.field.NumberField.{NumberField as ANumberField};
 ghost use Rattle.bufr_data.specs.Short.{HasShort};
+ghost use Rattle.bufr_data.specs.LentTexts.{HasOctets};
+ghost use Rattle.bufr_fields.specs.declared.field.Field.{Field as AField};
 ghost use Rattle.bufr_select_rows.specs.Asks.{Finds};
 ghost use Rattle.bufr_select_rows.specs.Cells.{AreSettled, begun, fresh, noted, opened};
 ghost use Rattle.bufr_select_rows.specs.Rows.{origin};
 ghost use Rattle.bufr_select_rows.specs.ShortCells.{noted_short};
+ghost use Rattle.bufr_select_rows.specs.TextCells.{noted_text};
 
 use crate::cell::Cell;
 use crate::column::Column;
 use crate::column_descriptors::ColumnDescriptors;
 use crate::origin::Origin;
-use crate::text::field_of;
 use bufr_base::OutOfMemory;
 use bufr_data::ShortNumber;
 use bufr_expand::Spec;
 use bufr_fields::{Field, NumberField};
+use bufr_tables::Fxy;
 use std::alloc::Global;
 
 pub(crate) fn cells_of(alloc: Global, columns: &[Column]) -> Result<Vec<Cell>, OutOfMemory>
@@ -65,21 +68,25 @@ pub(crate) fn note_field(
     }
 }
 
-/// Notes a field with a number, in a span or before all spans.
+/// Notes a field with a number of a span.
 #[inline(always)]
-pub(crate) fn note_number(
-    cells: &mut [Cell],
-    asked: &ColumnDescriptors,
-    in_span: bool,
-    number: NumberField,
-) -> Result<(), OutOfMemory>
+pub(crate) fn note_number(cells: &mut [Cell], asked: &ColumnDescriptors, number: NumberField)
     requires { Finds asked.now (map (λ c. c.column) cells.old) }
-    ensures { OnOk result (cells.new ≡ map (noted in_span (as_field number)) cells.old) }
+    ensures { cells.new ≡ map (noted true (as_field number)) cells.old }
 {
     let number = by_parts(number);
     match asked.cell_of(number.fxy) {
-        Some(index) if index < cells.len() => cells[index].note_number(in_span, number),
-        _ => note_in_all(cells, in_span, &field_of(number)),
+        Some(index) if index < cells.len() => cells[index].note_number(number),
+        _ => note_number_in_all(cells, &number),
+    }
+}
+
+/// Notes a field with a number of a span in each cell.
+fn note_number_in_all(cells: &mut [Cell], number: &NumberField)
+    ensures { cells.new ≡ map (noted true (as_field number.now)) cells.old }
+{
+    for cell in cells.iter_mut() {
+        cell.note_number(*number);
     }
 }
 
@@ -103,6 +110,33 @@ fn note_short_in_all(cells: &mut [Cell], short: &ShortNumber)
     for cell in cells.iter_mut() {
         cell.note_short(*short);
     }
+}
+
+/// Notes a field with the octets of a text, in a span.
+pub(crate) fn note_text(
+    cells: &mut [Cell],
+    asked: &ColumnDescriptors,
+    fxy: Fxy,
+    octets: &[u8],
+) -> Result<(), OutOfMemory>
+    requires { Finds asked.now (map (λ c. c.column) cells.old) }
+    ensures { OnOk result ((f : AField) → HasOctets f fxy octets.now
+        → cells.new ≡ map (noted true f) cells.old) }
+{
+    match asked.cell_of(fxy) {
+        Some(index) if index < cells.len() => cells[index].note_text(fxy, octets),
+        _ => note_text_in_all(cells, fxy, octets),
+    }
+}
+
+/// Notes a field with the octets of a text in each cell.
+fn note_text_in_all(cells: &mut [Cell], fxy: Fxy, octets: &[u8]) -> Result<(), OutOfMemory>
+    ensures { OnOk result (cells.new ≡ map (noted_text fxy octets.now) cells.old) }
+{
+    for cell in cells.iter_mut() {
+        cell.note_text(fxy, octets)?;
+    }
+    Ok(())
 }
 
 /// Copies a field with a number part by part, since copies of its padding are slow.

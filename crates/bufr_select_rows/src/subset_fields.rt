@@ -6,13 +6,14 @@ ghost use Rattle.bufr_fields.specs.declared.field.Field.{Field as AField};
 ghost use Rattle.bufr_fields.specs.Values.{as_field};
 ghost use Rattle.bufr_data.specs.Handed.{HandsOutAsked, NoneAsked, PassesUnasked};
 ghost use Rattle.bufr_data.specs.Short.{HandsOutShort};
+ghost use Rattle.bufr_data.specs.LentTexts.{HasOctets};
 ghost use Rattle.bufr_select_rows.specs.Asks.{flagged};
 ghost use Rattle.bufr_select_rows.specs.Cells.{is_awaited};
 
 use crate::awaited::Awaited;
 use crate::column_descriptors::ColumnDescriptors;
 use bufr_base::OutOfMemory;
-use bufr_data::{ChosenFields, LaidFields, NumberField, ShortNumber};
+use bufr_data::{ChosenFields, LaidFields, LentText, NumberField, SUBSET_ROOM, ShortNumber};
 use bufr_expand::Asks;
 use bufr_message::{Field, Fields};
 use std::alloc::Global;
@@ -33,6 +34,18 @@ pub(crate) trait SubsetFields {
     fn pick_number(&mut self, asked: &ColumnDescriptors) -> Option<NumberField>
         ensures found { IfSome result (λ number. HandsOutAsked (flagged asked.now) (left self.old)
             (Some (as_field number)) (left self.new)) }
+        ensures others { IfNone result (PassesUnasked (flagged asked.now) (left self.old)
+            (left self.new)) };
+
+    /// Hands out the next field that is asked for, its octets in `room`, if it is a text. It may
+    /// return `None` at any field, and `pick` takes that.
+    fn pick_text<'r>(
+        &mut self,
+        asked: &ColumnDescriptors,
+        room: &'r mut [u8; SUBSET_ROOM],
+    ) -> Option<LentText<'r>>
+        ensures found { IfSome result (λ text. (f : AField) × HasOctets f text.fxy text.octets.now
+            × HandsOutAsked (flagged asked.now) (left self.old) (Some f) (left self.new)) }
         ensures others { IfNone result (PassesUnasked (flagged asked.now) (left self.old)
             (left self.new)) };
 
@@ -61,6 +74,15 @@ impl<'v> SubsetFields for Fields<'v> {
     #[inline(always)]
     fn pick_number(&mut self, asked: &ColumnDescriptors) -> Option<NumberField> {
         self.next_asked_number(asked)
+    }
+
+    #[inline(always)]
+    fn pick_text<'r>(
+        &mut self,
+        _asked: &ColumnDescriptors,
+        _room: &'r mut [u8; SUBSET_ROOM],
+    ) -> Option<LentText<'r>> {
+        None
     }
 
     #[inline(always)]
@@ -96,6 +118,25 @@ impl<'v> SubsetFields for ChosenFields<'v> {
         }
     }
 
+    #[inline(always)]
+    fn pick_text<'r>(
+        &mut self,
+        asked: &ColumnDescriptors,
+        room: &'r mut [u8; SUBSET_ROOM],
+    ) -> Option<LentText<'r>> {
+        match self.next_text(room) {
+            Some(text) => {
+                if asked.asks(text.fxy) {
+                    Some(text)
+                } else {
+                    None
+                }
+            }
+            None => None,
+        }
+    }
+
+    #[inline(always)]
     fn pick(
         &mut self,
         alloc: Global,
@@ -126,6 +167,15 @@ impl<'v> SubsetFields for LaidFields<'v> {
     #[inline(always)]
     fn pick_number(&mut self, asked: &ColumnDescriptors) -> Option<NumberField> {
         self.next_asked_number(asked)
+    }
+
+    #[inline(always)]
+    fn pick_text<'r>(
+        &mut self,
+        _asked: &ColumnDescriptors,
+        _room: &'r mut [u8; SUBSET_ROOM],
+    ) -> Option<LentText<'r>> {
+        None
     }
 
     #[inline(always)]

@@ -5,6 +5,7 @@ ghost use Rattle.csv.specs.Writing.{default_writer, field_text};
 ghost use Rattle.bufr_fields.specs.Values.{as_field, decimal_within, digits_by};
 ghost use Rattle.bufr_listing.specs.Listings.{number_word};
 ghost use Rattle.bufr_select_rows.specs.ShortCells.{short_text};
+ghost use Rattle.bufr_select_rows.specs.TextCells.{shown_octets};
 ghost use Rattle.bufr_select_rows.specs.Texts.{sum_word, text_of};
 ghost use Rattle.bufr_select_rows.specs.Values.{shown_text, shown_value};
 ghost use Rattle.bufr_select_rows.specs.Values as values;
@@ -13,7 +14,7 @@ use crate::quotes::push_field;
 use crate::written::{write_count, write_number, write_octets};
 use bufr_base::OutOfMemory;
 use bufr_data::ShortNumber;
-use bufr_fields::{Decimal, Field, NumberField, Raw};
+use bufr_fields::{Decimal, Field, NumberField, Raw, are_ones};
 use bufr_tables::Kind;
 use itoa::{Buffer, write_digits};
 use std::alloc::Global;
@@ -90,13 +91,20 @@ impl Text {
                 self.form = TextForm::Count(count);
                 Ok(())
             }
-            Err(_) => {
-                self.form = TextForm::Octets;
-                self.octets.clear();
-                self.octets
-                    .extend_from_slice(Buffer::new().format(number).as_bytes())
-            }
+            Err(_) => self.put_large(number),
         }
+    }
+
+    /// Replaces the text by the digits of a number.
+    // Inlined, its loop makes others slower.
+    #[inline(never)]
+    fn put_large(&mut self, number: u128) -> Result<(), OutOfMemory>
+        ensures { OnOk result (self.new ≡ decimal number) }
+    {
+        self.form = TextForm::Octets;
+        self.octets.clear();
+        self.octets
+            .extend_from_slice(Buffer::new().format(number).as_bytes())
     }
 
     /// Puts the value of a field in place of the text.
@@ -145,6 +153,18 @@ impl Text {
         push_value(&mut self.octets, field)
     }
 
+    /// Puts the octets of a text, as they are shown, in place of the text.
+    pub(crate) fn put_text(&mut self, octets: &[u8]) -> Result<(), OutOfMemory>
+        ensures { OnOk result (self.new ≡ shown_octets octets.now) }
+    {
+        self.form = TextForm::Octets;
+        self.octets.clear();
+        if are_ones(octets) {
+            return Ok(());
+        }
+        push_text(&mut self.octets, trimmed(octets))
+    }
+
     /// Adds the text as a field of a row, or a part of it if memory runs out.
     pub(crate) fn push_to(&self, text: &mut Vec<u8>) -> Result<(), OutOfMemory>
         ensures { OnOk result (text.new.items
@@ -187,7 +207,7 @@ fn form_of(field: NumberField) -> TextForm
     }
     match spec.kind {
         Kind::Text => TextForm::Empty,
-        _ => standing_of_sum(sum_of(NumberField { fxy, spec, number })),
+        _ => TextForm::Sum(sum_of(NumberField { fxy, spec, number })),
     }
 }
 
@@ -201,18 +221,6 @@ fn sum_of(field: NumberField) -> Sum
         number: field.number,
         reference: field.spec.reference,
         scale: field.spec.scale,
-    }
-}
-
-/// Returns how a text shows a sum.
-#[inline(always)]
-fn standing_of_sum(sum: Sum) -> TextForm
-    ensures { (octets : List ℕ) → text_of result octets ≡ sum_word sum }
-{
-    if sum.reference == 0 && sum.scale == 0 {
-        TextForm::Count(sum.number)
-    } else {
-        TextForm::Sum(sum)
     }
 }
 

@@ -26,16 +26,45 @@ pub(crate) fn write_number(room: &mut [u8], end: usize, sum: Sum) -> Option<usiz
         ≡ sum_word sum ++ drop end room.old) }
     ensures within { IfSome result (λ start. start ≤ end) }
 {
+    let number = sum.number;
+    let reference = sum.reference;
+    // The usual scales, each in code of its own.
+    if reference == 0 {
+        match sum.scale {
+            0 => return write_parts(room, end, number, 0, 0),
+            1 => return write_parts(room, end, number, 0, 1),
+            2 => return write_parts(room, end, number, 0, 2),
+            -1 => return write_parts(room, end, number, 0, -1),
+            _ => {}
+        }
+    }
+    write_parts(room, end, number, reference, sum.scale)
+}
+
+/// Writes the sum of a number and a reference value by a scale, unless it is large.
+#[inline(always)]
+fn write_parts(
+    room: &mut [u8],
+    end: usize,
+    number: u64,
+    reference: i64,
+    scale: i32,
+) -> Option<usize>
+    requires { end ≤ length room.old }
+    ensures written { IfSome result (λ start. drop start room.new ≡ sum_word
+        (record { number = number; reference = reference; scale = scale }) ++ drop end room.old) }
+    ensures within { IfSome result (λ start. start ≤ end) }
+{
     let spec = Spec {
         kind: Kind::Quantity,
-        scale: sum.scale,
-        reference: sum.reference,
+        scale,
+        reference,
         width: u64::BITS,
     };
     let field = NumberField {
         fxy: Fxy::from_bits(0),
         spec,
-        number: sum.number,
+        number,
     };
     write_sum(room, end, field)
 }

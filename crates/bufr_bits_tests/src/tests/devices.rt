@@ -173,6 +173,13 @@ impl Write for TakesFew {
     }
 }
 
+/// Flushes a sink, by its own call if it is lent.
+fn flushed<W: Sink>(sink: &mut W) -> Result<(), Failed>
+    requires { (W.writing sink.old).failed ≡ false }
+{
+    sink.flush()
+}
+
 /// Writes all to a lent sink over a writer that takes at most `most` octets at a time, and flushes
 /// it once.
 fn takes_all(rt: &impl Abort, alloc: Global, octets: &[u8], most: usize) {
@@ -183,7 +190,7 @@ fn takes_all(rt: &impl Abort, alloc: Global, octets: &[u8], most: usize) {
     });
     let mut lent = &mut sink;
     write_all(&mut lent, octets).expect(rt, "an answer");
-    lent.flush().expect(rt, "an answer");
+    flushed(&mut lent).expect(rt, "an answer");
     let writer = sink.into_inner();
     same(rt, writer.taken.as_slice() == octets, true);
     same(rt, writer.flushes, 1);

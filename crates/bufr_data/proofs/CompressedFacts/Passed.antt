@@ -42,7 +42,7 @@ pub octets_none : (m : ℕ) (front : List Bool) → length front < m * 8 → oct
 unfolding numbers_at
 octets_none m front short = rw (lt-ltb _ _ short) refl
 
-octets_some : (m : ℕ) (front : List Bool) → m * 8 ≤ length front
+pub octets_some : (m : ℕ) (front : List Bool) → m * 8 ≤ length front
     → octets_at m front ≡ Some (numbers m 8 front, drop (m * 8) front)
 unfolding numbers_at
 octets_some m front long = rw (le-ltb _ _ long) refl

@@ -68,7 +68,7 @@ first_filled w z k n octets e narrow count size is =
     ∙ ap (take (8 * k)) parted ∙ take_at (bin w n ++ zero_bits) others (8 * k) long
     ∙ ap (λ m. bin w n ++ replicate m false) few
 
-filled_whole : (xs : List Bool) → length xs % 8 ≡ 0 → filled xs ≡ xs
+pub filled_whole : (xs : List Bool) → length xs % 8 ≡ 0 → filled xs ≡ xs
 filled_whole xs whole =
     let none : (8 - length xs % 8) % 8 ≡ 0 = omega (arith, whole) in
     ap (λ m. xs ++ replicate m false) none ∙ append-nil xs

@@ -5,14 +5,18 @@ ghost use Rattle.std.specs.Bool.{OnTrue, OnFalse};
 ghost use Rattle.bufr_data.specs.Handed.{HandsOut, HandsOutAsked, FirstIsAsked, PassesFirst};
 ghost use Rattle.bufr_data.specs.Handed.{PassesUnasked};
 ghost use Rattle.bufr_data.specs.Short.{HandsOutShort};
+ghost use Rattle.bufr_data.specs.LentTexts.{HasOctets};
+ghost use Rattle.bufr_fields.specs.declared.field.Field.{Field as AField};
 ghost use Rattle.bufr_fields.specs.Values.{as_field};
 ghost use Rattle.bufr_data.specs.Plain.{plain};
 ghost use Rattle.bufr_data.specs.Subsets.{Extends, has_own_form};
 
-use crate::compressed::index::{ColumnStart, number_there, value};
+use crate::compressed::index::{ColumnStart, number_there, text_there, value};
 use crate::fields::by_parts;
+use crate::plain::copy::SUBSET_ROOM;
 use crate::plain::write::put_raw;
 use crate::short::{ShortNumber, greatest_short};
+use crate::text::LentText;
 use bufr_base::OutOfMemory;
 use bufr_bits::BitSink;
 use bufr_expand::Asks;
@@ -128,6 +132,24 @@ impl<'v> ColumnFields<'v> {
             fxy: place.fxy,
             spec: by_parts(place.spec),
             number,
+        })
+    }
+
+    /// Hands out the next field, its octets in `room`, if it is a text of at most 64 octets.
+    #[inline(always)]
+    pub(crate) fn next_text<'r>(&mut self, room: &'r mut [u8; SUBSET_ROOM]) -> Option<LentText<'r>>
+        ensures found { IfSome result (λ text.
+            (f : AField) × HasOctets f text.fxy text.octets.now × HandsOut self.old (Some f) self.new) }
+        ensures others { IfNone result (self.new ≡ self.old) }
+    {
+        let Some((place, others)) = self.places.split_first() else {
+            return None;
+        };
+        let octets = text_there(self.octets, self.subsets, *place, self.index, room)?;
+        self.places = others;
+        Some(LentText {
+            fxy: place.fxy,
+            octets,
         })
     }
 

@@ -6,7 +6,7 @@ ghost use Rattle.bufr_bits.specs.Ends.{left};
 ghost use Rattle.bufr_base.specs.Answers.{Gives};
 ghost use Rattle.bufr_expand.specs.Walks as walks;
 ghost use Rattle.bufr_expand.specs.Limits.{most_items};
-ghost use Rattle.bufr_fields.specs.declared.field.Raw.TheVariants.{Number};
+ghost use Rattle.bufr_fields.specs.declared.field.Raw.TheVariants.{Number, Text};
 ghost use Rattle.bufr_fields.specs.declared.field.Subset.{Subset};
 ghost use Rattle.bufr_data.specs.Compressed.Reading as reading;
 ghost use Rattle.bufr_data.specs.Compressed.Reading.{ColumnsFound, columns_at};
@@ -23,15 +23,17 @@ ghost use Rattle.bufr_data.specs.Subsets.{Extends};
 use crate::chosen::is_listed;
 use crate::compressed::fields::ColumnFields;
 use crate::compressed::head::{ColumnHead, head_at, number_under};
+use crate::compressed::lent_text::lent_text;
 use crate::compressed::pass::{pass_column, pass_factor};
 use crate::compressed::value::column_value;
 use crate::fields::{FieldSource, Fields};
+use crate::plain::copy::SUBSET_ROOM;
 use crate::plain::read::fault_of;
 use bufr_base::{Failure, Items, OutOfMemory};
 use bufr_bits::{BitReader, BitSink};
 use bufr_expand::{Spec, Step, Template, Walk, WalkFault};
 use bufr_fields::{DataFault, MOST_VALUES, Raw, Subset};
-use bufr_tables::Fxy;
+use bufr_tables::{Fxy, Kind};
 use std::alloc::Global;
 use std::marker::Model;
 
@@ -388,6 +390,29 @@ pub(crate) fn number_there(
             let number = number_under(octets, bit, spec, head, index);
             Some(number.unwrap())
         }
+    }
+}
+
+/// Lends the text at an index of the column at a place, put in `room`. `None` for a number, and for
+/// a text of more than 64 octets.
+pub(crate) fn text_there<'r>(
+    octets: &[u8],
+    subsets: u16,
+    place: ColumnStart,
+    index: u16,
+    room: &'r mut [u8; SUBSET_ROOM],
+) -> Option<&'r [u8]>
+    requires stands { Opens octets.now subsets place }
+    requires inside { index < subsets }
+    ensures is { IfSome result (λ text. Text text.now
+        ≡ get_or (column_from octets.now subsets place).values index (Number 0)) }
+    ensures formed { IfSome result (λ text.
+        has_form_by place.spec.kind place.spec.width (Text text.now) ≡ true) }
+{
+    let ColumnStart { spec, bit, .. } = place;
+    match spec.kind {
+        Kind::Text => lent_text(&mut BitReader::at(octets, bit), spec, index, room),
+        _ => None,
     }
 }
 

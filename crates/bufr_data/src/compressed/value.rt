@@ -1,8 +1,8 @@
 //! Reads one value of a column.
 
 ghost use Rattle.std.specs.Prelude.{◌≡◌, ◌≤◌, ◌<◌, ◌*◌, ◌/◌, length, drop, option_map, get_or};
-ghost use Rattle.std.specs.Prelude.{false, IfOk, Some};
-ghost use Rattle.bufr_bits.specs.Bits.{bits};
+ghost use Rattle.std.specs.Prelude.{false, IfOk, IfSome, IfNone, Some, None};
+ghost use Rattle.bufr_bits.specs.Bits.{bits, octets_at};
 ghost use Rattle.bufr_bits.specs.Ends.{left};
 ghost use Rattle.bufr_tables.specs.declared.element.Kind.TheVariants.{Text};
 ghost use Rattle.bufr_tables.specs.Elements.{same_kind};
@@ -61,29 +61,41 @@ fn text_value(
     ensures { IfOk result (λ value. value ≡ one_at spec index (left reader.old)) }
 {
     let octets = u64::from(spec.width / 8);
-    let start = reader.place();
-    if !reader.pass(8 * u128::from(octets)) {
+    let Some(count) = find_text(reader, spec, index) else {
         return Ok(None);
-    }
-    let k = match reader.take(6) {
-        None => return Ok(None),
-        Some(k) => k,
     };
-    if k == 0 {
-        reader.return_to(start);
-        let minimum = reader.take_bytes(alloc, octets)?;
-        return Ok(minimum.map(|text| Raw::Text(Items::from_vec(text))));
-    }
-    if k > octets {
-        return Ok(None);
-    }
-    if !reader.pass(u128::from(index) * (8 * u128::from(k))) {
-        return Ok(None);
-    }
-    match reader.take_bytes(alloc, k)? {
+    match reader.take_bytes(alloc, count)? {
         None => Ok(None),
         Some(own) => Ok(Some(Raw::Text(filled(own, octets)?))),
     }
+}
+
+/// Moves the reader to the text at `index` of the column, and returns its number of octets: all, or
+/// fewer that are to be filled.
+pub(crate) fn find_text(reader: &mut BitReader, spec: Spec, index: u16) -> Option<u64>
+    requires { spec.kind ≡ Text }
+    ensures found { IfSome result (λ count. one_at spec index (left reader.old) ≡ option_map
+        (λ x. reading.filled (spec.width / 8) x.0) (octets_at count (left reader.new))) }
+    ensures shorter { IfSome result (λ count. count ≤ spec.width / 8) }
+    ensures none { IfNone result (one_at spec index (left reader.old) ≡ None) }
+{
+    let octets = u64::from(spec.width / 8);
+    let start = reader.place();
+    if !reader.pass(8 * u128::from(octets)) {
+        return None;
+    }
+    let k = reader.take(6)?;
+    if k == 0 {
+        reader.return_to(start);
+        return Some(octets);
+    }
+    if k > octets {
+        return None;
+    }
+    if !reader.pass(u128::from(index) * (8 * u128::from(k))) {
+        return None;
+    }
+    Some(k)
 }
 
 /// Fills a text with spaces, or with ones if it is all ones.

@@ -8,7 +8,7 @@ ghost use Rattle.bufr_data.specs.Subsets.{Extends, filled};
 use bufr_base::OutOfMemory;
 use bufr_bits::{BitReader, BitSink};
 
-/// The octets of a room for a subset: 64, and seven for the rest of the last word.
+/// The octets of a room for a subset or a text: 64, and seven for the rest of the last word.
 pub const SUBSET_ROOM: usize = 71;
 
 /// The most bits that a room takes.
@@ -115,7 +115,12 @@ pub(crate) fn filled_octets<'a>(
 
 /// Puts bits at the start of `room`, seven octets at a time, and zero bits after them. Returns the
 /// number of octets; `None` for more than 512 bits.
-fn fill_room(octets: &[u8], from: u128, end: u128, room: &mut [u8; SUBSET_ROOM]) -> Option<usize>
+pub(crate) fn fill_room(
+    octets: &[u8],
+    from: u128,
+    end: u128,
+    room: &mut [u8; SUBSET_ROOM],
+) -> Option<usize>
     requires onward { from ≤ end }
     requires inside { end ≤ 8 * length octets.now }
     ensures filled { IfSome result (λ count. bits (take count room.new)

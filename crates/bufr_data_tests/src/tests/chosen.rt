@@ -6,7 +6,7 @@ use super::samples::{
     EIGHT_BLOCKS, MIXED, MIXED_COLUMNS, MIXED_PLAIN, number_of, same_subset, template, text_of,
 };
 use bufr_bits::BitReader;
-use bufr_data::{ChosenFields, DataTemplate, Field, SubsetIndex};
+use bufr_data::{ChosenFields, DataTemplate, Field, SUBSET_ROOM, SubsetIndex};
 use std::alloc::Global;
 use std::process::Abort;
 
@@ -24,6 +24,52 @@ const STATIONS: &[u16] = &[0x0101, 0x0102];
 
 /// Station numbers, names and temperatures: 0 01 002, 0 01 011 and 0 12 101.
 const OTHERS: &[u16] = &[0x0C65, 0x010B, 0x0102];
+
+/// Names, 0 01 011.
+const NAMES: &[u16] = &[0x010B];
+
+/// Two compressed subsets with a name each: the template, the octets, and the names.
+type Named<'a> = (Descriptors<'a>, &'a [u8], &'a [u8], &'a [u8]);
+
+const NAMED: &[Named] = &[
+    // no minimum, three octets each, then "abc" and "xyz" from bit 30 on
+    (
+        &[(2, 8, 3), (0, 1, 11)],
+        &[0, 0, 0, 0x0D, 0x85, 0x89, 0x8D, 0xE1, 0xE5, 0xE8],
+        b"abc",
+        b"xyz",
+    ),
+    // May in four bits without increments, and these from bit 40 on
+    (
+        &[(0, 4, 2), (2, 8, 3), (0, 1, 11)],
+        &[0x50, 0, 0, 0, 3, 0x61, 0x62, 0x63, 0x78, 0x79, 0x7A],
+        b"abc",
+        b"xyz",
+    ),
+    // block 10 without increments, and "ab " for both
+    (
+        &[(0, 1, 1), (2, 8, 3), (0, 1, 11)],
+        &[0x14, 0x03, 0x0B, 0x11, 0, 0],
+        b"ab ",
+        b"ab ",
+    ),
+    // four octets with two each: "AB", and ones
+    (
+        &[(2, 8, 4), (0, 1, 11)],
+        &[0x20, 0x20, 0x20, 0x20, 0x09, 0x05, 0x0B, 0xFF, 0xFC],
+        b"AB  ",
+        b"\xFF\xFF\xFF\xFF",
+    ),
+    // nine octets with one each: "A" and "B"
+    (
+        &[(0, 1, 11)],
+        &[
+            0x20, 0x20, 0x20, 0x20, 0x20, 0x20, 0x20, 0x20, 0x20, 0x05, 0x05, 0x08,
+        ],
+        b"A        ",
+        b"B        ",
+    ),
+];
 
 /// Indexes a message of a template, with the places of some descriptors.
 fn indexed<'a>(
@@ -363,4 +409,93 @@ fn plain_after_columns(rt: &impl Abort, alloc: Global, kept: &mut DataTemplate) 
     has_numbers(rt, alloc, &plain, TEMPERATURES, 1, Some(&[1, 2, 0]));
     drop(plain);
     drop(first);
+}
+
+/// Returns the octets of the next field, if it is a name that a room takes.
+fn name_in<'r>(fields: &mut ChosenFields, room: &'r mut [u8; SUBSET_ROOM]) -> Option<&'r [u8]> {
+    match fields.next_text(room) {
+        Some(text) if text.fxy.bits() == 0x010B => Some(text.octets),
+        _ => None,
+    }
+}
+
+/// Compares the name at an index with the one that a room takes.
+fn is_named(rt: &impl Abort, alloc: Global, index: &SubsetIndex, at: usize, wanted: &[u8]) {
+    assert!(rt; at < index.count());
+    let mut room = [7; SUBSET_ROOM];
+    let mut fields = index.chosen(NAMES, at).expect(rt, "places");
+    same(rt, name_in(&mut fields, &mut room), Some(wanted));
+    same(rt, name_in(&mut fields, &mut room), None);
+    same(rt, fields.next(alloc).expect(rt, "room"), None);
+    drop(fields);
+}
+
+#[test]
+fn names_of_columns(rt: HostRuntime) {
+    let alloc = rt.alloc();
+    for (list, octets, first, second) in NAMED {
+        let mut kept = DataTemplate::new(template(&rt, alloc, *list));
+        let index = indexed(&rt, alloc, &mut kept, NAMES, true, *octets, 2);
+        is_named(&rt, alloc, &index, 0, *first);
+        is_named(&rt, alloc, &index, 1, *second);
+        drop(index);
+        drop(kept);
+    }
+}
+
+/// A room takes 64 octets. A longer text is left, and handed out as a field.
+#[test]
+fn long_names_of_columns(rt: HostRuntime) {
+    let alloc = rt.alloc();
+    // the minimum is the text of both subsets
+    let mut octets = [b'A'; 65];
+    octets[64] = 0;
+    let list: Descriptors = &[(2, 8, 64), (0, 1, 11)];
+    let mut kept = DataTemplate::new(template(&rt, alloc, list));
+    let index = indexed(&rt, alloc, &mut kept, NAMES, true, &octets, 2);
+    is_named(&rt, alloc, &index, 1, &octets[..64]);
+    longer_names_are_left(&rt, alloc);
+    drop(index);
+    drop(kept);
+}
+
+fn longer_names_are_left(rt: &impl Abort, alloc: Global) {
+    let mut octets = [b'A'; 66];
+    octets[65] = 0;
+    let list: Descriptors = &[(2, 8, 65), (0, 1, 11)];
+    let mut kept = DataTemplate::new(template(rt, alloc, list));
+    let index = indexed(rt, alloc, &mut kept, NAMES, true, &octets, 2);
+    is_left(rt, alloc, &index, &octets[..65]);
+    drop(index);
+    drop(kept);
+}
+
+/// Compares the name of the second subset with the one that is handed out as a field alone.
+fn is_left(rt: &impl Abort, alloc: Global, index: &SubsetIndex, wanted: &[u8]) {
+    assert!(rt; 1 < index.count());
+    let mut room = [7; SUBSET_ROOM];
+    let mut fields = index.chosen(NAMES, 1).expect(rt, "places");
+    same(rt, name_in(&mut fields, &mut room), None);
+    let name = fields.next(alloc).expect(rt, "room").expect(rt, "a text");
+    same(rt, text_of(&name), wanted);
+    drop(name);
+    drop(fields);
+}
+
+/// A number is no text: it is left, and handed out before the text after it.
+#[test]
+fn numbers_before_names(rt: HostRuntime) {
+    let alloc = rt.alloc();
+    let (list, octets, name, _) = NAMED[2];
+    let mut kept = DataTemplate::new(template(&rt, alloc, list));
+    let index = indexed(&rt, alloc, &mut kept, ALL, true, octets, 2);
+    assert!(&rt; 0 < index.count());
+    let mut room = [7; SUBSET_ROOM];
+    let mut fields = index.chosen(ALL, 0).expect(&rt, "places");
+    same(&rt, name_in(&mut fields, &mut room), None);
+    has_number(&rt, &mut fields, 10);
+    same(&rt, name_in(&mut fields, &mut room), Some(name));
+    drop(fields);
+    drop(index);
+    drop(kept);
 }

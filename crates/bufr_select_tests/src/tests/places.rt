@@ -1,8 +1,8 @@
 //! Rows by the places of their fields, which a pair of tables finds for a list of descriptors.
 
 use super::samples::{
-    LEVELS, LEVELS_IN_COLUMNS, LEVELS_NEXT, LEVELS_OF_TWO, MISSING, NAMED, NAMED_IN_COLUMNS,
-    NAMED_OF_THREE, OF_46, SEQUENCES, SOUNDING, TABLE_B, TEXTS, UNEQUAL,
+    COMMA_IN_COLUMNS, LEVELS, LEVELS_IN_COLUMNS, LEVELS_NEXT, LEVELS_OF_TWO, MISSING, NAMED,
+    NAMED_IN_COLUMNS, NAMED_OF_THREE, OF_46, SEQUENCES, SOUNDING, TABLE_B, TEXTS, UNEQUAL,
 };
 use super::{Run, assert_run, joined, tables_of};
 use bufr_select_engine::VersionTables;
@@ -72,6 +72,20 @@ const ROWS: &[Row] = &[
         &[NAMED_IN_COLUMNS, NAMED, NAMED_OF_THREE, NAMED_IN_COLUMNS],
         "compressed,subset,001001,001011\n1,1,10,abc\n1,2,11,xyz\n0,1,10,A b\n\
         0,1,11,\"c,\"\n0,2,12,\n0,3,13,\"\\00Z\"\"\"\n1,1,10,abc\n1,2,11,xyz\n",
+    ),
+    (
+        "subset,001011,012101",
+        "",
+        &[0x010B, 0x0C65],
+        &[NAMED_IN_COLUMNS, COMMA_IN_COLUMNS],
+        "subset,001011,012101\n1,abc,273.15\n2,xyz,\n1,\"c,\",273.15\n2,,\n",
+    ),
+    (
+        "001011#2,001001,001011#1,001011",
+        "",
+        &[0x0101, 0x010B],
+        &[NAMED_IN_COLUMNS, NAMED],
+        "001011#2,001001,001011#1,001011\n,10,abc,abc\n,11,xyz,xyz\n,10,A b,A b\n",
     ),
     (
         "message,subset,001001,001011,011001",

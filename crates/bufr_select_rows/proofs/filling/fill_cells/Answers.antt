@@ -29,7 +29,7 @@ fields-preserved-in-Some g c =
     let inv = c.fields.invariant in
     let field = as_field c.in-Some.number in
     let covers = subst (IsSetOf a.asked.now None) (sym inv.columns) c.requires in
-    let e = c.in_ok-note_number.ensures in
+    let e = c.note_number.ensures in
     record {
       row = inv.row ∙ row_next (flagged a.asked.now) c.fields.cells c.note_number.new.cells field
           (g.P.SubsetFields.left c.fields.fields) (g.P.SubsetFields.left c.pick_number.new.self) covers.0

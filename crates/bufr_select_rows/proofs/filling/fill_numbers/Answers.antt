@@ -25,14 +25,14 @@ due-preserved-in-Some g c =
     }
 
 -- one number more was taken
-pub due-preserved : goal.due-preserved
-due-preserved g c =
+pub due-preserved-in-Some-pick_number : goal.due-preserved-in-Some-pick_number
+due-preserved-in-Some-pick_number g c =
     let a = c.args in
     let inv = c.due.invariant in
     let field = as_field c.in-Some-pick_number.number in
     let covers = subst (IsSetOf a.asked.now None) (sym inv.columns) c.requires in
     let same = c.in_default.ensures.others in
-    let e = c.in_ok-note_number-in-Some-pick_number.ensures in
+    let e = c.note_number.ensures in
     record {
       row = inv.row ∙ ap (rows_left None c.due.cells true) (sym same)
           ∙ row_next (flagged a.asked.now) c.due.cells c.note_number.new.cells field
@@ -51,22 +51,36 @@ due-preserved g c =
       );
     }
 
+-- a text was taken
+pub due-preserved : goal.due-preserved
+due-preserved g c =
+    let a = c.args in
+    let inv = c.due.invariant in
+    let covers = subst (IsSetOf a.asked.now None) (sym inv.columns) c.requires in
+    let text = c.in_ok-fill_text-in-None.ensures in
+    record {
+      row = inv.row ∙ ap (rows_left None c.due.cells true) (sym c.in_default.ensures.others)
+          ∙ row_passed (flagged a.asked.now) c.due.cells (g.P.SubsetFields.left c.pick_short.new.self)
+          (g.P.SubsetFields.left c.pick_number.new.self) covers.0 c.in-None.ensures.others ∙ text.row;
+      columns = text.columns ∙ inv.columns;
+      settled = λ n settled. text.settled n (inv.settled n settled);
+      fewer = omega (
+        arith,
+        inv.fewer,
+        ap length c.in_default.ensures.others,
+        passes_fewer (flagged a.asked.now) (g.P.SubsetFields.left c.pick_short.new.self)
+            (g.P.SubsetFields.left c.pick_number.new.self) c.in-None.ensures.others,
+        text.fewer,
+      );
+    }
+
 -- none comes next
-pub returns-in-None-clause-row : goal.returns-in-None-clause-row
-returns-in-None-clause-row g c =
+pub returns-then-not-branch-clause-row : goal.returns-then-not-branch-clause-row
+returns-then-not-branch-clause-row g c =
     let a = c.args in
     let inv = c.due.invariant in
     let covers = subst (IsSetOf a.asked.now None) (sym inv.columns) c.requires in
     inv.row ∙ ap (rows_left None c.due.cells true) (sym c.in_default.ensures.others)
     ∙ row_passed (flagged a.asked.now) c.due.cells (g.P.SubsetFields.left c.pick_short.new.self)
     (g.P.SubsetFields.left c.pick_number.new.self) covers.0 c.in-None.ensures.others
-
-pub returns-in-None-clause-fewer : goal.returns-in-None-clause-fewer
-returns-in-None-clause-fewer g c =
-    omega (
-      arith,
-      c.due.invariant.fewer,
-      ap length c.in_default.ensures.others,
-      passes_fewer (flagged c.args.asked.now) (g.P.SubsetFields.left c.pick_short.new.self)
-          (g.P.SubsetFields.left c.pick_number.new.self) c.in-None.ensures.others,
-    )
+    ∙ c.in_ok-fill_text-in-None.ensures.row

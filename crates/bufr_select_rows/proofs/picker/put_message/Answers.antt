@@ -1,5 +1,5 @@
 -- Subset by subset, until none is left.
-use Rattle.std.proofs.Common.{◌+◌, List, ◌∙◌, map, drop, length, refl, ap, arith}
+use Rattle.std.proofs.Common.{◌+◌, List, ◌∙◌, map, drop, length, ap, arith}
 use Rattle.bufr_io.specs.declared.fault.ToolFault.TheVariants as faults
 use Rattle.bufr_io.specs.PassingLaws.{passed}
 use Rattle.bufr_select_rows.specs.Rows.{origin, rows}
@@ -41,9 +41,9 @@ returns-in_err-put_chosen-clause-puts g c =
     let rest = subsets_rows p.each all o (i + 1 + 1) (drop (i + 1) subsets) in
     let subset = subset_there c.listed.result.now i subsets c.in-Some.fields (omega arith)
     c.in-Some.ensures in
-    let here = rows (map (λ cell. cell.column) lent) q.each (record o { subset = i + 1 }) subset.0 in
+    let here = rows (map (λ cell. cell.column) lent) q.each (record (origin c.loop-index.here) { subset = i + 1 }) subset.0 in
     let next = subset_next p.each q.each all (map (λ cell. cell.column) lent) o
-    (record o { subset = i + 1 }) i subsets subset.0 inv.each same refl subset.1 in
+    (record (origin c.loop-index.here) { subset = i + 1 }) i subsets subset.0 inv.each same (inv.here (i + 1)) subset.1 in
     passed
     (PutsOrStops whole c.args.rows.now (g.W.Sink.writing c.args.writer.now) c.put_chosen.new.rows
     (g.W.Sink.writing c.put_chosen.new.writer))
@@ -71,9 +71,9 @@ loop-index-preserved-in-Some g c =
     let rest = subsets_rows p.each all o (i + 1 + 1) (drop (i + 1) subsets) in
     let subset = subset_there c.listed.result.now i subsets c.in-Some.fields (omega arith)
     c.in-Some.ensures in
-    let here = rows (map (λ cell. cell.column) lent) q.each (record o { subset = i + 1 }) subset.0 in
+    let here = rows (map (λ cell. cell.column) lent) q.each (record (origin c.loop-index.here) { subset = i + 1 }) subset.0 in
     let next = subset_next p.each q.each all (map (λ cell. cell.column) lent) o
-    (record o { subset = i + 1 }) i subsets subset.0 inv.each same refl subset.1 in
+    (record (origin c.loop-index.here) { subset = i + 1 }) i subsets subset.0 inv.each same (inv.here (i + 1)) subset.1 in
     let e = c.in_ok-put_chosen.ensures in
     record {
       rows = some_next whole left here rest c.args.rows.now c.loop-index.rows
@@ -84,6 +84,7 @@ loop-index-preserved-in-Some g c =
           (all_written q.cells.len c.put_chosen.new.cells q.cells.items q.cells.ok.0
           (omega (arith, c.put_chosen.auto.cells, ap length c.deref_mut.ensures.value)))
           ∙ e.columns ∙ same;
+      here = inv.here;
       each = inv.each;
       asked = inv.asked;
     }
@@ -133,10 +134,10 @@ returns-in_err-put_subset-clause-puts g c =
     let whole = subsets_rows p.each all o 1 subsets in
     let left = subsets_rows p.each all o (i + 1) (drop i subsets) in
     let rest = subsets_rows p.each all o (i + 1 + 1) (drop (i + 1) subsets) in
-    let here = rows (map (λ cell. cell.column) lent) q.each (record o { subset = i + 1 })
+    let here = rows (map (λ cell. cell.column) lent) q.each (record (origin c.loop-index.here) { subset = i + 1 })
     c.in_ok-fields.fields in
     let next = subset_next p.each q.each all (map (λ cell. cell.column) lent) o
-    (record o { subset = i + 1 }) i subsets c.in_ok-fields.fields inv.each same refl
+    (record (origin c.loop-index.here) { subset = i + 1 }) i subsets c.in_ok-fields.fields inv.each same (inv.here (i + 1))
     c.in_ok-fields.ensures in
     passed
     (PutsOrStops whole c.args.rows.now (g.W.Sink.writing c.args.writer.now) c.put_subset.new.rows
@@ -164,10 +165,10 @@ loop-index-preserved g c =
     let whole = subsets_rows p.each all o 1 subsets in
     let left = subsets_rows p.each all o (i + 1) (drop i subsets) in
     let rest = subsets_rows p.each all o (i + 1 + 1) (drop (i + 1) subsets) in
-    let here = rows (map (λ cell. cell.column) lent) q.each (record o { subset = i + 1 })
+    let here = rows (map (λ cell. cell.column) lent) q.each (record (origin c.loop-index.here) { subset = i + 1 })
     c.in_ok-fields.fields in
     let next = subset_next p.each q.each all (map (λ cell. cell.column) lent) o
-    (record o { subset = i + 1 }) i subsets c.in_ok-fields.fields inv.each same refl
+    (record (origin c.loop-index.here) { subset = i + 1 }) i subsets c.in_ok-fields.fields inv.each same (inv.here (i + 1))
     c.in_ok-fields.ensures in
     let e = c.in_ok-put_subset.ensures in
     record {
@@ -179,6 +180,7 @@ loop-index-preserved g c =
           (all_written q.cells.len c.put_subset.new.cells q.cells.items q.cells.ok.0
           (omega (arith, c.put_subset.auto.cells, ap length c.deref_mut-in-loop-index.ensures.value)))
           ∙ e.columns ∙ same;
+      here = inv.here;
       each = inv.each;
       asked = inv.asked;
     }

@@ -1,5 +1,5 @@
 -- The loop of `put_message`: the rows of the subsets so far.
-use Rattle.std.proofs.Common.{◌≡◌, ◌+◌, map, drop}
+use Rattle.std.proofs.Common.{◌≡◌, ℕ, ◌+◌, map, drop}
 use Rattle.bufr_select_rows.specs.Rows.{origin}
 use Rattle.bufr_select_rows.specs.MessageRows.{subsets_rows}
 use Rattle.bufr_io.specs.HeldLaws.{PutsSome}
@@ -14,6 +14,7 @@ invariant-loop-index g l = record {
       (subsets_rows l.initial.picker.each (map (λ c. c.column) l.initial.picker.cells.items)
       (origin l.from) (l.index + 1) (drop l.index l.found.message.subsets))
       l.fn.rows (g.W.Sink.writing l.fn.writer) l.rows (g.W.Sink.writing l.writer);
+  here : (n : ℕ) → record (origin l.here) { subset = n } ≡ record (origin l.from) { subset = n };
   columns : map (λ c. c.column) l.picker.cells.items
       ≡ map (λ c. c.column) l.initial.picker.cells.items;
   each : l.picker.each ≡ l.initial.picker.each;

@@ -15,6 +15,6 @@ returns-in-Text c octets = sym (none_shown c.args.field c.in-Text.is)
 
 pub returns-in_default : goal.returns-in_default
 returns-in_default c octets =
-    c.standing_of_sum.ensures octets ∙ c.sum_of.ensures
+    c.sum_of.ensures
     ∙ number_shown c.args.field c.in_default.not-Text
     (sym c.is_missing.ensures ∙ c.if-is_missing.false)
