@@ -77,7 +77,8 @@ pub(crate) fn note_number(cells: &mut [Cell], asked: &ColumnDescriptors, number:
     let number = by_parts(number);
     match asked.cell_of(number.fxy) {
         Some(index) if index < cells.len() => cells[index].note_number(number),
-        _ => note_number_in_all(cells, &number),
+        // The address of `number` itself would keep it in memory.
+        _ => note_number_in_all(cells, &by_parts(number)),
     }
 }
 
