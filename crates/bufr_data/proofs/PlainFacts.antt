@@ -34,6 +34,9 @@ pub mod Copied
 pub mod Filled
 pub mod Even
 pub mod Handed
+pub mod LaidTurns
+pub mod NumberTurns
+pub mod UnaskedTurns
 pub mod Layouts
 pub mod Passed
 pub mod Placed

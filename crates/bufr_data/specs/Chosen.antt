@@ -1,18 +1,21 @@
 -- Chosen fields: the fields with a descriptor in a list, which a reader of messages gets
 -- beforehand.
 use Rattle.std.specs.Prelude.{◌≡◌, ℕ, ◌+◌, ◌*◌, ◌/◌, ◌==◌, ◌≤◌, Bool, List, [], ◌∷◌, drop, length, cond}
-use Rattle.std.specs.Prelude.{Option, Some, None, nat_le, if◌then◌else◌}
+use Rattle.std.specs.Prelude.{Option, Some, None, IfSome, nat_le, slice_get, if◌then◌else◌}
 use Rattle.std.specs.List.{filter, list_any}
 use Rattle.bufr_tables.specs.declared.element.Kind.{Kind}
 use Rattle.bufr_tables.specs.declared.element.Kind.TheVariants as kinds
 use Rattle.bufr_expand.specs.declared.operators.Spec.{Spec}
 use Rattle.bufr_fields.specs.declared.field.Raw.{Raw}
 use Rattle.bufr_fields.specs.declared.field.Field.{Field}
+use Rattle.bufr_fields.specs.declared.field.Subset.{Subset}
 use Rattle.bufr_fields.specs.Limits.{most_raw_bits}
 use Rattle.bufr_data.specs.declared.compressed.index.ChosenPlaces.{ChosenPlaces}
 use Rattle.bufr_data.specs.declared.compressed.index.ColumnStart.{ColumnStart}
-use Rattle.bufr_data.specs.declared.plain.layout.CommonField.{CommonField}
+use Rattle.bufr_expand.specs.declared.even_turns.CommonField.{CommonField}
 use Rattle.bufr_data.specs.declared.plain.places.ChosenPlace.{ChosenPlace}
+use Rattle.bufr_data.specs.Compressed.{subset_of}
+use Rattle.bufr_data.specs.Compressed.Indexed.{Indexed}
 use Rattle.bufr_data.specs.Plain.{raw_at}
 use Rattle.bufr_data.specs.Short.{greatest_short}
 
@@ -74,3 +77,9 @@ chosen_places list places = filter (λ p. is_listed list p.fxy) places
 -- the places kept are those of the descriptors asked for
 abbrev pub AreChosen : List ColumnStart → ChosenPlaces → Type 0
 AreChosen places kept = kept.places.items ≡ chosen_places kept.asked places
+
+-- in each of the subsets, the fields of the columns are the chosen fields
+abbrev pub HaveChosen : List ℕ → List Subset → Indexed → Type 0
+HaveChosen list subsets found = (found.subsets ≡ length subsets)
+    × ((i : ℕ) → IfSome (slice_get subsets i) (λ s.
+    (subset_of found.columns i).fields ≡ chosen list s.fields))

@@ -10,11 +10,13 @@ use Rattle.bufr_fields.specs.declared.field.Field.{Field}
 use Rattle.bufr_data.specs.declared.compressed.index.ColumnStart.{ColumnStart}
 use Rattle.bufr_data.specs.declared.plain.fields.Due.{Due}
 use Rattle.bufr_data.specs.declared.plain.fields.Due.TheVariants.{Step, Text, Nothing}
-use Rattle.bufr_data.specs.declared.plain.layout.CommonField.{CommonField}
+use Rattle.bufr_expand.specs.declared.even_turns.CommonField.{CommonField}
 use Rattle.bufr_data.specs.Compressed.{field_of}
 use Rattle.bufr_data.specs.Compressed.Indexed.{AllOpen, column_from}
 use Rattle.bufr_data.specs.Plain.{fields_at}
-use Rattle.bufr_data.specs.Plain.Layouts.{laid_course}
+use Rattle.bufr_data.specs.declared.plain.laid_turns.LaidTurns.{LaidTurns}
+use Rattle.bufr_data.specs.Plain.LaidTurns.{fields_left}
+use Rattle.bufr_data.specs.Plain.Layouts.{laid_then}
 use Rattle.bufr_data.specs.Plain.Starts.{fields_of}
 use Rattle.bufr_fields.specs.Steady.{IsReady}
 
@@ -85,9 +87,28 @@ pub record StepsToNone (due : Due) (walk : Walk) (reader : BitPlace) (later : Du
   pub same : fields_ahead later after rest ≡ fields_ahead due walk reader
   pub next : IsNoStep later
 
+-- these fields in the bits left, and those of a later course
+abbrev pub fields_then : courses.Course → List CommonField → BitPlace → List Field
+fields_then later fields reader = fields_of (fields_at 1 1 (laid_then fields later) (left reader))
+
+-- the bits left hold all these fields, and those of a later course
+abbrev pub StandThen : courses.Course → List CommonField → BitPlace → Type 0
+StandThen later fields reader = IsOk (fields_at 1 1 (laid_then fields later) (left reader))
+
+-- the fields in the bits left: those of turns that the walk has passed, and those that it finds
+abbrev pub fields_from : Option LaidTurns → Due → Walk → BitPlace → List Field
+fields_from None due walk reader = fields_ahead due walk reader
+fields_from (Some laid) due walk reader = fields_then (walks.left walk) (fields_left laid) reader
+
+-- the bits left hold all fields; the walk comes after the turns that it has passed
+abbrev pub StandFrom : Option LaidTurns → Due → Walk → BitPlace → Type 0
+StandFrom None due walk reader = StandAhead due walk reader
+StandFrom (Some laid) due walk reader =
+    (due ≡ Step) × IsReady walk × StandThen (walks.left walk) (fields_left laid) reader
+
 -- the fields of a layout in the bits left
 abbrev pub fields_laid : List CommonField → BitPlace → List Field
-fields_laid fields reader = fields_of (fields_at 1 1 (laid_course fields) (left reader))
+fields_laid fields reader = fields_then (courses.ends 0) fields reader
 
 -- a reader `bits` bits further on
 abbrev pub moved_on : BitPlace → ℕ → BitPlace
@@ -95,7 +116,7 @@ moved_on reader bits = record reader { place = reader.place + bits }
 
 -- the bits left hold all fields of the layout
 abbrev pub StandLaid : List CommonField → BitPlace → Type 0
-StandLaid fields reader = IsOk (fields_at 1 1 (laid_course fields) (left reader))
+StandLaid fields reader = StandThen (courses.ends 0) fields reader
 
 -- fields of a layout are skipped, none of them chosen, with all their bits, and the others are
 -- there

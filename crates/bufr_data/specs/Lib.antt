@@ -8,6 +8,7 @@ pub mod Compressed
 pub mod Data
 pub mod Shown
 pub mod Handed
+pub mod Turns
 pub mod Chosen
 pub mod Short
 pub mod LentTexts

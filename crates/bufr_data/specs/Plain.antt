@@ -22,7 +22,9 @@ use Rattle.bufr_fields.specs.Fits.{FitsWithin, AllFitWithin}
 use Rattle.bufr_fields.specs.Limits.{most_raw_bits}
 pub mod Alike
 pub mod Even
+pub mod LaidTurns
 pub mod Layouts
+pub mod NumberTurns
 pub mod Numbered
 pub mod Reads
 pub mod Refusals

@@ -1,6 +1,7 @@
 //! Compressed data: one column for each field, with the values of all subsets (94.6.3).
 
 pub(crate) mod best;
+pub(crate) mod chosen_columns;
 pub(crate) mod fields;
 pub(crate) mod head;
 pub(crate) mod index;

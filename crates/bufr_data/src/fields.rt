@@ -1,16 +1,20 @@
 //! Hands out the fields of a subset one at a time.
 
-ghost use Rattle.std.specs.Prelude.{◌≡◌, Some, IfOk, IfErr, IfSome, IfNone, OnErr};
+ghost use Rattle.std.specs.Prelude.{◌≡◌, ◌++◌, List, Some, IfOk, IfErr, IfSome, IfNone, OnErr};
 ghost use Rattle.bufr_fields.specs.Values.{as_field};
 ghost use Rattle.std.specs.Bool.{OnTrue};
+ghost use Rattle.bufr_fields.specs.declared.field.Field.{Field};
 ghost use Rattle.bufr_data.specs.Handed.{HandsOut, HandsOutAsked, NoneAsked, PassesUnasked};
+ghost use Rattle.bufr_data.specs.Turns.{BeginsWith, OpensTurns, all_numbered};
 
 use crate::compressed::fields::ColumnFields;
 use crate::plain::fields::PlainFields;
 use crate::plain::laid_fields::LaidFields;
+use crate::plain::number_turns::NumberTurns;
 use bufr_base::{Items, OutOfMemory};
 use bufr_expand::{Asks, Spec};
 use bufr_fields::{Field, NumberField};
+use bufr_tables::Fxy;
 use std::alloc::Global;
 use std::marker::Model;
 
@@ -88,6 +92,29 @@ impl<'v> Fields<'v> {
             },
             FieldSource::Laid(fields) => fields.next_asked_number(asked),
             FieldSource::Compressed(fields) => fields.next_asked_number(asked),
+        }
+    }
+
+    /// Takes the turns that come next as numbers, each from the opener on, if they have the same
+    /// fields. Passes the fields before the first opener, none chosen, and leaves the last turn. Call
+    /// it once `next_asked_number` has returned `None`.
+    #[inline(always)]
+    pub fn take_turns<A: Asks>(
+        &mut self,
+        alloc: Global,
+        asked: &A,
+        opener: Fxy,
+    ) -> Result<Option<NumberTurns<'v>>, OutOfMemory>
+        ensures taken { IfOk result (λ found. IfSome found (λ turns. (passed : List Field)
+            × NoneAsked (A.is_asked asked.now) passed
+            × (self.old ≡ passed ++ (all_numbered turns.fields turns.turns ++ self.new))
+            × OpensTurns opener turns.fields × BeginsWith opener self.new)) }
+        ensures others { IfOk result (λ found. IfNone found (self.new ≡ self.old)) }
+        ensures err { OnErr result (self.new ≡ self.old) }
+    {
+        match &mut self.source {
+            FieldSource::Plain(fields) => fields.take_turns(alloc, asked, opener),
+            FieldSource::Laid(_) | FieldSource::Compressed(_) => Ok(None),
         }
     }
 

@@ -27,6 +27,7 @@ pub use bufr_fields::{
     MisfitFault, NumberField, Raw, Subset,
 };
 pub use chosen::ChosenFields;
+pub use compressed::chosen_columns::ChosenColumns;
 pub use compressed::index::Columns;
 pub use compressed::read::read_compressed;
 pub use compressed::write::write_compressed;
@@ -35,6 +36,7 @@ pub use descriptor_list::DescriptorList;
 pub use fields::Fields;
 pub use plain::copy::SUBSET_ROOM;
 pub use plain::laid_fields::LaidFields;
+pub use plain::number_turns::NumberTurns;
 pub use plain::read::read_plain;
 pub use plain::write::write_plain;
 pub use short::ShortNumber;

@@ -6,7 +6,7 @@ ghost use Rattle.bufr_bits.specs.Bits.{bits};
 ghost use Rattle.bufr_bits.specs.Ends.{left};
 ghost use Rattle.bufr_base.specs.Answers.{Gives};
 ghost use Rattle.bufr_fields.specs.declared.field.Subset.{Subset};
-ghost use Rattle.bufr_data.specs.Chosen.{chosen};
+ghost use Rattle.bufr_data.specs.Chosen.{HaveChosen, chosen};
 ghost use Rattle.bufr_data.specs.Data.{subsets_in};
 ghost use Rattle.bufr_data.specs.Plain.{plain};
 ghost use Rattle.bufr_data.specs.Plain.Alike.{IsAlike};
@@ -15,6 +15,7 @@ ghost use Rattle.bufr_data.specs.Shown.{shown};
 ghost use Rattle.bufr_data.specs.Subsets.{Extends, filled};
 
 use crate::chosen::{ChosenFields, ChosenSource};
+use crate::compressed::chosen_columns::ChosenColumns;
 use crate::compressed::index::Columns;
 use crate::fields::Fields;
 use crate::plain::copy::{SUBSET_ROOM, copy_bits, filled_octets, lent_octets};
@@ -136,6 +137,17 @@ impl<'a> SubsetIndex<'a> {
                     source: ChosenSource::Compressed(fields),
                 })
             }
+        }
+    }
+
+    /// Returns the columns with these descriptors, given by their 16 bits. `None` for plain data, or
+    /// if the index was made for another list.
+    pub fn chosen_columns(&self, asked: &[u16]) -> Option<ChosenColumns<'_>>
+        ensures { IfSome result (HaveChosen asked.now self.now) }
+    {
+        match &self.data_index {
+            DataIndex::Plain(_) => None,
+            DataIndex::Compressed(columns) => columns.chosen_columns(asked),
         }
     }
 

@@ -9,6 +9,8 @@ mod many;
 mod passed;
 mod refused;
 mod samples;
+mod taken_turns;
+mod turns;
 
 use std::fmt::Debug;
 use std::process::Abort;

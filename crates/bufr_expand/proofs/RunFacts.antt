@@ -1,13 +1,15 @@
 -- How runs join, and which nodes and turns are runs.
 use Rattle.std.proofs.Common.{◌≡◌, ℕ, zero, suc, ◌+◌, ◌*◌, ◌<◌, ◌≤◌, false, List, [], ◌∷◌, ◌++◌}
-use Rattle.std.proofs.Common.{length, drop, take, min, Option, Some, refl, sym, ap, ◌∙◌, subst}
+use Rattle.std.proofs.Common.{length, map, drop, take, min, Option, Some, refl, sym, ap, ◌∙◌, subst}
 use Rattle.std.proofs.Common.{length-append, inl, inr, arith}
-use Rattle.std.proofs.lemmas.List.{take_all, drop_all, take_more}
+use Rattle.std.proofs.lemmas.List.{take_all, drop_all, take_more, map-append}
+use Rattle.std.specs.List.{AllByRecursion}
 use Rattle.std.proofs.lemmas.Option.{get_or_from_slice_get, slice_get_within}
 use Rattle.std.specs.List.{slice_get}
 use Rattle.std.proofs.Common.{◌-◌}
 use Rattle.std.proofs.lemmas.Bool.{cases_lt}
 use Rattle.bufr_tables.specs.declared.element.Element.{Element}
+use Rattle.bufr_tables.specs.declared.element.Kind.{Kind}
 use Rattle.bufr_tables.specs.declared.element.Kind.TheVariants as kinds
 use Rattle.bufr_tables.specs.Elements.{same_kind}
 use Rattle.bufr_expand.specs.declared.node.Node.{Node}
@@ -26,7 +28,10 @@ use Rattle.bufr_expand.specs.Trees.{Tree, tree_of, tree_within}
 use Rattle.bufr_expand.specs.Unrolling.{NumberedField, After}
 use Rattle.bufr_expand.specs.Runs.{HasWidth, AddUp, Leads, no_run, joined_runs, turned_run}
 use Rattle.bufr_expand.specs.Runs.{behind_item, IsFieldRun, BeginsRun, TurnsRun, PassesRun}
-use Rattle.bufr_expand.specs.Runs.{IsInnermost, after_joined}
+use Rattle.bufr_expand.specs.Runs.{IsInnermost, HasLeft, after_joined}
+use Rattle.bufr_expand.specs.declared.even_turns.CommonField.{CommonField}
+use Rattle.bufr_expand.specs.declared.even_turns.EvenTurns.{EvenTurns}
+use Rattle.bufr_expand.specs.EvenTurns.{told, HaveNoCount, repeated, BeginsFields, PassesTurns}
 use Rattle.bufr_expand.specs.declared.walk_state.Open.{Open}
 use Rattle.bufr_expand.specs.declared.walk_state.State.TheVariants.{Going}
 use Rattle.bufr_expand.specs.declared.walk.Walk.{Walk}
@@ -36,6 +41,13 @@ use Rattle.bufr_expand.specs.Walks.{left, is_waiting, waits, items_met}
 use Rattle.bufr_expand.proofs.Between.{tree_of-repeated}
 use Rattle.bufr_expand.proofs.PassFacts.{item-below, left_going, entered}
 use Rattle.bufr_expand.proofs.SpecFacts.{in_table, effective_found}
+
+pub no_count : (kind : Kind) → (kind ≡ kinds.Count → ⊥) → same_kind kind kinds.Count ≡ false
+no_count kinds.Text not = refl
+no_count kinds.Code not = refl
+no_count kinds.Flag not = refl
+no_count kinds.Quantity not = refl
+no_count kinds.Count not = absurd (not refl)
 
 bits_joined : (xs ys : List NumberedField) (a b c : ℕ) → c ≡ a + b → AddUp xs a → AddUp ys b
     → AddUp (xs ++ ys) c
@@ -290,35 +302,191 @@ steady_going ns place stop os q used =
     steady_then (tree_between ns place stop) q used (behind_all ns os)
     (steady_behind ns os (λ q used. ends used) (λ q used. tt))
 
+pub has_left : (w v : Walk) (turn : Open) (items : ℕ) → v.state ≡ Going → v.nodes.now ≡ w.nodes.now
+    → v.place ≡ turn.to → v.stop ≡ turn.stop
+    → v.loops.items ≡ take (length w.loops.items - 1) w.loops.items
+    → v.operators ≡ w.operators → v.items ≡ w.items + items → HasLeft w turn items v
+unfolding waits items_met
+has_left w v turn items goes nodes place stop loops operators sum =
+    let os = take (length w.loops.items - 1) w.loops.items in
+    record {
+      course = left_going v os goes loops
+          ∙ ap (λ ns. going ns v.place v.stop os v.operators v.items) nodes
+          ∙ ap (λ p. going w.nodes.now p v.stop os v.operators v.items) place
+          ∙ ap (λ p. going w.nodes.now turn.to p os v.operators v.items) stop
+          ∙ ap (λ q. going w.nodes.now turn.to turn.stop os q v.items) operators
+          ∙ ap (λ n. going w.nodes.now turn.to turn.stop os w.operators n) sum;
+      answered = ap is_waiting goes;
+      items_are = sum;
+    }
+
+-- the course after a replication is steady
+left_steady : (w v : Walk) (turn : Open) (items : ℕ) → HasLeft w turn items v
+    → IsSteady (items_met v) (left v)
+left_steady w v turn items h =
+    subst (λ n. IsSteady n (left v)) (sym h.items_are)
+    (subst (IsSteady (w.items + items)) (sym h.course)
+    (steady_going w.nodes.now turn.to turn.stop (take (length w.loops.items - 1) w.loops.items)
+    w.operators (w.items + items)))
+
 pub turns_passed : (w v : Walk) (turn : Open) (r : Run) → IsInnermost w turn
     → w.items + r.items ≤ most_items
     → TurnsRun turn.turns (tree_between w.nodes.now turn.from turn.to) w.operators r
-    → 0 < r.items → v.state ≡ Going → v.nodes.now ≡ w.nodes.now → v.place ≡ turn.to
-    → v.stop ≡ turn.stop → v.loops.items ≡ take (length w.loops.items - 1) w.loops.items
-    → v.operators ≡ w.operators → v.items ≡ w.items + r.items → PassesRun w r v
-unfolding waits items_met
-turns_passed w v turn r inner room h some goes nodes place stop loops operators items =
+    → 0 < r.items → HasLeft w turn r.items v → PassesRun w r v
+unfolding items_met
+turns_passed w v turn r inner room h some has =
     let os = take (length w.loops.items - 1) w.loops.items in
-    let later : left v ≡ going w.nodes.now turn.to turn.stop os w.operators (w.items + r.items) =
-    left_going v os goes loops
-    ∙ ap (λ ns. going ns v.place v.stop os v.operators v.items) nodes
-    ∙ ap (λ p. going w.nodes.now p v.stop os v.operators v.items) place
-    ∙ ap (λ p. going w.nodes.now turn.to p os v.operators v.items) stop
-    ∙ ap (λ q. going w.nodes.now turn.to turn.stop os q v.items) operators
-    ∙ ap (λ n. going w.nodes.now turn.to turn.stop os w.operators n) items in
     record {
       leads =
           leads_from _ _ _ _ r
-          (entered w os turn inner.goes inner.loops_are inner.passed) (sym later)
+          (entered w os turn inner.goes inner.loops_are inner.passed) (sym has.course)
           (h.leads w.items (rest_then w.nodes.now turn.to turn.stop (behind_all w.nodes.now os))
           room);
-      answered = ap is_waiting goes;
-      steady =
-          subst (λ n. IsSteady n (left v)) (sym items)
-          (subst (IsSteady (w.items + r.items)) (sym later)
-          (steady_going w.nodes.now turn.to turn.stop os w.operators (w.items + r.items)));
+      answered = has.answered;
+      steady = left_steady w v turn r.items has;
       few = h.few;
       some_item = some;
-      items_are = items;
-      within = omega (arith, items, room);
+      items_are = has.items_are;
+      within = omega (arith, has.items_are, room);
+    }
+
+-- ---- turns with the same fields
+
+field_asks : (d used : ℕ) (found : Option Spec) (spec : Spec) (later : Course)
+    → used < most_items → found ≡ Some spec
+    → After (item used (asks_if found (used + 1) d (λ n. later)))
+    (record { fxy = d; spec = spec; number = 0 } ∷ []) later
+unfolding After
+field_asks d used found spec later room is =
+    subst (λ c. After c (record { fxy = d; spec = spec; number = 0 } ∷ []) later)
+    (sym (item-below used _ room ∙ ap (λ o. asks_if o (used + 1) d (λ n. later)) is))
+    (refl, refl, refl)
+
+pub element_begins : (d : ℕ) (e : Element) (rest : List Node) (q : Operators) (spec : Spec)
+    → effective d e q ≡ Some spec → same_kind spec.kind kinds.Count ≡ false
+    → BeginsFields (tree_of (nodes.Element d e ∷ rest)) q
+    (record { fxy = d; spec = spec } ∷ []) (tree_of rest)
+unfolding tree_within course_then
+element_begins d e rest q spec is kind = record {
+  no_count = (kind, tt);
+  asked = λ used after room.
+      field_asks d used (effective d e q) spec (course_then (tree_of rest) q (used + 1) after)
+      (omega (arith, room)) is;
+}
+
+pub untouched_begins : (d : ℕ) (e : Element) (rest : List Node) (q : Operators) (spec : Spec)
+    → untouched e ≡ Some spec → same_kind spec.kind kinds.Count ≡ false
+    → BeginsFields (tree_of (nodes.Untouched d e ∷ rest)) q
+    (record { fxy = d; spec = spec } ∷ []) (tree_of rest)
+unfolding tree_within course_then
+untouched_begins d e rest q spec is kind = record {
+  no_count = (kind, tt);
+  asked = λ used after room.
+      field_asks d used (untouched e) spec (course_then (tree_of rest) q (used + 1) after)
+      (omega (arith, room)) is;
+}
+
+pub none_begin : (t : Tree) (q : Operators) → BeginsFields t q [] t
+unfolding After
+none_begin t q = record {
+  no_count = tt;
+  asked = λ used after room.
+      let same : used ≡ used + 0 = omega arith in
+      ap (λ n. course_then t q n after) same;
+}
+
+all_joined : {X : Type 0} → (P : X → Type 0) (xs ys : List X) → AllByRecursion P xs
+    → AllByRecursion P ys → AllByRecursion P (xs ++ ys)
+all_joined P [] ys h g = g
+all_joined P (x ∷ xs) ys h g = (h.0, all_joined P xs ys h.1 g)
+
+pub one_begins : (a b c : Tree) (q : Operators) (fields grown : List CommonField) (f : CommonField)
+    → grown ≡ fields ++ f ∷ [] → BeginsFields a q fields b → BeginsFields b q (f ∷ []) c
+    → BeginsFields a q grown c
+one_begins a b c q fields grown f is h g =
+    subst (λ fs. BeginsFields a q fs c) (sym is) (record {
+      no_count = all_joined (λ f. same_kind f.spec.kind kinds.Count ≡ false) fields (f ∷ [])
+          h.no_count g.no_count;
+      asked = λ used after room.
+          let size : length (fields ++ f ∷ []) ≡ length fields + 1 =
+          length-append fields (f ∷ []) in
+          let same : used + length fields + 1 ≡ used + length (fields ++ f ∷ []) =
+          omega (arith, size) in
+          subst (λ fs. After (course_then a q used after) fs
+          (course_then c q (used + length (fields ++ f ∷ [])) after))
+          (sym (map-append told fields (f ∷ [])))
+          (after_joined _ (course_then b q (used + length fields) after) _ (map told fields)
+          (told f ∷ []) (h.asked used after (omega (arith, room, size)))
+          (subst (λ n. After (course_then b q (used + length fields) after) (told f ∷ [])
+          (course_then c q n after)) same
+          (g.asked (used + length fields) after (omega (arith, room, size)))));
+    })
+
+pub count_repeated : (n : ℕ) (fields : List CommonField) → HaveNoCount fields
+    → HaveNoCount (repeated n fields)
+unfolding repeated
+count_repeated zero fields none = tt
+count_repeated (suc n) fields none =
+    all_joined (λ f. same_kind f.spec.kind kinds.Count ≡ false) fields (repeated n fields) none
+    (count_repeated n fields none)
+
+turns_ask : (n : ℕ) (t : Tree) (q : Operators) (fields : List CommonField)
+    → BeginsFields t q fields trees.done → (used : ℕ) (after : Then)
+    → used + n * (1 + length fields) ≤ most_items
+    → After (turns n (course_then t) q used after) (map told (repeated n fields))
+    (after q (used + n * (1 + length fields)))
+unfolding turns course_then repeated After
+turns_ask zero t q fields h used after room =
+    let same : used ≡ used + 0 * (1 + length fields) = omega arith in
+    ap (after q) same
+turns_ask (suc n) t q fields h used after room =
+    let items = turn_items n (length fields) in
+    let others =
+    turns_ask n t q fields h (used + 1 + length fields) after (omega (arith, items, room)) in
+    let next : used + 1 + length fields + n * (1 + length fields)
+    ≡ used + suc n * (1 + length fields) =
+    omega (arith, items) in
+    let after_turn : Then = λ q used. turns n (course_then t) q used after in
+    let last = after q (used + suc n * (1 + length fields)) in
+    subst (λ c. After c (map told (fields ++ repeated n fields)) last)
+    (sym (item-below used (course_then t q (used + 1) after_turn) (omega (arith, items, room))))
+    (subst (λ fs. After (course_then t q (used + 1) after_turn) fs last)
+    (sym (map-append told fields (repeated n fields)))
+    (after_joined _ _ last (map told fields) (map told (repeated n fields))
+    (h.asked (used + 1) after_turn (omega (arith, items, room)))
+    (subst (λ m. After (turns n (course_then t) q (used + 1 + length fields) after)
+    (map told (repeated n fields)) (after q m)) next others)))
+
+pub even_turns_passed : (w v : Walk) (turn : Open) (found : EvenTurns) (items : ℕ)
+    → IsInnermost w turn → w.items + items ≤ most_items → 0 < turn.turns
+    → BeginsFields (tree_between w.nodes.now turn.from turn.to) w.operators found.fields.items
+    trees.done
+    → found.turns ≡ turn.turns → items ≡ turn.turns * (length found.fields.items + 1)
+    → HasLeft w turn items v → PassesTurns w found v
+unfolding items_met
+even_turns_passed w v turn found items inner room some h same sum has =
+    let os = take (length w.loops.items - 1) w.loops.items in
+    let fields = found.fields.items in
+    let tree = tree_between w.nodes.now turn.from turn.to in
+    let then = rest_then w.nodes.now turn.to turn.stop (behind_all w.nodes.now os) in
+    let each : items ≡ turn.turns * (1 + length fields) = grind (arith, sum) in
+    let fits : w.items + turn.turns * (1 + length fields) ≤ most_items = omega (arith, each, room) in
+    let last : then w.operators (w.items + turn.turns * (1 + length fields)) ≡ left v =
+    ap (λ n. then w.operators (w.items + n)) (sym each) ∙ sym has.course in
+    let few = turns_count turn.turns (length fields) in
+    record {
+      no_count =
+          subst (λ n. HaveNoCount (repeated n fields)) (sym same)
+          (count_repeated turn.turns fields h.no_count);
+      asked =
+          subst (λ n. After (left w) (map told (repeated n fields)) (left v)) (sym same)
+          (subst (λ c. After c (map told (repeated turn.turns fields)) (left v))
+          (sym (entered w os turn inner.goes inner.loops_are inner.passed))
+          (subst (After (turns turn.turns (course_then tree) w.operators w.items then)
+          (map told (repeated turn.turns fields))) last
+          (turns_ask turn.turns tree w.operators fields h w.items then fits)));
+      answered = has.answered;
+      steady = left_steady w v turn items has;
+      further = omega (arith, has.items_are, each, few, some);
+      within = omega (arith, has.items_are, room);
     }

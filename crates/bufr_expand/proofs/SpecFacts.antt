@@ -15,7 +15,6 @@ use Rattle.bufr_tables.specs.declared.element.Element.{Element}
 use Rattle.bufr_tables.specs.declared.element.Kind.{Kind}
 use Rattle.bufr_tables.specs.declared.element.Kind.TheVariants as kinds
 use Rattle.bufr_tables.specs.Descriptors.{x_of}
-use Rattle.bufr_expand.specs.contracts.operators.OperatorsPartialEq.TheImpl as operators_eq
 use Rattle.bufr_expand.specs.declared.operators.Operators.{Operators}
 use Rattle.bufr_expand.specs.declared.operators.Spec.{Spec}
 use Rattle.bufr_expand.specs.Limits.{most_number_bits, most_text_bits, most_scale, most_reference}
@@ -338,33 +337,17 @@ effective_none d e =
       | inr (inr k) ↦ plain_kind e.kind d e none_in_force k.0 k.1
     ]
 
--- operators, by their operands
-abbrev of_operands : Option ℕ → Option ℕ → Option ℕ → Option ℕ → Operators
-of_operands w s i c = record { add_width = w; add_scale = s; increase = i; characters = c }
-
-no_operands : (w s i c : Option ℕ)
-    → operators_eq.ghosts.eq (of_operands w s i c) none_in_force ≡ true
-    → of_operands w s i c ≡ none_in_force
-no_operands None None None None h = refl
-no_operands (Some w) s i c h = cc
-no_operands None (Some s) i c h = cc
-no_operands None None (Some i) c h = cc
-no_operands None None None (Some c) h = cc
-
 given_spec : {E : Type 0} (o found : Option Spec) (error : E) → o ≡ found
     → MatchResult (ok_or o error) (λ s. found ≡ Some s) (λ f. (f ≡ error) × (found ≡ None))
 given_spec None found error h = (refl, sym h)
 given_spec (Some s) found error h = sym h
 
--- the spec of an element under operators that equal none
-pub given_untouched : {E : Type 0} (d : ℕ) (e : Element) (q none : Operators) (o : Option Spec)
-    (error : E) → true ≡ operators_eq.ghosts.eq q none → none ≡ none_in_force → o ≡ untouched e
+-- the spec of an element if no operator is in force
+pub given_untouched : {E : Type 0} (d : ℕ) (e : Element) (q : Operators) (o : Option Spec)
+    (error : E) → q ≡ none_in_force → o ≡ untouched e
     → MatchResult (ok_or o error) (λ s. effective d e q ≡ Some s)
     (λ f. (f ≡ error) × (effective d e q ≡ None))
-given_untouched d e q none o error same is given =
-    let P : Operators → Type 0 = λ n. operators_eq.ghosts.eq q n ≡ true in
-    let idle : q ≡ none_in_force =
-    no_operands q.add_width q.add_scale q.increase q.characters (subst P is (sym same)) in
+given_untouched d e q o error idle given =
     let spec : o ≡ effective d e q =
     given ∙ sym (effective_none d e) ∙ ap (effective d e) (sym idle) in
     given_spec o (effective d e q) error spec

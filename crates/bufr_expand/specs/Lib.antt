@@ -2,6 +2,7 @@ pub mod Asked
 pub mod NextFields
 pub mod Courses
 pub mod Effects
+pub mod EvenTurns
 pub mod WorkedTables
 pub mod Expansion
 pub mod FirstFaults

@@ -16,7 +16,7 @@ use Rattle.bufr_expand.specs.Courses.{Course, ends, stops, asks, Then, turns, co
 use Rattle.bufr_expand.specs.Steady.{IsSteady}
 use Rattle.bufr_expand.specs.Trees.{Tree}
 use Rattle.bufr_expand.specs.Unrolling.{NumberedField, After}
-use Rattle.bufr_expand.specs.Walks.{left, waits, items_met}
+use Rattle.bufr_expand.specs.Walks.{left, going, waits, items_met}
 
 -- ---- from one course to another
 
@@ -106,6 +106,13 @@ pub record IsInnermost (w : Walk) (turn : Open) : Type 0 where
   pub goes : w.state ≡ Going
   pub passed : w.stop ≤ w.place
   pub loops_are : w.loops.items ≡ take (length w.loops.items - 1) w.loops.items ++ turn ∷ []
+
+-- a walk has left a replication after all turns, with these items
+pub record HasLeft (old : Walk) (turn : Open) (items : ℕ) (new : Walk) : Type 0 where
+  pub course : left new ≡ going old.nodes.now turn.to turn.stop
+      (take (length old.loops.items - 1) old.loops.items) old.operators (old.items + items)
+  pub answered : waits new ≡ false
+  pub items_are : items_met new ≡ old.items + items
 
 -- ---- a law for proofs about walks
 

@@ -3,6 +3,7 @@
 #![tactic(auto)]
 
 mod asks;
+mod even_turns;
 mod expand;
 pub mod laws;
 mod limits;
@@ -17,6 +18,7 @@ mod worked_values;
 
 pub use asks::Asks;
 pub use bufr_base::{Failure, OutOfMemory};
+pub use even_turns::{CommonField, EvenTurns};
 pub use limits::{
     MOST_FACTOR_BITS, MOST_ITEMS, MOST_NODES, MOST_NUMBER_BITS, MOST_REFERENCE,
     MOST_REPLICATION_LEVELS, MOST_SCALE, MOST_SEQUENCE_LEVELS, MOST_TEXT_BITS,

@@ -2,6 +2,7 @@
 
 ghost use Rattle.std.specs.Prelude.{◌≡◌, ◌⊎◌, ◌≤ℤ◌, pos, negsuc};
 ghost use Rattle.std.specs.Prelude.{Some, None, MatchResult};
+ghost use Rattle.std.specs.Bool.{OnTrue};
 ghost use Rattle.bufr_tables.specs.Descriptors.{f_of, x_of};
 ghost use Rattle.bufr_expand.specs.OperatorsInForce as operating;
 ghost use Rattle.bufr_expand.specs.OperatorsInForce.{none_in_force, in_force_after, effective, untouched};
@@ -55,6 +56,22 @@ impl Operators {
         }
     }
 
+    /// Returns whether no operator is in force.
+    #[inline(always)]
+    fn are_none(&self) -> bool
+        ensures { OnTrue result (self.now ≡ none_in_force) }
+    {
+        matches!(
+            self,
+            Operators {
+                add_width: None,
+                add_scale: None,
+                increase: None,
+                characters: None,
+            }
+        )
+    }
+
     /// Applies 201, 202, 207 or 208; a Y of 0 cancels.
     pub fn apply(&mut self, op: Fxy)
         requires operator { f_of op ≡ 2 }
@@ -70,7 +87,7 @@ impl Operators {
         ensures { MatchResult result (λ s. effective fxy element.now self.now ≡ Some s)
             (λ e. (e ≡ record { 0 = fxy }) × (effective fxy element.now self.now ≡ None)) }
     {
-        if *self == Operators::none() {
+        if self.are_none() {
             return untouched(element).ok_or(EffectiveRange(fxy));
         }
         let (_, x, _) = fxy.parts();
@@ -165,6 +182,7 @@ fn text_spec(width: u32) -> Option<Spec>
 }
 
 /// Returns the spec of an element that no operator changes.
+#[inline(always)]
 pub(crate) fn untouched(element: &Element) -> Option<Spec>
     ensures { result ≡ untouched element.now }
 {

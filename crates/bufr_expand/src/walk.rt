@@ -10,6 +10,7 @@ ghost use Rattle.std.specs.Prelude.{true};
 ghost use Rattle.std.specs.Bool.{OnTrue};
 
 use crate::asks::Asks;
+use crate::even_turns::{EvenTurns, fields_of};
 use crate::limits::MOST_ITEMS;
 use crate::node::Node;
 use crate::operators::{Operators, Spec, untouched};
@@ -62,7 +63,7 @@ pub struct Walk<'t> {
 }
 
 impl<'t> Walk<'t> {
-    ghost use Rattle.std.specs.Prelude.{◌<◌, ◌*◌, false, IfOk, IfSome, IfNone, option_map};
+    ghost use Rattle.std.specs.Prelude.{◌<◌, ◌*◌, false, IfOk, IfSome, IfNone, OnErr};
     ghost use Rattle.bufr_expand.specs.OperatorsInForce.{in_force_after, untouched};
     ghost use Rattle.bufr_expand.specs.Limits.{most_items};
     ghost use Rattle.bufr_expand.specs.Trees.{tree_of};
@@ -70,7 +71,8 @@ impl<'t> Walk<'t> {
     ghost use Rattle.bufr_expand.specs.Walks.{left, waits, items_met, steps_left, going, after_count};
     ghost use Rattle.bufr_expand.specs.Walks.{turns_then, behind_all, Goes, Counted, IsBelowCount};
     ghost use Rattle.bufr_expand.specs.Asked.{TellsNone};
-    ghost use Rattle.bufr_expand.specs.Runs.{PassesRun};
+    ghost use Rattle.bufr_expand.specs.Runs.{PassesRun, IsInnermost, HasLeft};
+    ghost use Rattle.bufr_expand.specs.EvenTurns.{PassesTurns};
     ghost use Rattle.bufr_expand.specs.declared.walk_state.State.TheVariants.{Going};
     ghost use Rattle.bufr_expand.specs.declared.walk.Step.TheVariants.{Field};
     ghost use Rattle.std.specs.Prelude.{Ok};
@@ -136,6 +138,49 @@ impl<'t> Walk<'t> {
         ensures enough { IfSome result (λ run. run.bits ≤ most) }
         ensures unmoved { IfNone result (self.new ≡ self.old) }
     {
+        let turn = self.turns_left()?;
+        let body = &self.nodes[turn.from..turn.to];
+        let run = turns_run(turn.turns, body, &self.operators)?;
+        if run.bits > most || run.items > MOST_ITEMS - self.items {
+            return None;
+        }
+        self.leave(turn, run.items);
+        Some(run)
+    }
+
+    /// Passes all turns left of a replication, if their nodes are elements and none is a count.
+    pub fn lay_turns(&mut self, alloc: Global) -> Result<Option<EvenTurns>, OutOfMemory>
+        requires { waits self.old ≡ false }
+        ensures passed { IfOk result (λ found. IfSome found (λ turns.
+            PassesTurns self.old turns self.new)) }
+        ensures unmoved { IfOk result (λ found. IfNone found (self.new ≡ self.old)) }
+        ensures err { OnErr result (self.new ≡ self.old) }
+    {
+        let Some(turn) = self.turns_left() else {
+            return Ok(None);
+        };
+        let body = &self.nodes[turn.from..turn.to];
+        let Some(fields) = fields_of(alloc, body, &self.operators)? else {
+            return Ok(None);
+        };
+        let turns = turn.turns;
+        match turns.checked_mul(fields.len() as u64 + 1) {
+            Some(items) if items <= MOST_ITEMS - self.items => {
+                self.leave(turn, items);
+                Ok(Some(EvenTurns { turns, fields }))
+            }
+            _ => Ok(None),
+        }
+    }
+
+    /// Returns the innermost replication if the nodes at hand are passed and turns of it are left.
+    fn turns_left(&self) -> Option<Open>
+        ensures innermost { IfSome result (IsInnermost self.now) }
+        ensures some { IfSome result (λ turn. 0 < turn.turns) }
+        ensures room { IfSome result (λ turn. self.now.items ≤ most_items) }
+        ensures order { IfSome result (λ turn. turn.from ≤ turn.to) }
+        ensures within { IfSome result (λ turn. turn.to ≤ length self.now.nodes.now) }
+    {
         if !matches!(self.state, State::Going) || self.place < self.stop {
             return None;
         }
@@ -143,16 +188,19 @@ impl<'t> Walk<'t> {
         if turn.turns == 0 || self.items > MOST_ITEMS {
             return None;
         }
-        let body = &self.nodes[turn.from..turn.to];
-        let run = turns_run(turn.turns, body, &self.operators)?;
-        if run.bits > most || run.items > MOST_ITEMS - self.items {
-            return None;
-        }
+        Some(turn)
+    }
+
+    /// Leaves the innermost replication after all turns left, which have these items.
+    fn leave(&mut self, turn: Open, items: u64)
+        requires innermost { IsInnermost self.old turn }
+        requires room { self.old.items + items ≤ most_items }
+        ensures { HasLeft self.old turn items self.new }
+    {
         self.loops.pop();
-        self.items += run.items;
+        self.items += items;
         self.place = turn.to;
         self.stop = turn.stop;
-        Some(run)
     }
 
     /// Steps past the next field if an element comes next whose field is no count. Returns its

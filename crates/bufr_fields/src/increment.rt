@@ -20,12 +20,11 @@ pub fn raised(width: u32, minimum: u64, k: u32, increment: u64) -> Option<u64>
     if is_greatest(increment, k) {
         return Some(greatest(width));
     }
-    let value = u128::from(minimum) + u128::from(increment);
-    if value < 1 << width {
-        Some(value as u64)
-    } else {
-        None
+    let most = greatest(width);
+    if minimum > most || increment > most - minimum {
+        return None;
     }
+    Some(minimum + increment)
 }
 
 /// Returns the greatest number of `width` bits.

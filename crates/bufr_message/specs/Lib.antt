@@ -45,6 +45,7 @@ pub use Rattle.bufr_data.specs.Handed
 pub use Rattle.bufr_data.specs.Kept as KeptTemplates
 pub use Rattle.bufr_data.specs.LeftFields
 pub use Rattle.bufr_data.specs.Short
+pub use Rattle.bufr_data.specs.Turns
 pub use Rattle.bufr_fields.specs.Values
 pub use Rattle.bufr_expand.specs.Reasons as TemplateReasons
 pub use Rattle.bufr_expand.specs.Templates

@@ -20,8 +20,8 @@ mod worked_values;
 
 pub use bufr_base::{Failure, Items, OutOfMemory};
 pub use bufr_data::{
-    ChosenFields, DataFault, Decimal, Field, Fields, LentText, MisfitFault, NumberField, Raw,
-    SUBSET_ROOM, ShortNumber, Subset, TemplateCache,
+    ChosenColumns, ChosenFields, DataFault, Decimal, Field, Fields, LentText, MisfitFault,
+    NumberField, NumberTurns, Raw, SUBSET_ROOM, ShortNumber, Subset, TemplateCache,
 };
 pub use bufr_expand::{Asks, Spec, TemplateFault};
 pub use bufr_sections::{Decoded, EncodeFault, Head, LentSections, Message, Refused};

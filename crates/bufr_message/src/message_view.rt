@@ -6,7 +6,7 @@ ghost use Rattle.bufr_bits.specs.Bits.{bits};
 ghost use Rattle.bufr_base.specs.Answers.{Gives, result_map};
 ghost use Rattle.bufr_tables.specs.Entries.{Entries};
 ghost use Rattle.bufr_fields.specs.declared.field.Subset.{Subset};
-ghost use Rattle.bufr_data.specs.Chosen.{chosen};
+ghost use Rattle.bufr_data.specs.Chosen.{HaveChosen, chosen};
 ghost use Rattle.bufr_data.specs.Data.{subsets_in};
 ghost use Rattle.bufr_data.specs.Kept.{AreKept};
 ghost use Rattle.bufr_sections.specs.declared.message.Decoded.{Decoded};
@@ -29,7 +29,8 @@ use bufr_base::{Failure, Items, OutOfMemory};
 use bufr_bits::{BitReader, BitSink};
 use bufr_data::laws::data_hold_subsets;
 use bufr_data::{
-    CachedTemplate, ChosenFields, DataFault, DataTemplate, Fields, SUBSET_ROOM, Subset, SubsetIndex,
+    CachedTemplate, ChosenColumns, ChosenFields, DataFault, DataTemplate, Fields, SUBSET_ROOM,
+    Subset, SubsetIndex,
 };
 use bufr_sections::{
     Decoded, Envelope, Head, LentSections, Message, Refused, SectionsInPlace, are_bare,
@@ -146,6 +147,14 @@ impl<'a> View<'a> {
             fields ≡ chosen asked.now s.fields)) }
     {
         self.subsets.chosen(asked, index)
+    }
+
+    /// Returns the columns of these elements, given by their 16 bits. `None` for plain data, or if
+    /// the message's reader was made for another list.
+    pub fn chosen_columns(&self, asked: &[u16]) -> Option<ChosenColumns<'_>>
+        ensures { IfSome result (HaveChosen asked.now self.now.message.subsets) }
+    {
+        self.subsets.chosen_columns(asked)
     }
 
     /// Builds the report of this number, from 1.

@@ -142,6 +142,15 @@ asked_none P all old new so_far empty none =
 
 -- ---- a subset with chosen fields
 
+-- what holds of the subset at an index
+pub subset_put : (subsets : List Subset) (i : ℕ) (P : Subset → Type 0) → i < length subsets
+    → IfSome (slice_get subsets i) P → (s : Subset) × (slice_get subsets i ≡ Some s) × P s
+subset_put subsets i P within holds =
+    let s = get_or subsets i (record { fields = [] }) in
+    let there : slice_get subsets i ≡ Some s =
+    slice_get-get_or subsets i (record { fields = [] }) within in
+    (s, there, rw there at holds)
+
 -- the subset whose chosen fields these are
 pub subset_there : (list : List ℕ) (i : ℕ) (subsets : List Subset) (fields : List Field)
     → i < length subsets → IfSome (slice_get subsets i) (λ s. fields ≡ chosen list s.fields)

@@ -68,7 +68,7 @@ by_kind kinds.Quantity width octets form = absurd cc
 by_kind kinds.Count width octets form = absurd cc
 
 -- the text of a field
-lent_shown : (f : Field) (fxy : ℕ) (octets : List ℕ) → HasOctets f fxy octets
+pub lent_shown : (f : Field) (fxy : ℕ) (octets : List ℕ) → HasOctets f fxy octets
     → shown_value f ≡ shown_octets octets
 lent_shown f fxy octets has =
     let kind = f.spec.kind in

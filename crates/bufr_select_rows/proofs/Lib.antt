@@ -17,3 +17,5 @@ mod SettledFacts
 mod ShortFacts
 mod LentFacts
 mod ChosenFacts
+mod SourceFacts
+mod TurnFacts

@@ -1,17 +1,22 @@
 -- The rows of a subset, field by field, and of a message, subset by subset: the contracts of
 -- `put_fields` and `put_message`.
 use Rattle.std.proofs.Common.{◌≡◌, ℕ, ◌+◌, ◌||◌, Bool, true, false, not, List, [], ◌∷◌, ◌++◌, Option, Some, None, map}
-use Rattle.std.proofs.Common.{drop, length, take, refl, sym, ap, ◌∙◌, subst, arith}
+use Rattle.std.proofs.Common.{cond, drop, length, take, refl, sym, ap, ◌∙◌, subst, arith}
 use Rattle.std.specs.List.{slice_get}
 use Rattle.std.specs.Option.{is_some}
+use Rattle.std.specs.Prelude.{IfNone}
 use Rattle.std.proofs.lemmas.List.{append-nil, at_drop_all, at_drop_more, take_all}
 use Rattle.std.proofs.lemmas.Option.{get_or_from_slice_get, slice_get_within}
 use Rattle.bufr_fields.specs.declared.field.Field.{Field}
+use Rattle.bufr_fields.specs.declared.field.NumberField.{NumberField}
 use Rattle.bufr_fields.specs.declared.field.Subset.{Subset}
-use Rattle.bufr_data.specs.Handed.{HandsOutAsked}
+use Rattle.bufr_bits.specs.Devices.{Writing}
+use Rattle.bufr_data.specs.Handed.{HandsOutAsked, PassesUnasked}
+use Rattle.bufr_io.specs.HeldLaws.{PutsSome}
+use Rattle.bufr_io.specs.declared.held_rows.HeldRows.{HeldRows}
 use Rattle.bufr_select_rows.specs.Asks.{Covers, IsSetOf}
-use Rattle.bufr_select_rows.specs.Cells.{after_field, begun, due, ended, fresh, opens, opens_at_once}
-use Rattle.bufr_select_rows.specs.Cells.{rows_left}
+use Rattle.bufr_select_rows.specs.Cells.{after_field, begun, due, ended, fresh, noted, opened, opens, opens_at_once}
+use Rattle.bufr_select_rows.specs.Cells.{NotesUpTo, rows_left}
 use Rattle.bufr_select_rows.specs.CellLaws.{cells_begun, rows_due, rows_none, rows_passed, rows_step}
 use Rattle.bufr_select_rows.specs.Rows.{Origin, rows}
 use Rattle.bufr_select_rows.specs.declared.cell.Cell.{Cell}
@@ -66,6 +71,17 @@ field_next asked each cells cells' in_span in_span' f old new covers hands cells
     (sym cells_are)
     ∙ ap (λ b. due each in_span cells f ++ rows_left each cells' b new) (sym span_is)
 
+-- it opens no other span than the open one
+pub span_next : (asked : ℕ → Bool) (each : Option ℕ) (cells cells' : List Cell) (f : Field)
+    (old new : List Field) → Covers asked each (map (λ c. c.column) cells)
+    → HandsOutAsked asked old (Some f) new → opens each f ≡ false → cells' ≡ map (noted true f) cells
+    → rows_left each cells true old ≡ rows_left each cells' true new
+span_next asked each cells cells' f old new covers hands closed is =
+    field_next asked each cells cells' true true f old new covers hands
+    (is ∙ sym (ap (λ b. cond b (map (noted true f) (map opened cells)) (map (noted true f) cells)) closed))
+    refl
+    ∙ ap (λ b. cond b (ended true cells) [] ++ rows_left each cells' true new) closed
+
 -- it is put, or that stops
 pub field_due : (asked : ℕ → Bool) (each : Option ℕ) (cells : List Cell) (in_span : Bool)
     (f : Field) (old new : List Field) → Covers asked each (map (λ c. c.column) cells)
@@ -84,6 +100,23 @@ rows_last asked each cells in_span old new covers hands =
     ap (rows_left each cells in_span) (sym (append-nil old))
     ∙ rows_passed asked each cells in_span old [] covers hands.0
     ∙ rows_none each cells in_span
+
+-- more fields were noted, and the same rows are due
+pub some_noted : (each : Option ℕ) (in_span : Bool) (cells : List Cell) (fields : List Field)
+    (cells' : List Cell) (mid : List Field) (whole : List ℕ) (r r' : HeldRows) (w w' : Writing)
+    → NotesUpTo each in_span cells fields cells' mid
+    → PutsSome whole (rows_left each cells in_span fields) r w r' w'
+    → PutsSome whole (rows_left each cells' in_span mid) r w r' w'
+some_noted each in_span cells fields cells' mid whole r r' w w' notes puts =
+    subst (λ t. PutsSome whole t r w r' w') notes.0 puts
+
+-- no field was noted, and none comes next
+pub none_noted : (asked : ℕ → Bool) (each : Option ℕ) (in_span : Bool) (cells : List Cell)
+    (old new : List Field) (found : Option NumberField) → IfNone found (PassesUnasked asked old new)
+    → IfNone found ((mid : List Field) × NotesUpTo each in_span cells old cells mid
+    × PassesUnasked asked mid new)
+none_noted asked each in_span cells old new None passes = (old, (refl, refl, omega (arith)), passes)
+none_noted asked each in_span cells old new (Some n) passes = tt
 
 -- ---- subset by subset
 

@@ -213,3 +213,17 @@ row_before f xs x shown row ended mid new end start begin some first more is las
     ∙ sym (append_assoc head tail (10 ∷ []))
     ∙ row_pieces f xs x [] head (head ++ tail) ((head ++ tail) ++ 10 ∷ []) shown some first more is
     refl refl refl
+
+-- so it is with the first field and the others apart
+pub row_first : {A : Type 0} (f : A → List ℕ) (xs : List A) (x : A) (others : List A)
+    (row ended mid new : List ℕ) (end start begin : ℕ) → xs ≡ x ∷ others
+    → (length others == 0) ≡ false → end + 1 ≡ length row → ended ≡ set row end 10
+    → drop start mid ≡ fields_text default_writer (map f others) ++ drop end ended
+    → drop begin new ≡ field_text default_writer (f x) ++ drop start mid
+    → drop begin new ≡ row_text default_writer (map f xs)
+row_first f xs x others row ended mid new end start begin is more last set_is fields written =
+    let tail = tail_all (x ∷ others) in
+    row_before f (x ∷ others) x (f x) row ended mid new end start begin (omega arith) refl
+    (ap (λ ys. length ys == 0) tail ∙ more) refl last set_is
+    (fields ∙ ap (λ ys. fields_text default_writer (map f ys) ++ drop end ended) (sym tail)) written
+    ∙ ap (λ ys. row_text default_writer (map f ys)) (sym is)

@@ -2,8 +2,10 @@
 use Rattle.std.proofs.Common.{◌≡◌, ℕ, ◌&&◌, Bool, true, false, List, [], ◌∷◌, ◌++◌, refl, sym, ap, ◌∙◌}
 use Rattle.std.proofs.Common.{cond, Result, Ok, Err, OnOk, is_ok, take, get_or, length, ◌-◌, ◌+◌, ◌≤◌, ◌<◌, arith}
 use Rattle.std.proofs.lemmas.List.{take_all, take_more}
-use Rattle.std.specs.Prelude.{if◌then◌else◌}
+use Rattle.std.specs.Prelude.{if◌then◌else◌, ◌||◌, not}
 use Rattle.std.specs.List.{list_all}
+use Rattle.csv.specs.Writing.{default_writer, needs_byte, needs_quotes}
+use Rattle.bufr_select_rows.specs.TextCells.{is_plain}
 use Rattle.bufr_select_rows.specs.Values.{is_padding, is_shown_as_itself, shown_text}
 use Rattle.bufr_select_rows.specs.Values.{trimmed}
 
@@ -63,6 +65,37 @@ shown_themselves (c ∷ octets) all =
         → shown_text (c ∷ octets) ≡ c ∷ octets
     by true one rest more = rw one (ap (λ (t : List ℕ). c ∷ t) (more rest))
     by false one rest more = absurd cc
+
+-- plain octets are shown as themselves
+pub plain_themselves : (octets : List ℕ) → list_all is_plain octets ≡ true
+    → list_all is_shown_as_itself octets ≡ true
+plain_themselves [] all = refl
+plain_themselves (c ∷ octets) all =
+    by (is_shown_as_itself c) (not (needs_byte default_writer c)) refl all
+    (λ rest. plain_themselves octets rest)
+  where
+    by : (a b : Bool) → is_shown_as_itself c ≡ a → ((a && b) && list_all is_plain octets) ≡ true
+        → (list_all is_plain octets ≡ true → list_all is_shown_as_itself octets ≡ true)
+        → (is_shown_as_itself c && list_all is_shown_as_itself octets) ≡ true
+    by true true one rest more = rw one (more rest)
+    by true false one rest more = absurd cc
+    by false b one rest more = absurd cc
+
+-- a field of plain octets needs no quotes
+pub plain_bare : (octets : List ℕ) → list_all is_plain octets ≡ true
+    → needs_quotes default_writer octets ≡ false
+plain_bare [] all = refl
+plain_bare (c ∷ octets) all =
+    by (is_shown_as_itself c) (needs_byte default_writer c) refl all
+    (λ rest. plain_bare octets rest)
+  where
+    by : (a b : Bool) → needs_byte default_writer c ≡ b
+        → ((a && not b) && list_all is_plain octets) ≡ true
+        → (list_all is_plain octets ≡ true → needs_quotes default_writer octets ≡ false)
+        → (needs_byte default_writer c || needs_quotes default_writer octets) ≡ false
+    by true false one rest more = rw one (more rest)
+    by true true one rest more = absurd cc
+    by false b one rest more = absurd cc
 
 -- ---- the end of a text
 

@@ -22,7 +22,7 @@ use Rattle.bufr_select_rows.specs.declared.column.Column.TheVariants as columns
 -- ---- lists
 
 -- one function after another
-map_twice : {A B C : Type 0} (h : B → C) (g : A → B) (xs : List A)
+pub map_twice : {A B C : Type 0} (h : B → C) (g : A → B) (xs : List A)
     → map h (map g xs) ≡ map (λ x. h (g x)) xs
 map_twice h g [] = refl
 map_twice h g (x ∷ xs) = ap (λ ys. h (g x) ∷ ys) (map_twice h g xs)
@@ -37,22 +37,22 @@ map_same h g same (x ∷ xs) =
 -- ---- the text of a cell, given the fields that are left of its span
 
 -- the fields of a column
-abbrev matching : Column → List Field → List Field
+abbrev pub matching : Column → List Field → List Field
 matching (columns.Fact fact) fields = []
 matching (columns.First d) fields = fields_with d fields
 matching (columns.Nth d n) fields = fields_with d fields
 
 -- the text of a cell after more fields of its column, by the number that is ahead
-abbrev left_at : ℕ → List Field → List ℕ → List ℕ → List ℕ
+abbrev pub left_at : ℕ → List Field → List ℕ → List ℕ → List ℕ
 left_at zero fields before here = here
 left_at (suc n) fields before here = value_or (slice_get fields n) before
 
 -- so it is of the cell
-abbrev text_with : Cell → List Field → List ℕ
+abbrev pub text_with : Cell → List Field → List ℕ
 text_with c fields = left_at c.ahead fields c.before c.here
 
 -- the text of a cell after more fields
-abbrev left_text : Cell → List Field → List ℕ
+abbrev pub left_text : Cell → List Field → List ℕ
 left_text c fields = text_with c (matching c.column fields)
 
 -- a field of the column
@@ -100,20 +100,20 @@ before_if true f c = counted_before c.ahead f c
 before_if false f c = refl
 
 -- a field in a span
-noted_column : (column : Column) (f : Field) (c : Cell)
+pub noted_column : (column : Column) (f : Field) (c : Cell)
     → (noted_by column true f c).column ≡ c.column
 noted_column (columns.Fact fact) f c = refl
 noted_column (columns.First d) f c = column_if (f.fxy == d) f c
 noted_column (columns.Nth d n) f c = column_if (f.fxy == d) f c
 
-noted_before : (column : Column) (f : Field) (c : Cell)
+pub noted_before : (column : Column) (f : Field) (c : Cell)
     → (noted_by column true f c).before ≡ c.before
 noted_before (columns.Fact fact) f c = refl
 noted_before (columns.First d) f c = before_if (f.fxy == d) f c
 noted_before (columns.Nth d n) f c = before_if (f.fxy == d) f c
 
 -- a field of a span is one that was left
-left_noted : (f : Field) (fields : List Field) (c : Cell)
+pub left_noted : (f : Field) (fields : List Field) (c : Cell)
     → left_text (noted true f c) fields ≡ left_text c (f ∷ fields)
 left_noted f fields c =
     ap (λ column. text_with (noted true f c) (matching column fields)) (noted_column c.column f c)
@@ -129,7 +129,7 @@ none_left_at : (n : ℕ) (c : Cell) → left_at n [] c.before c.here ≡ shown_a
 none_left_at zero c = refl
 none_left_at (suc n) c = refl
 
-none_left : (c : Cell) → left_text c [] ≡ shown c
+pub none_left : (c : Cell) → left_text c [] ≡ shown c
 none_left c =
     ap (λ fields. text_with c fields) (none_matching c.column) ∙ none_left_at c.ahead c
 

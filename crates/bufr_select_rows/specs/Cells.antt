@@ -1,7 +1,7 @@
 -- The cells of a row, as fields come one after another (private contracts): what they hold, and the text
 -- of the rows that are due then. `CellLaws` ties them to `rows`.
 use Rattle.std.specs.Prelude.{ℕ, zero, suc, ◌==◌, Bool, true, false, List, [], ◌∷◌, ◌++◌, map}
-use Rattle.std.specs.Prelude.{◌≡◌, decimal, Option, Some, None, if◌then◌else◌, take}
+use Rattle.std.specs.Prelude.{◌≡◌, ◌≤◌, decimal, length, Option, Some, None, if◌then◌else◌, take}
 use Rattle.std.specs.Prelude.{not, ◌&&◌}
 use Rattle.std.specs.List.{list_all, list_any}
 use Rattle.std.specs.Option.{option_map_or}
@@ -139,3 +139,9 @@ due each in_span cells f = if opens each f then ended in_span cells else []
 abbrev pub after_field : Option ℕ → Bool → List Cell → Field → List Cell
 after_field each in_span cells f =
     if opens each f then map (noted true f) (map opened cells) else map (noted in_span f) cells
+
+-- some fields were noted, with no row due: with the fields `mid` that are left the same rows are due
+abbrev pub NotesUpTo : Option ℕ → Bool → List Cell → List Field → List Cell → List Field → Type 0
+NotesUpTo each in_span cells fields cells' mid =
+    (rows_left each cells in_span fields ≡ rows_left each cells' in_span mid)
+    × (map (λ c. c.column) cells' ≡ map (λ c. c.column) cells) × (length mid ≤ length fields)

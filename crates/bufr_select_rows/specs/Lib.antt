@@ -11,5 +11,7 @@ pub mod TextCells
 pub mod Samples
 pub mod ListedCells
 pub mod MessageRows
+pub mod Sources
+pub mod Turns
 pub mod RowLaws
 pub mod Pairs

@@ -1,7 +1,8 @@
 -- Texts in the cells of a row (private contracts): a cell takes the octets of one as it takes its field.
-use Rattle.std.specs.Prelude.{ℕ, zero, suc, ◌==◌, List, [], if◌then◌else◌}
+use Rattle.std.specs.Prelude.{ℕ, zero, suc, ◌==◌, ◌&&◌, Bool, not, List, [], if◌then◌else◌}
 use Rattle.std.specs.List.{list_all}
-use Rattle.bufr_select_rows.specs.Values.{shown_text, trimmed}
+use Rattle.csv.specs.Writing.{default_writer, needs_byte}
+use Rattle.bufr_select_rows.specs.Values.{is_shown_as_itself, shown_text, trimmed}
 use Rattle.bufr_select_rows.specs.declared.cell.Cell.{Cell}
 use Rattle.bufr_select_rows.specs.declared.column.Column.{Column}
 use Rattle.bufr_select_rows.specs.declared.column.Column.TheVariants as columns
@@ -9,6 +10,10 @@ use Rattle.bufr_select_rows.specs.declared.column.Column.TheVariants as columns
 -- the text of octets: empty if all bits are one (94.1.5)
 abbrev pub shown_octets : List ℕ → List ℕ
 shown_octets octets = if list_all (λ x. x == 255) octets then [] else shown_text (trimmed octets)
+
+-- whether a text shows an octet as itself, and its field needs no quotes for it
+abbrev pub is_plain : ℕ → Bool
+is_plain c = is_shown_as_itself c && not (needs_byte default_writer c)
 
 -- a cell after a text of the column, given how many fields are ahead
 abbrev pub counted_text_at : ℕ → List ℕ → Cell → Cell

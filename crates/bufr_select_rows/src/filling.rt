@@ -14,7 +14,7 @@ use bufr_data::SUBSET_ROOM;
 use std::alloc::Global;
 
 /// Notes the fields that are left of a subset, and stops once no cell waits for one of them.
-pub(crate) fn fill_cells<P: SubsetFields>(
+pub(crate) fn fill_cells<'v, P: SubsetFields<'v>>(
     alloc: Global,
     asked: &ColumnDescriptors,
     fields: &mut P,
@@ -61,7 +61,7 @@ pub(crate) fn fill_cells<P: SubsetFields>(
 
 /// Notes the next fields of a subset, at most `most`, as long as they are numbers or lent texts.
 /// Returns how many of `most` are left.
-fn fill_numbers<P: SubsetFields>(
+fn fill_numbers<'v, P: SubsetFields<'v>>(
     asked: &ColumnDescriptors,
     fields: &mut P,
     cells: &mut [Cell],
@@ -94,7 +94,7 @@ fn fill_numbers<P: SubsetFields>(
 }
 
 /// Notes the next field of a subset, if it is a lent text. Returns whether it is.
-fn fill_text<P: SubsetFields>(
+fn fill_text<'v, P: SubsetFields<'v>>(
     asked: &ColumnDescriptors,
     fields: &mut P,
     cells: &mut [Cell],

@@ -17,8 +17,10 @@ mod quotes;
 mod row;
 mod row_cells;
 mod row_line;
+mod source;
 mod subset_fields;
 mod text;
+mod turn;
 mod worked_values;
 mod written;
 

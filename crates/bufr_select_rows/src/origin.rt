@@ -23,6 +23,7 @@ pub struct Origin<'a> {
 
 impl<'a> Origin<'a> {
     /// Returns the number of a fact.
+    #[inline(always)]
     #[tactic(auto, unfolding(crate::specs::Rows::told_number))]
     pub(crate) fn number(&self, fact: Fact) -> u128
         ensures { result ≡ told_number fact (origin self.now) }

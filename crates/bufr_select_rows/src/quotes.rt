@@ -30,7 +30,7 @@ pub(crate) fn needs_quotes(field: &[u8]) -> bool
 }
 
 /// Returns whether an octet needs quotes around its field.
-fn needs_byte(octet: u8) -> bool
+pub(crate) fn needs_byte(octet: u8) -> bool
     ensures { result ≡ needs_byte default_writer octet }
 {
     octet == b',' || octet == b'"' || octet == b'\r' || octet == b'\n'

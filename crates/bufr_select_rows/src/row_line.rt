@@ -1,13 +1,22 @@
 //! A row, made in a room that is used again.
 
-ghost use Rattle.std.specs.Prelude.{◌≡◌, ◌≤◌, ◌++◌, drop, length, map, IfOk, IfSome, OnErr};
+ghost use Rattle.std.specs.Prelude.{◌≡◌, ◌<◌, ◌≤◌, ◌++◌, drop, length, map, IfOk, IfSome, OnErr};
 ghost use Rattle.std.specs.Bool.{OnFalse, OnTrue};
 ghost use Rattle.csv.specs.Writing.{default_writer, fields_text};
+ghost use Rattle.bufr_data.specs.Compressed.{subset_of};
 ghost use Rattle.bufr_select_rows.specs.Cells.{row_of, shown};
+ghost use Rattle.bufr_select_rows.specs.Rows.{origin};
+ghost use Rattle.bufr_select_rows.specs.Sources.{source_row, source_text};
+ghost use Rattle.bufr_select_rows.specs.Turns.{HaveSources, sourced_row};
 
 use crate::cell::Cell;
+use crate::origin::Origin;
 use crate::row::push_row;
+use crate::source::{Source, write_cell};
+use crate::turn::{TurnSource, write_turn};
 use bufr_base::OutOfMemory;
+use bufr_data::ChosenColumns;
+use bufr_expand::CommonField;
 use bufr_io::HeldRows;
 use std::alloc::Global;
 
@@ -69,6 +78,122 @@ impl RowLine {
             None => Ok(false),
         }
     }
+
+    /// Adds the row of sources for a subset to the held rows, like `hold`.
+    #[inline(never)]
+    pub(crate) fn hold_subset(
+        &mut self,
+        sources: &[Source],
+        columns: &ChosenColumns<'_>,
+        from: &Origin<'_>,
+        subset: usize,
+        rows: &mut HeldRows,
+    ) -> Result<bool, OutOfMemory>
+        requires { subset < columns.now.subsets }
+        ensures held { IfOk result (λ held. OnTrue held (rows.new.held.items ≡ rows.old.held.items
+            ++ source_row sources.now (origin from.now) columns.now.columns subset)) }
+        ensures others { IfOk result (λ held. OnFalse held (rows.new ≡ rows.old)) }
+        ensures err { OnErr result (rows.new.held.items ≡ rows.old.held.items) }
+        ensures written { rows.new.written ≡ rows.old.written }
+    {
+        if rows.held.len() >= MOST_HELD {
+            return Ok(false);
+        }
+        match write_sources(&mut self.room, sources, columns, from, subset) {
+            Some(start) => {
+                rows.held.extend_from_slice(&self.room[start..])?;
+                Ok(true)
+            }
+            None => Ok(false),
+        }
+    }
+
+    /// Adds the row of a turn to the held rows, like `hold`.
+    #[inline(always)]
+    pub(crate) fn hold_turn(
+        &mut self,
+        sources: &[TurnSource],
+        cells: &[Cell],
+        fields: &[CommonField],
+        numbers: &[u64],
+        rows: &mut HeldRows,
+    ) -> Result<bool, OutOfMemory>
+        requires { HaveSources fields.now cells.now sources.now }
+        ensures held { IfOk result (λ held. OnTrue held (rows.new.held.items ≡ rows.old.held.items
+            ++ sourced_row fields.now numbers.now cells.now)) }
+        ensures others { IfOk result (λ held. OnFalse held (rows.new ≡ rows.old)) }
+        ensures err { OnErr result (rows.new.held.items ≡ rows.old.held.items) }
+        ensures written { rows.new.written ≡ rows.old.written }
+    {
+        if rows.held.len() >= MOST_HELD {
+            return Ok(false);
+        }
+        match write_turn(&mut self.room, sources, cells, fields, numbers) {
+            Some(start) => {
+                rows.held.extend_from_slice(&self.room[start..])?;
+                Ok(true)
+            }
+            None => Ok(false),
+        }
+    }
+}
+
+/// Writes the row of sources for a subset, like `write_row`.
+#[inline(always)]
+fn write_sources(
+    room: &mut [u8],
+    sources: &[Source],
+    columns: &ChosenColumns<'_>,
+    from: &Origin<'_>,
+    subset: usize,
+) -> Option<usize>
+    requires { subset < columns.now.subsets }
+    ensures written { IfSome result (λ start. drop start room.new
+        ≡ source_row sources.now (origin from.now) columns.now.columns subset) }
+    ensures within { IfSome result (λ start. start ≤ length room.new) }
+{
+    let Some((first, others)) = sources.split_first() else {
+        return None;
+    };
+    if others.is_empty() || room.is_empty() {
+        return None;
+    }
+    let last = room.len() - 1;
+    room[last] = b'\n';
+    let start = write_cells(room, last, others, columns, from, subset)?;
+    write_cell(room, start, first, columns, from, subset)
+}
+
+/// Writes the cells of sources for a subset, each after a comma.
+#[inline(always)]
+#[tactic(auto, unfolding(csv::specs::Writing::fields_text))]
+fn write_cells(
+    room: &mut [u8],
+    end: usize,
+    sources: &[Source],
+    columns: &ChosenColumns<'_>,
+    from: &Origin<'_>,
+    subset: usize,
+) -> Option<usize>
+    requires room { end ≤ length room.old }
+    requires subset { subset < columns.now.subsets }
+    ensures written { IfSome result (λ start. drop start room.new ≡ fields_text default_writer
+        (map (source_text (origin from.now) (subset_of columns.now.columns subset).fields)
+        sources.now) ++ drop end room.old) }
+    ensures within { IfSome result (λ start. start ≤ end) }
+{
+    let mut left = sources;
+    let mut start = end;
+    while let Some((source, others)) = left.split_last() {
+        let field = write_cell(room, start, source, columns, from, subset)?;
+        if field == 0 {
+            return None;
+        }
+        room[field - 1] = b',';
+        start = field - 1;
+        left = others;
+    }
+    Some(start)
 }
 
 /// Writes the row of cells at the end of a room, and returns where it begins. `None` for a row of

@@ -9,17 +9,21 @@ ghost use Rattle.bufr_data.specs.Short.{HandsOutShort};
 ghost use Rattle.bufr_data.specs.LentTexts.{HasOctets};
 ghost use Rattle.bufr_select_rows.specs.Asks.{flagged};
 ghost use Rattle.bufr_select_rows.specs.Cells.{is_awaited};
+ghost use Rattle.bufr_data.specs.Turns.{TakesTurns};
 
 use crate::awaited::Awaited;
 use crate::column_descriptors::ColumnDescriptors;
 use bufr_base::OutOfMemory;
-use bufr_data::{ChosenFields, LaidFields, LentText, NumberField, SUBSET_ROOM, ShortNumber};
+use bufr_data::{
+    ChosenFields, LaidFields, LentText, NumberField, NumberTurns, SUBSET_ROOM, ShortNumber,
+};
 use bufr_expand::Asks;
 use bufr_message::{Field, Fields};
+use bufr_tables::Fxy;
 use std::alloc::Global;
 
 /// A source of the fields of a subset.
-pub(crate) trait SubsetFields {
+pub(crate) trait SubsetFields<'v> {
     /// The fields that are left.
     ghost left: { Self → List AField };
 
@@ -58,12 +62,23 @@ pub(crate) trait SubsetFields {
         ensures { IfOk result (λ found.
             HandsOutAsked (flagged asked.now) (left self.old) found (left self.new)) };
 
+    /// Takes all but the last of the turns that come next, if each is a span of numbers.
+    fn pick_turns(
+        &mut self,
+        alloc: Global,
+        asked: &ColumnDescriptors,
+        opener: Fxy,
+    ) -> Result<Option<NumberTurns<'v>>, OutOfMemory>
+        ensures taken { IfOk result (λ found. IfSome found (λ turns.
+            TakesTurns (flagged asked.now) opener (left self.old) turns (left self.new))) }
+        ensures others { IfOk result (λ found. IfNone found (left self.new ≡ left self.old)) };
+
     /// Returns true if it is known that no cell waits for one of the fields.
     fn has_no_more(&self, awaited: &Awaited<'_>) -> bool
         ensures { OnTrue result (NoneAsked (is_awaited awaited.now.cells.now) (left self.now)) };
 }
 
-impl<'v> SubsetFields for Fields<'v> {
+impl<'v> SubsetFields<'v> for Fields<'v> {
     ghost left = { λ f. f };
 
     #[inline(always)]
@@ -94,12 +109,22 @@ impl<'v> SubsetFields for Fields<'v> {
         self.next_asked(alloc, asked)
     }
 
+    #[inline(always)]
+    fn pick_turns(
+        &mut self,
+        alloc: Global,
+        asked: &ColumnDescriptors,
+        opener: Fxy,
+    ) -> Result<Option<NumberTurns<'v>>, OutOfMemory> {
+        self.take_turns(alloc, asked, opener)
+    }
+
     fn has_no_more(&self, awaited: &Awaited<'_>) -> bool {
         Fields::has_no_more(self, awaited)
     }
 }
 
-impl<'v> SubsetFields for ChosenFields<'v> {
+impl<'v> SubsetFields<'v> for ChosenFields<'v> {
     ghost left = { λ f. f };
 
     #[inline(always)]
@@ -151,12 +176,22 @@ impl<'v> SubsetFields for ChosenFields<'v> {
     }
 
     #[inline(always)]
+    fn pick_turns(
+        &mut self,
+        _alloc: Global,
+        _asked: &ColumnDescriptors,
+        _opener: Fxy,
+    ) -> Result<Option<NumberTurns<'v>>, OutOfMemory> {
+        Ok(None)
+    }
+
+    #[inline(always)]
     fn has_no_more(&self, _awaited: &Awaited<'_>) -> bool {
         false
     }
 }
 
-impl<'v> SubsetFields for LaidFields<'v> {
+impl<'v> SubsetFields<'v> for LaidFields<'v> {
     ghost left = { λ f. f };
 
     #[inline(always)]
@@ -185,6 +220,16 @@ impl<'v> SubsetFields for LaidFields<'v> {
         asked: &ColumnDescriptors,
     ) -> Result<Option<Field>, OutOfMemory> {
         self.next_asked(alloc, asked)
+    }
+
+    #[inline(always)]
+    fn pick_turns(
+        &mut self,
+        _alloc: Global,
+        _asked: &ColumnDescriptors,
+        _opener: Fxy,
+    ) -> Result<Option<NumberTurns<'v>>, OutOfMemory> {
+        Ok(None)
     }
 
     #[inline(always)]

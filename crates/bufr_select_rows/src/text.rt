@@ -5,13 +5,13 @@ ghost use Rattle.csv.specs.Writing.{default_writer, field_text};
 ghost use Rattle.bufr_fields.specs.Values.{as_field, decimal_within, digits_by};
 ghost use Rattle.bufr_listing.specs.Listings.{number_word};
 ghost use Rattle.bufr_select_rows.specs.ShortCells.{short_text};
-ghost use Rattle.bufr_select_rows.specs.TextCells.{shown_octets};
+ghost use Rattle.bufr_select_rows.specs.TextCells.{is_plain, shown_octets};
 ghost use Rattle.bufr_select_rows.specs.Texts.{sum_word, text_of};
 ghost use Rattle.bufr_select_rows.specs.Values.{shown_text, shown_value};
 ghost use Rattle.bufr_select_rows.specs.Values as values;
 
-use crate::quotes::push_field;
-use crate::written::{write_count, write_number, write_octets};
+use crate::quotes::{needs_byte, push_field};
+use crate::written::{write_count, write_number, write_octets, write_plain};
 use bufr_base::OutOfMemory;
 use bufr_data::ShortNumber;
 use bufr_fields::{Decimal, Field, NumberField, Raw, are_ones};
@@ -196,6 +196,38 @@ impl Text {
     }
 }
 
+/// Writes the value of a field with a number, as `Text::write_to` does.
+#[inline(always)]
+pub(crate) fn write_value(room: &mut [u8], end: usize, field: NumberField) -> Option<usize>
+    requires { end ≤ length room.old }
+    ensures written { IfSome result (λ start. drop start room.new
+        ≡ field_text default_writer (shown_value (as_field field)) ++ drop end room.old) }
+    ensures within { IfSome result (λ start. start ≤ end) }
+{
+    match form_of(field) {
+        TextForm::Empty => Some(end),
+        TextForm::Sum(sum) => write_number(room, end, sum),
+        TextForm::Octets | TextForm::Count(_) => None,
+    }
+}
+
+/// Writes the octets of a text, as `Text::write_to` does. `None` also if one is not plain.
+pub(crate) fn write_text(room: &mut [u8], end: usize, octets: &[u8]) -> Option<usize>
+    requires { end ≤ length room.old }
+    ensures written { IfSome result (λ start. drop start room.new
+        ≡ field_text default_writer (shown_octets octets.now) ++ drop end room.old) }
+    ensures within { IfSome result (λ start. start ≤ end) }
+{
+    if are_ones(octets) {
+        return Some(end);
+    }
+    let shown = trimmed(octets);
+    if !shown.iter().all(|octet| is_plain(*octet)) {
+        return None;
+    }
+    write_plain(room, end, shown)
+}
+
 /// Returns how a text shows the value of a field with a number.
 #[inline(always)]
 fn form_of(field: NumberField) -> TextForm
@@ -332,6 +364,13 @@ fn is_shown_as_itself(octet: u8) -> bool
     ensures { result ≡ values.is_shown_as_itself octet }
 {
     octet >= 32 && octet <= 126 && octet != b'\\'
+}
+
+/// Returns whether a text shows an octet as itself, and its field needs no quotes for it.
+fn is_plain(octet: u8) -> bool
+    ensures { result ≡ is_plain octet }
+{
+    is_shown_as_itself(octet) && !needs_byte(octet)
 }
 
 /// Adds an octet of a text: itself, or a backslash and two digits.

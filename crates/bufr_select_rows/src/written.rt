@@ -90,7 +90,21 @@ pub(crate) fn write_octets(room: &mut [u8], end: usize, octets: &[u8]) -> Option
         ≡ field_text default_writer octets.now ++ drop end room.old) }
     ensures within { IfSome result (λ start. start ≤ end) }
 {
-    if octets.len() > end || needs_quotes(octets) {
+    if needs_quotes(octets) {
+        return None;
+    }
+    write_plain(room, end, octets)
+}
+
+/// Writes octets as they are.
+#[inline(always)]
+pub(crate) fn write_plain(room: &mut [u8], end: usize, octets: &[u8]) -> Option<usize>
+    requires { end ≤ length room.old }
+    ensures written { IfSome result (λ start. drop start room.new
+        ≡ octets.now ++ drop end room.old) }
+    ensures within { IfSome result (λ start. start ≤ end) }
+{
+    if octets.len() > end {
         return None;
     }
     let start = end - octets.len();

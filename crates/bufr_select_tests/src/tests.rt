@@ -7,6 +7,7 @@ mod devices;
 mod growth;
 mod places;
 mod samples;
+mod turns;
 
 use bufr_io::{Input, Tally, ToolFault, load_tables};
 use bufr_select_engine::{Outputs, VersionTables, columns_of, run_select};

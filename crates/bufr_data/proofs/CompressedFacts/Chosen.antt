@@ -1,6 +1,7 @@
 -- The columns of chosen fields.
 use Rattle.std.proofs.Common.{◌≡◌, ℕ, Bool, true, false, cond, List, [], ◌∷◌, ◌++◌, length, refl, sym, ap, ◌∙◌}
-use Rattle.std.proofs.Common.{append_assoc, append-nil, arith}
+use Rattle.std.proofs.Common.{append_assoc, append-nil, arith, zero, suc, Some}
+use Rattle.std.specs.Prelude.{slice_get, option_map}
 use Rattle.bufr_fields.specs.declared.field.Field.{Field}
 use Rattle.bufr_data.specs.declared.compressed.index.ColumnStart.{ColumnStart}
 use Rattle.bufr_data.specs.Chosen.{is_listed, chosen, chosen_places}
@@ -38,6 +39,15 @@ chosen_there list octets n index [] = refl
 chosen_there list octets n index (p ∷ places) =
     one_there (is_listed list p.fxy) octets n index p (chosen_places list places)
     (chosen list (fields_there octets n index places)) (chosen_there list octets n index places)
+
+-- the field of the column at a place
+pub field_there : (octets : List ℕ) (n index : ℕ) (places : List ColumnStart) (k : ℕ) (p : ColumnStart)
+    → slice_get places k ≡ Some p
+    → slice_get (fields_there octets n index places) k ≡ Some (field_of index (column_from octets n p))
+field_there octets n index [] k p at = absurd cc
+field_there octets n index (q ∷ places) zero p at =
+    ap (option_map (λ x. field_of index (column_from octets n x))) at
+field_there octets n index (q ∷ places) (suc k) p at = field_there octets n index places k p at
 
 -- ---- the places found
 

@@ -22,7 +22,7 @@ use Rattle.bufr_data.specs.Plain.{SubsetRead, raw_at, stopped, field_then, field
 use Rattle.bufr_fields.specs.Forms.{number_of}
 use Rattle.bufr_data.specs.Plain.Reads.{raw_or_ends, behind_fields}
 use Rattle.bufr_data.specs.Plain.Starts.{fields_of}
-use Rattle.bufr_data.specs.declared.plain.layout.CommonField.{CommonField}
+use Rattle.bufr_expand.specs.declared.even_turns.CommonField.{CommonField}
 use Rattle.bufr_data.specs.declared.plain.fields.Due.{Due}
 use Rattle.bufr_data.specs.declared.plain.fields.Due.TheVariants.{Step, Text, Nothing}
 use Rattle.bufr_data.specs.Handed.{fields_ahead, text_first, StandAhead, StepsTo, StepsToNone}

@@ -21,17 +21,19 @@ use Rattle.bufr_fields.specs.declared.field.Raw.{Raw}
 use Rattle.bufr_fields.specs.declared.field.Field.{Field}
 use Rattle.bufr_fields.specs.declared.fault.DataFault.{DataFault}
 use Rattle.bufr_data.specs.declared.plain.index.SubsetStart.{SubsetStart}
-use Rattle.bufr_data.specs.declared.plain.layout.CommonField.{CommonField}
+use Rattle.bufr_expand.specs.declared.even_turns.CommonField.{CommonField}
 use Rattle.bufr_data.specs.declared.plain.layout.Layout.{Layout}
 use Rattle.bufr_data.specs.Plain.{SubsetRead, raw_at, field_then, fields_at}
 use Rattle.bufr_fields.specs.Forms.{number_of}
 use Rattle.bufr_data.specs.Chosen.{is_listed}
-use Rattle.bufr_data.specs.Plain.Layouts.{laid_then, laid_course, told_laid, HaveNoCount}
+use Rattle.bufr_data.specs.Plain.Layouts.{laid_then, laid_course}
+use Rattle.bufr_expand.specs.EvenTurns.{told, HaveNoCount}
 use Rattle.bufr_data.specs.Plain.Layouts.{HasPlaces, IsLaid}
 use Rattle.bufr_bits.specs.Bits.{bits}
 use Rattle.bufr_bits.specs.Ends as ends_of
 use Rattle.bufr_bits.specs.Ends.{BitPlace}
 use Rattle.bufr_data.specs.Handed.{fields_laid, StandLaid, FirstIsAsked, PassesLaid, moved_on}
+use Rattle.bufr_data.specs.Handed.{StandThen, PassesFirst, fields_then}
 use Rattle.bufr_data.specs.Plain.Reads.{raw_or_ends, behind_fields}
 use Rattle.bufr_data.specs.Plain.Starts.{PassesRaw, fields_of, subset_at, BeginsAtStart}
 use Rattle.bufr_fields.specs.CourseLaws.{AreUnrolled, AreAllowed}
@@ -43,7 +45,7 @@ use Rattle.bufr_data.proofs.PlainFacts.Reads.{asked_field, found_is}
 
 -- the fields laid out are those that the course asks for, none a count, up to the walk's place
 pub record LaidSoFar (c : Course) (fields : List CommonField) (later : Course) : Type 0 where
-  pub behind : After c (map told_laid fields) later
+  pub behind : After c (map told fields) later
   pub no_count : HaveNoCount fields
 
 pub none_laid : (c later : Course) → later ≡ c → LaidSoFar c [] later
@@ -51,7 +53,7 @@ unfolding After
 none_laid c later is = record { behind = sym is; no_count = tt }
 
 one_asked : (met : ℕ) (f : CommonField) (more : ℕ → Course)
-    → After (asks met f.fxy f.spec more) (told_laid f ∷ []) (more 0)
+    → After (asks met f.fxy f.spec more) (told f ∷ []) (more 0)
 unfolding After
 one_asked met f more = (refl, refl, refl)
 
@@ -60,14 +62,14 @@ pub one_laid : (c : Course) (old new : Walk) (fields grown : List CommonField) (
     → LaidSoFar c fields (left old) → LaidSoFar c grown (left new)
 one_laid c old new fields grown f is goes so_far =
     let a = asks_field (left old) f.fxy f.spec new goes in
-    let P : Course → Course → Type 0 = λ x y. After x (told_laid f ∷ []) y in
+    let P : Course → Course → Type 0 = λ x y. After x (told f ∷ []) y in
     let asked : P (left old) (a.more 0) =
     subst (λ x. P x (a.more 0)) (sym a.is) (one_asked a.met f a.more) in
     record {
       behind =
           subst (λ (fs : List NumberedField). After c fs (left new))
-          (sym (map_grown told_laid fields grown f is))
-          (after_joined c (left old) (left new) (map told_laid fields) (told_laid f ∷ [])
+          (sym (map_grown told fields grown f is))
+          (after_joined c (left old) (left new) (map told fields) (told f ∷ [])
           so_far.behind (subst (P (left old)) (sym a.after) asked));
       no_count =
           all_grown (λ f. same_kind f.spec.kind kinds.Count ≡ false) fields grown f is
@@ -84,7 +86,7 @@ pub all_laid : (tree : Tree) (old new : Walk) (list : List ℕ) (fields : List C
     → LaidSoFar (course tree 0) fields (left old) → HasPlaces list fields true items layout
     → IsLaid tree layout
 all_laid tree old new list laid items layout unrolled allowed goes met so_far has =
-    let fields = map told_laid layout.fields in
+    let fields = map told layout.fields in
     let here =
     subst (λ fs. LaidSoFar (course tree 0) fs (left old)) (sym has.same_fields) so_far in
     let end : left old ≡ ends layout.items =
@@ -165,7 +167,7 @@ field_same i d spec one other (Some x) same =
 
 -- a course is read like the fields that it asks for first, and what it asks for later
 pub read_as_laid : (used i : ℕ) (c later : Course) (fields : List CommonField) (front : List Bool)
-    → IsSteady used c → HaveNoCount fields → After c (map told_laid fields) later
+    → IsSteady used c → HaveNoCount fields → After c (map told fields) later
     → fields_at 1 i (laid_then fields later) front ≡ fields_at 1 i c front
 unfolding After IsSteady fields_at laid_then
 read_as_laid used i c later [] front steady none asked =
@@ -229,30 +231,45 @@ unfolding fields_at laid_then
 none_left [] reader is = (refl, refl)
 none_left (f ∷ fields) reader is = absurd (omega (arith, is))
 
+-- the first of some fields, and those after it
+pub first_then : (later : Course) (fields others : List CommonField) (f : CommonField)
+    (reader rest : BitPlace) (raw : Raw) → fields ≡ f ∷ others → StandThen later fields reader
+    → raw_or_ends 1 1 (raw_at f.spec (ends_of.left reader)) ≡ Ok (raw, ends_of.left rest)
+    → Handed (record { fxy = f.fxy; spec = f.spec; raw = raw })
+    (fields_at 1 1 (laid_then fields later) (ends_of.left reader))
+    (fields_at 1 1 (laid_then others later) (ends_of.left rest))
+unfolding laid_then
+first_then later [] others f reader rest raw is stand read = absurd cc
+first_then later (g ∷ fields) others f reader rest raw is stand read =
+    let step : fields_at 1 1 (laid_then (f ∷ others) later) (ends_of.left reader)
+    ≡ behind_fields (record { fxy = f.fxy; spec = f.spec; raw = raw } ∷ [])
+    (fields_at 1 2 (laid_then others later) (ends_of.left rest)) =
+    asked_field 1 1 0 f.fxy f.spec (λ n. laid_then others later) (ends_of.left reader)
+    (ends_of.left rest) raw (found_is 1 1 _ _ read) in
+    field_handed (laid_then (g ∷ fields) later) (laid_then others later) (ends_of.left reader)
+    (ends_of.left rest) (record { fxy = f.fxy; spec = f.spec; raw = raw }) stand
+    (ap (λ fs. fields_at 1 1 (laid_then fs later) (ends_of.left reader)) is ∙ step)
+
 pub first_handed : (fields others : List CommonField) (f : CommonField) (reader rest : BitPlace)
     (raw : Raw) → fields ≡ f ∷ others → StandLaid fields reader
     → raw_or_ends 1 1 (raw_at f.spec (ends_of.left reader)) ≡ Ok (raw, ends_of.left rest)
     → Handed (record { fxy = f.fxy; spec = f.spec; raw = raw })
     (fields_at 1 1 (laid_course fields) (ends_of.left reader))
     (fields_at 1 1 (laid_course others) (ends_of.left rest))
-unfolding laid_then
-first_handed [] others f reader rest raw is stand read = absurd cc
-first_handed (g ∷ fields) others f reader rest raw is stand read =
-    let step : fields_at 1 1 (laid_course (f ∷ others)) (ends_of.left reader)
-    ≡ behind_fields (record { fxy = f.fxy; spec = f.spec; raw = raw } ∷ [])
-    (fields_at 1 2 (laid_course others) (ends_of.left rest)) =
-    asked_field 1 1 0 f.fxy f.spec (λ n. laid_course others) (ends_of.left reader)
-    (ends_of.left rest) raw (found_is 1 1 _ _ read) in
-    field_handed (laid_course (g ∷ fields)) (laid_course others) (ends_of.left reader)
-    (ends_of.left rest) (record { fxy = f.fxy; spec = f.spec; raw = raw }) stand
-    (ap (λ fs. fields_at 1 1 (laid_course fs) (ends_of.left reader)) is ∙ step)
+first_handed fields others f reader rest raw is stand read =
+    first_then (ends 0) fields others f reader rest raw is stand read
+
+pub there_then : (later : Course) (fields others : List CommonField) (f : CommonField)
+    (reader : BitPlace) → fields ≡ f ∷ others → StandThen later fields reader
+    → IsOk (raw_or_ends 1 1 (raw_at f.spec (ends_of.left reader)))
+unfolding fields_at laid_then
+there_then later fields others f reader is stand =
+    asked_there (laid_then (f ∷ others) later) 0 f.fxy f.spec (λ n. laid_then others later)
+    (ends_of.left reader) refl (subst (λ fs. StandThen later fs reader) is stand)
 
 pub first_there : (others : List CommonField) (f : CommonField) (reader : BitPlace)
     → StandLaid (f ∷ others) reader → IsOk (raw_or_ends 1 1 (raw_at f.spec (ends_of.left reader)))
-unfolding fields_at laid_then
-first_there others f reader stand =
-    asked_there (laid_course (f ∷ others)) 0 f.fxy f.spec (λ n. laid_course others)
-    (ends_of.left reader) refl stand
+first_there others f reader stand = there_then (ends 0) (f ∷ others) others f reader refl stand
 
 pub left_moved : (reader : BitPlace) (gap : ℕ)
     → ends_of.left (moved_on reader gap) ≡ drop gap (ends_of.left reader)
@@ -271,6 +288,22 @@ none_passed P fields reader stand =
       there = subst (StandLaid fields) same stand;
       passed = ([], tt, ap (fields_laid fields) same);
     }
+
+-- a field that is not chosen is skipped with its bits
+pub first_skipped : (P : ℕ → Bool) (later : Course) (fields others : List CommonField)
+    (f : CommonField) (reader : BitPlace) (size : ℕ) → fields ≡ f ∷ others
+    → StandThen later fields reader → P f.fxy ≡ false
+    → ((front : List Bool) → IsOk (raw_or_ends 1 1 (raw_at f.spec front))
+    → (size ≤ length front) × PassesRaw 1 f.spec front (drop size front))
+    → StandThen later others (moved_on reader size)
+    × PassesFirst P (fields_then later fields reader) (fields_then later others (moved_on reader size))
+first_skipped P later fields others f reader size is stand unasked takes =
+    let taken = takes (ends_of.left reader) (there_then later fields others f reader is stand) in
+    let next = moved_on reader size in
+    let h =
+    first_then later fields others f reader next taken.1.0 is stand
+    (taken.1.1 ∙ ap (λ bs. Ok (taken.1.0, bs)) (sym (left_moved reader size))) in
+    (h.there, (record { fxy = f.fxy; spec = f.spec; raw = taken.1.0 }, unasked, h.is))
 
 pub one_more_passed : (P : ℕ → Bool) (all fields others : List CommonField) (f : CommonField)
     (reader : BitPlace) (passed size : ℕ) → fields ≡ f ∷ others

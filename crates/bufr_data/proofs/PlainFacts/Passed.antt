@@ -51,7 +51,7 @@ there : (width : ℕ) (front : List Bool) → width ≤ 64
     → field_number_at width front ≡ number_at width front
 there width front few = rw (le-leb width 64 few) refl
 
-number_found : (width : ℕ) (front : List Bool) → width ≤ length front
+pub number_found : (width : ℕ) (front : List Bool) → width ≤ length front
     → number_at width front ≡ Some (number (take width front), drop width front)
 unfolding number_at
 number_found width front long = rw (le-ltb (length front) width long) refl

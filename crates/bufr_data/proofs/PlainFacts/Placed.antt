@@ -23,7 +23,7 @@ use Rattle.bufr_fields.specs.declared.field.Field.{Field}
 use Rattle.bufr_fields.specs.declared.fault.DataFault.{DataFault}
 use Rattle.bufr_fields.specs.CourseLaws.{AreUnrolled, AreAllowed}
 use Rattle.bufr_data.specs.declared.plain.index.SubsetStart.{SubsetStart}
-use Rattle.bufr_data.specs.declared.plain.layout.CommonField.{CommonField}
+use Rattle.bufr_expand.specs.declared.even_turns.CommonField.{CommonField}
 use Rattle.bufr_data.specs.declared.plain.layout.Layout.{Layout}
 use Rattle.bufr_data.specs.declared.plain.places.ChosenPlace.{ChosenPlace}
 use Rattle.bufr_data.specs.Chosen.{is_listed, chosen, field_size_by, field_size, placed_from}
@@ -31,7 +31,8 @@ use Rattle.bufr_data.specs.Chosen.{placed, placed_then, fields_placed, HoldPlace
 use Rattle.bufr_data.specs.Handed.{NoneAsked}
 use Rattle.bufr_data.specs.Short.{greatest_short}
 use Rattle.bufr_data.specs.Plain.{SubsetRead, raw_at, field_then, fields_at}
-use Rattle.bufr_data.specs.Plain.Layouts.{laid_then, told_laid, HaveNoCount, IsLaid}
+use Rattle.bufr_data.specs.Plain.Layouts.{laid_then, IsLaid}
+use Rattle.bufr_expand.specs.EvenTurns.{told, HaveNoCount}
 use Rattle.bufr_data.specs.Plain.Reads.{raw_or_ends}
 use Rattle.bufr_data.specs.Plain.Starts.{PassesRaw, fields_of, subset_at, BeginsAtStart}
 use Rattle.bufr_data.proofs.PlainFacts.Alike.{text_takes}
@@ -218,7 +219,7 @@ alone unrolled allowed tree used front f le read =
 -- it is read like the fields of the layout, and what comes after them
 begun : AreUnrolled → AreAllowed → (tree : Tree) (used : ℕ) (fields : List CommonField)
     (later : Course) (front : List Bool) (found : Result SubsetRead DataFault)
-    → HaveNoCount fields → After (course tree 0) (map told_laid fields) later → used ≤ most_items
+    → HaveNoCount fields → After (course tree 0) (map told fields) later → used ≤ most_items
     → fields_at 1 1 (course tree used) front ≡ found → IsOk found
     → IsOk (fields_at 1 1 (laid_then fields later) front)
     × (fields_of (fields_at 1 1 (laid_then fields later) front) ≡ fields_of found)

@@ -1,19 +1,17 @@
 -- Layouts: the fields of every plain subset of a tree, up to the first that a count decides (FM 94
 -- BUFR, regulations 94.5.4 and 94.5.5).
-use Rattle.std.specs.Prelude.{◌≡◌, ℕ, ◌+◌, ◌≤◌, Bool, true, false, List, [], ◌∷◌, map, Option, Some}
+use Rattle.std.specs.Prelude.{◌≡◌, ℕ, ◌+◌, ◌≤◌, Bool, true, List, [], ◌∷◌, map, Option, Some}
 use Rattle.std.specs.Prelude.{None, Ok}
-use Rattle.std.specs.List.{AllByRecursion}
-use Rattle.bufr_tables.specs.declared.element.Kind.TheVariants as kinds
-use Rattle.bufr_tables.specs.Elements.{same_kind}
 use Rattle.bufr_expand.specs.declared.walk.Step.TheVariants as steps
 use Rattle.bufr_expand.specs.declared.walk.Walk.{Walk}
 use Rattle.bufr_expand.specs.Walks.{left, Goes}
 use Rattle.bufr_expand.specs.Courses.{Course, ends, asks, course}
 use Rattle.bufr_expand.specs.Trees.{Tree}
 use Rattle.bufr_expand.specs.Asked.{TellsNone}
-use Rattle.bufr_expand.specs.Unrolling.{NumberedField, After, Allows}
+use Rattle.bufr_expand.specs.Unrolling.{After, Allows}
 use Rattle.bufr_expand.specs.Limits.{most_items}
-use Rattle.bufr_data.specs.declared.plain.layout.CommonField.{CommonField}
+use Rattle.bufr_expand.specs.EvenTurns.{told, HaveNoCount}
+use Rattle.bufr_expand.specs.declared.even_turns.CommonField.{CommonField}
 use Rattle.bufr_data.specs.declared.plain.layout.Layout.{Layout}
 use Rattle.bufr_data.specs.declared.plain.field_layout.FieldLayout.{FieldLayout}
 use Rattle.bufr_data.specs.Chosen.{is_listed, placed_from}
@@ -28,18 +26,10 @@ laid_then (f ∷ fields) later = asks 0 f.fxy f.spec (λ number. laid_then field
 abbrev pub laid_course : List CommonField → Course
 laid_course fields = laid_then fields (ends 0)
 
--- a field of a layout as unrollings have it, with 0 for its unknown number
-abbrev pub told_laid : CommonField → NumberedField
-told_laid f = record { fxy = f.fxy; spec = f.spec; number = 0 }
-
--- none of the fields is a count
-abbrev pub HaveNoCount : List CommonField → Type 0
-HaveNoCount fields = AllByRecursion (λ f. same_kind f.spec.kind kinds.Count ≡ false) fields
-
 -- a course asks for these fields first, and for none of the chosen ones after them
 pub record BeginsWithLaid (c : Course) (fields : List CommonField) (list : List ℕ) : Type 0 where
   pub later : Course
-  pub first : After c (map told_laid fields) later
+  pub first : After c (map told fields) later
   pub no_more : TellsNone (is_listed list) later
 
 -- every subset of this tree begins with these fields, none a count, and has no chosen field after
@@ -49,7 +39,7 @@ pub record IsLaid (tree : Tree) (layout : Layout) : Type 0 where
   pub no_count : HaveNoCount layout.fields
   pub begins : BeginsWithLaid (course tree 0) layout.fields layout.asked
   pub whole : layout.is_whole ≡ true → (used : ℕ) → used + layout.items ≤ most_items
-      → Allows (course tree used) (map told_laid layout.fields) (used + layout.items)
+      → Allows (course tree used) (map told layout.fields) (used + layout.items)
   pub placed : layout.places ≡ placed_from layout.asked 0 layout.fields
 
 -- the layout of these fields and items, with the places of the fields that were asked for

@@ -16,11 +16,12 @@ ghost use Rattle.bufr_data.specs.Compressed.{subset_of, subsets_from};
 ghost use Rattle.bufr_data.specs.Data.{subsets_in};
 ghost use Rattle.bufr_data.specs.Compressed.Indexed.{Ahead, AllOpen, Opens, PassesPlace, column_from};
 ghost use Rattle.bufr_data.specs.Compressed.Indexed.{index_at};
-ghost use Rattle.bufr_data.specs.Chosen.{AreChosen, chosen};
+ghost use Rattle.bufr_data.specs.Chosen.{AreChosen, HaveChosen, chosen};
 ghost use Rattle.bufr_fields.specs.Steady.{IsReady, WalkAdvances};
 ghost use Rattle.bufr_data.specs.Subsets.{Extends};
 
 use crate::chosen::is_listed;
+use crate::compressed::chosen_columns::ChosenColumns;
 use crate::compressed::fields::ColumnFields;
 use crate::compressed::head::{ColumnHead, head_at, number_under};
 use crate::compressed::lent_text::lent_text;
@@ -193,6 +194,21 @@ impl<'a> Columns<'a> {
             subsets: self.subsets,
             places: self.chosen.places.as_slice(),
             index,
+        })
+    }
+
+    /// Returns the columns of these descriptors, if they were found for this list.
+    pub(crate) fn chosen_columns(&self, asked: &[u16]) -> Option<ChosenColumns<'_>>
+        ensures { IfSome result
+            (HaveChosen asked.now (subsets_from 0 self.now.subsets self.now.columns)) }
+    {
+        if self.chosen.asked.as_slice() != asked {
+            return None;
+        }
+        Some(ChosenColumns {
+            octets: self.octets,
+            subsets: self.subsets,
+            places: self.chosen.places.as_slice(),
         })
     }
 

@@ -35,7 +35,7 @@ use std::marker::Model;
 use std::rc::Rc;
 
 /// The most octets whose bits fit in 64 bits; no machine has more.
-const MOST_COUNTED_OCTETS: usize = usize::MAX / 8;
+pub(crate) const MOST_COUNTED_OCTETS: usize = usize::MAX / 8;
 
 /// A start of a subset: its first bit, the bit after its last, and the items of the message before
 /// it.
@@ -100,6 +100,8 @@ impl<'a> PlainSubsets<'a> {
                     walk,
                     reader,
                     due: Due::Step,
+                    laid: None,
+                    at_turns: false,
                 };
                 Ok(Fields {
                     source: FieldSource::Plain(met),

@@ -7,10 +7,9 @@ ghost use Rattle.bufr_fields.specs.Values.{as_field};
 
 use crate::fields::by_parts;
 use crate::plain::laid_reader::LaidReader;
-use crate::plain::layout::CommonField;
 use crate::plain::pass::present_bits;
 use bufr_base::OutOfMemory;
-use bufr_expand::Asks;
+use bufr_expand::{Asks, CommonField};
 use bufr_fields::{Field, NumberField};
 use std::alloc::Global;
 use std::marker::Model;

@@ -1,8 +1,9 @@
 //! Reads the bits of fields with a layout.
 
-ghost use Rattle.std.specs.Prelude.{◌≡◌, ◌+◌, ◌-◌, ◌*◌, ◌^◌, ◌<◌, ◌≤◌, drop, length, Bool, List, Ok};
+ghost use Rattle.std.specs.Prelude.{◌≡◌, ◌+◌, ◌-◌, ◌*◌, ◌^◌, ◌<◌, ◌≤◌, drop, length, take, Bool, List, Ok};
 ghost use Rattle.std.specs.Prelude.{IsOk, IfSome, IfNone, OnErr};
 ghost use Rattle.bufr_base.specs.Answers.{Gives};
+ghost use Rattle.bufr_bits.specs.Bits.{number};
 ghost use Rattle.bufr_bits.specs.Ends.{left};
 ghost use Rattle.bufr_fields.specs.declared.field.Raw.TheVariants.{Number};
 ghost use Rattle.bufr_tables.specs.declared.element.Kind.TheVariants.{Text};
@@ -10,6 +11,7 @@ ghost use Rattle.bufr_data.specs.Handed.{moved_on};
 ghost use Rattle.bufr_data.specs.Plain.{raw_at};
 ghost use Rattle.bufr_data.specs.Plain.Reads.{raw_or_ends};
 
+use crate::plain::index::MOST_COUNTED_OCTETS;
 use crate::plain::read::read_raw;
 use bufr_base::Failure;
 use bufr_bits::BitReader;
@@ -49,6 +51,30 @@ impl<'a> LaidReader<'a> {
         LaidReader { octets, bit }
     }
 
+    /// Makes a reader at the place of another if 64 bits can count all bits.
+    pub(crate) fn of(reader: &BitReader<'a>) -> Option<LaidReader<'a>>
+        ensures { IfSome result (λ laid. laid ≡ reader.now) }
+    {
+        let octets = reader.octets();
+        if octets.len() > MOST_COUNTED_OCTETS {
+            return None;
+        }
+        // The bits left bound the place.
+        let _left = reader.left();
+        Some(LaidReader::at(octets, reader.place() as u64))
+    }
+
+    /// Makes another reader at the same place.
+    #[inline(always)]
+    pub(crate) fn again(&self) -> LaidReader<'a>
+        ensures { result ≡ self.now }
+    {
+        LaidReader {
+            octets: self.octets,
+            bit: self.bit,
+        }
+    }
+
     /// Returns a `BitReader` at the same place.
     #[inline(always)]
     fn here(&self) -> BitReader<'a>
@@ -76,6 +102,19 @@ impl<'a> LaidReader<'a> {
     {
         let _left = self.left();
         self.bit += bits;
+    }
+
+    /// Takes a number of `width` bits that are there.
+    #[inline(always)]
+    pub(crate) fn take_bits(&mut self, width: u32) -> u64
+        requires narrow { width ≤ 64 }
+        requires enough { width ≤ length (left self.old) }
+        ensures found { result ≡ number (take width (left self.old)) }
+        ensures moved { self.new ≡ moved_on self.old width }
+    {
+        let number = self.here().take_left(width);
+        self.move_on(u64::from(width));
+        number
     }
 
     /// Takes a number that is there; at a text returns `None` without moving.
@@ -147,10 +186,7 @@ impl<'a> LaidReader<'a> {
             (raw_or_ends 1 1 (raw_at spec (drop gap (left self.old)))) }
         ensures err { OnErr result (self.new ≡ self.old) }
     {
-        let mut later = LaidReader {
-            octets: self.octets,
-            bit: self.bit,
-        };
+        let mut later = self.again();
         later.move_on(gap);
         let raw = later.take_raw(alloc, spec)?;
         *self = later;

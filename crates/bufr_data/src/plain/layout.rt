@@ -10,19 +10,11 @@ use crate::chosen::Listed;
 use crate::plain::places::{ChosenPlace, place_fields};
 use bufr_base::{Items, OutOfMemory};
 use bufr_expand::laws::courses_are_unrollings;
-use bufr_expand::{Asks, MOST_ITEMS, Spec, Step, Template, Walk};
-use bufr_tables::Fxy;
+use bufr_expand::{Asks, CommonField, MOST_ITEMS, Step, Template, Walk};
 use std::alloc::Global;
 
 /// The most fields of a layout.
 const MOST_LAID_FIELDS: usize = 4096;
-
-/// A field of every subset.
-#[derive(Clone, Copy, PartialEq)]
-pub(crate) struct CommonField {
-    pub(crate) fxy: Fxy,
-    pub(crate) spec: Spec,
-}
 
 /// A layout: the first fields of every subset in order, the number of their items, and the places
 /// of the fields asked for. No field asked for comes later.

@@ -5,10 +5,9 @@ ghost use Rattle.bufr_data.specs.Chosen as chosen;
 ghost use Rattle.bufr_data.specs.Chosen.{placed_from};
 
 use crate::chosen::is_listed;
-use crate::plain::layout::CommonField;
 use crate::short::greatest_short;
 use bufr_base::OutOfMemory;
-use bufr_expand::Spec;
+use bufr_expand::{CommonField, Spec};
 use bufr_fields::MOST_RAW_BITS;
 use bufr_tables::Kind;
 use std::alloc::Global;

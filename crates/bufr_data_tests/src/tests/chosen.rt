@@ -386,6 +386,29 @@ fn short_numbers_of_columns(rt: HostRuntime) {
     drop(kept);
 }
 
+/// Compares the numbers that columns of temperatures have in the subset at an index.
+fn lends_numbers(rt: &impl Abort, index: &SubsetIndex, at: usize, wanted: &[u64]) {
+    assert!(rt; at < index.count());
+    let columns = index.chosen_columns(TEMPERATURES).expect(rt, "columns");
+    same(rt, columns.len(), wanted.len());
+    for (column, number) in wanted.iter().enumerate() {
+        let element = columns.fxy_at(column).expect(rt, "a column");
+        same(rt, element.bits(), 0x0C65);
+        let found = columns.number_at(column, at).expect(rt, "a number");
+        same(rt, (found.fxy.bits(), found.number), (0x0C65, *number));
+    }
+    same(rt, columns.fxy_at(wanted.len()), None);
+    same(rt, columns.number_at(wanted.len(), at), None);
+    drop(columns);
+}
+
+/// Columns are lent for the list that they were found for.
+fn lends_columns(rt: &impl Abort, index: &SubsetIndex) {
+    lends_numbers(rt, index, 0, &[27315, 5, 7]);
+    lends_numbers(rt, index, 1, &[27316, 5, 9]);
+    assert!(rt; index.chosen_columns(BLOCKS).is_none());
+}
+
 #[test]
 fn columns_of_temperatures(rt: HostRuntime) {
     let alloc = rt.alloc();
@@ -394,6 +417,7 @@ fn columns_of_temperatures(rt: HostRuntime) {
     has_numbers(&rt, alloc, &index, TEMPERATURES, 0, Some(&[27315, 5, 7]));
     has_numbers(&rt, alloc, &index, TEMPERATURES, 1, Some(&[27316, 5, 9]));
     has_numbers(&rt, alloc, &index, BLOCKS, 0, None);
+    lends_columns(&rt, &index);
     plain_after_columns(&rt, alloc, &mut kept);
     drop(index);
     drop(kept);
@@ -407,6 +431,7 @@ fn plain_after_columns(rt: &impl Abort, alloc: Global, kept: &mut DataTemplate) 
     let numbers = [27315, 5, 65535];
     has_numbers(rt, alloc, &plain, TEMPERATURES, 0, Some(&numbers));
     has_numbers(rt, alloc, &plain, TEMPERATURES, 1, Some(&[1, 2, 0]));
+    assert!(rt; plain.chosen_columns(TEMPERATURES).is_none());
     drop(plain);
     drop(first);
 }
@@ -430,6 +455,23 @@ fn is_named(rt: &impl Abort, alloc: Global, index: &SubsetIndex, at: usize, want
     drop(fields);
 }
 
+/// Compares the name that the first column has in the subset at an index, if a room takes it.
+fn lends_name(rt: &impl Abort, index: &SubsetIndex, at: usize, wanted: Option<&[u8]>) {
+    assert!(rt; at < index.count());
+    let mut room = [7; SUBSET_ROOM];
+    let columns = index.chosen_columns(NAMES).expect(rt, "columns");
+    same(rt, columns.number_at(0, at), None);
+    let found = match columns.text_at(0, at, &mut room) {
+        Some(text) => {
+            same(rt, text.fxy.bits(), 0x010B);
+            Some(text.octets)
+        }
+        None => None,
+    };
+    same(rt, found, wanted);
+    drop(columns);
+}
+
 #[test]
 fn names_of_columns(rt: HostRuntime) {
     let alloc = rt.alloc();
@@ -438,6 +480,8 @@ fn names_of_columns(rt: HostRuntime) {
         let index = indexed(&rt, alloc, &mut kept, NAMES, true, *octets, 2);
         is_named(&rt, alloc, &index, 0, *first);
         is_named(&rt, alloc, &index, 1, *second);
+        lends_name(&rt, &index, 0, Some(*first));
+        lends_name(&rt, &index, 1, Some(*second));
         drop(index);
         drop(kept);
     }
@@ -466,6 +510,7 @@ fn longer_names_are_left(rt: &impl Abort, alloc: Global) {
     let mut kept = DataTemplate::new(template(rt, alloc, list));
     let index = indexed(rt, alloc, &mut kept, NAMES, true, &octets, 2);
     is_left(rt, alloc, &index, &octets[..65]);
+    lends_name(rt, &index, 1, None);
     drop(index);
     drop(kept);
 }

@@ -5,7 +5,7 @@ ghost use Rattle.bufr_expand.specs.Walks.{waits};
 
 use super::same;
 use super::samples::{Field, answer, step, template_of};
-use bufr_expand::{Run, Walk};
+use bufr_expand::{EvenTurns, Run, Step, Walk};
 use bufr_tables::Kind;
 use std::alloc::Global;
 use std::process::Abort;
@@ -78,9 +78,13 @@ const UNTOUCHED: &[u32] = &[201130, 103000, 31001, 206016, 12101, 12101];
 /// A count, a temperature, and a block number.
 const COUNT: Option<Field> = Some((31001, Kind::Count, 0, 8));
 
-const TEMPERATURE: Option<Field> = Some((12101, Kind::Quantity, 2, 16));
+const TEMPERATURE_FIELD: Field = (12101, Kind::Quantity, 2, 16);
 
-const NUMBER: Option<Field> = Some((1001, Kind::Quantity, 0, 7));
+const TEMPERATURE: Option<Field> = Some(TEMPERATURE_FIELD);
+
+const NUMBER_FIELD: Field = (1001, Kind::Quantity, 0, 7);
+
+const NUMBER: Option<Field> = Some(NUMBER_FIELD);
 
 /// Turns that a walk passes at once, or not.
 const ROWS: &[Row<'static>] = &[
@@ -141,5 +145,166 @@ const ROWS: &[Row<'static>] = &[
 fn turns_at_once(rt: HostRuntime) {
     for row in ROWS {
         assert_row(&rt, rt.alloc(), row);
+    }
+}
+
+/// Turns that are laid out: their number, and the fields of one of them.
+type Laid<'a> = (u64, &'a [Field]);
+
+/// Descriptors, the start of a walk, the turns laid out, the items after them, and the next field.
+type LaidRow<'a> = (&'a [u32], Before, Option<Laid<'a>>, u64, Option<Field>);
+
+fn assert_fields(rt: &impl Abort, turns: &EvenTurns, wanted: &[Field]) {
+    same(rt, turns.fields.len(), wanted.len());
+    for (field, next) in turns.fields.iter().zip(wanted) {
+        same(
+            rt,
+            Step::Field(field.fxy, field.spec),
+            answer(rt, Some(*next)),
+        );
+    }
+}
+
+fn assert_laid(rt: &impl Abort, found: Option<EvenTurns>, wanted: Option<Laid<'_>>) {
+    match (&found, wanted) {
+        (Some(turns), Some((times, fields))) => {
+            same(rt, turns.turns, times);
+            assert_fields(rt, turns, fields);
+        }
+        _ => same(rt, found.is_some(), wanted.is_some()),
+    }
+    drop(found);
+}
+
+fn assert_lays(rt: &impl Abort, alloc: Global, walk: &mut Walk<'_>, row: &LaidRow<'_>)
+    requires { waits walk.old ≡ false }
+{
+    let (_, (_, steps, told), wanted, items, next) = *row;
+    for _ in 0..steps {
+        let _ = step(walk, told);
+    }
+    let found = walk.lay_turns(alloc).expect(rt, "room");
+    assert_laid(rt, found, wanted);
+    same(rt, walk.items(), items);
+    same(rt, walk.next(), Ok(answer(rt, next)));
+}
+
+fn assert_laid_row(rt: &impl Abort, alloc: Global, row: &LaidRow<'_>) {
+    let (digits, (used, _, _), _, _, _) = *row;
+    let template = template_of(rt, alloc, digits);
+    let mut walk = Walk::start(alloc, &template, used).expect(rt, "room");
+    assert_lays(rt, alloc, &mut walk, row);
+    drop(walk);
+    drop(template);
+}
+
+/// A temperature of 18 bits under 201130, and a name.
+const WIDER: Field = (12101, Kind::Quantity, 2, 18);
+
+const WIDER_NAME: Field = (1011, Kind::Text, 0, 72);
+
+/// A temperature of scale 3 under 207001: 4 bits more.
+const FINER: Field = (12101, Kind::Quantity, 3, 20);
+
+/// An element that repeats nothing.
+const REPEATS_NOTHING: Field = (31001, Kind::Quantity, 0, 8);
+
+const COUNTED: &[u32] = &[102000, 31001, 1001, 31001];
+
+/// Turns under 207, and a block after them.
+const SCALED: &[u32] = &[207001, 101000, 31001, 12101, 207000, 1001];
+
+/// Turns of a temperature, and then turns of a block.
+const AFTER_TURNS: &[u32] = &[101000, 31001, 12101, 101000, 31001, 1001];
+
+/// Turns that a walk lays out, or not.
+const LAID_ROWS: &[LaidRow<'static>] = &[
+    // all of them, and those left after one
+    (
+        PAIRS,
+        (0, 1, 100),
+        Some((100, &[TEMPERATURE_FIELD, NUMBER_FIELD])),
+        301,
+        None,
+    ),
+    (
+        PAIRS,
+        (0, 3, 100),
+        Some((99, &[TEMPERATURE_FIELD, NUMBER_FIELD])),
+        301,
+        None,
+    ),
+    // before the count, in a turn, and if none is left
+    (PAIRS, (0, 0, 100), None, 0, COUNT),
+    (PAIRS, (0, 2, 100), None, 3, NUMBER),
+    (PAIRS, (0, 1, 0), None, 1, None),
+    (PAIRS, (0, 3, 1), None, 4, None),
+    // a replication in turns: its own turns alone
+    (TURNS, (0, 1, 4), None, 1, TEMPERATURE),
+    (TURNS, (0, 2, 4), Some((2, &[TEMPERATURE_FIELD])), 9, NUMBER),
+    (COUNTS, (0, 1, 4), None, 1, NUMBER),
+    (
+        COUNTS,
+        (0, 3, 4),
+        Some((4, &[TEMPERATURE_FIELD])),
+        12,
+        NUMBER,
+    ),
+    (
+        COUNTED,
+        (0, 1, 2),
+        Some((2, &[NUMBER_FIELD, REPEATS_NOTHING])),
+        7,
+        None,
+    ),
+    // one replication after another
+    (
+        AFTER_TURNS,
+        (0, 1, 3),
+        Some((3, &[TEMPERATURE_FIELD])),
+        7,
+        COUNT,
+    ),
+    (AFTER_TURNS, (0, 5, 3), Some((3, &[NUMBER_FIELD])), 14, None),
+    // operators and a field without a spec in turns
+    (WITH_AN_OPERATOR, (0, 1, 2), None, 1, TEMPERATURE),
+    (WITHOUT_A_SPEC, (0, 1, 2), None, 1, TEMPERATURE),
+    // operators before the turns, and a field that they do not change
+    (
+        UNDER_AN_OPERATOR,
+        (0, 1, 5),
+        Some((5, &[WIDER, WIDER_NAME])),
+        17,
+        None,
+    ),
+    (
+        UNTOUCHED,
+        (0, 1, 2),
+        Some((2, &[TEMPERATURE_FIELD, WIDER])),
+        8,
+        None,
+    ),
+    (SCALED, (0, 1, 3), Some((3, &[FINER])), 8, NUMBER),
+    // the greatest number of items, and one more
+    (
+        TEMPERATURES,
+        (16_776_705, 1, 255),
+        Some((255, &[TEMPERATURE_FIELD])),
+        16_777_216,
+        None,
+    ),
+    (
+        TEMPERATURES,
+        (16_776_706, 1, 255),
+        None,
+        16_776_707,
+        TEMPERATURE,
+    ),
+];
+
+#[test]
+fn turns_laid_out(rt: HostRuntime) {
+    for row in LAID_ROWS {
+        assert_laid_row(&rt, rt.alloc(), row);
     }
 }

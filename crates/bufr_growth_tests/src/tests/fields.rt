@@ -25,6 +25,24 @@ const PACKED: &[u8] =
 /// The three characters, 205003, as 16 bits.
 const LAST: u16 = 0x8503;
 
+/// Eight turns of a character and a temperature, and three characters: 102000 031001 205001 012101
+/// 205003.
+const TURNS: [u16; 5] = [0x4200, 0x1F01, 0x8501, 0x0C65, 0x8503];
+
+/// Turns `A` and 1, to `H` and 8; `CDE`.
+const TURNS_PLAIN: &[u8] =
+    b"\x08A\x00\x01B\x00\x02C\x00\x03D\x00\x04E\x00\x05F\x00\x06G\x00\x07H\x00\x08CDE";
+
+/// Eight turns of a block and a temperature, and three characters: 102000 031001 001001 012101 205003.
+const NUMBERS: [u16; 5] = [0x4200, 0x1F01, 0x0101, 0x0C65, 0x8503];
+
+/// Turns 20 and 16640, to 27 and 16647, in seven and 16 bits; `CDE`.
+const NUMBERS_PLAIN: &[u8] =
+    b"\x08\x28\x82\x00\x55\x04\x04\xB2\x08\x11\x74\x10\x33\x08\x20\x86\x50\x41\x4D\x20\x83\x1B\x41\x07CDE";
+
+/// The temperature, 012101, as 16 bits.
+const TEMPERATURE: u16 = 0x0C65;
+
 struct LastText;
 
 impl Asks for LastText {
@@ -56,6 +74,36 @@ fn has_number(rt: &impl Abort, found: Option<Field>, number: u64) {
 fn all_come(rt: &impl Abort, alloc: Global, mut fields: Fields<'_>) {
     has_text(rt, repeated!(rt, fields.next(alloc)), b"AB");
     has_number(rt, repeated!(rt, fields.next(alloc)), 27315);
+    has_text(rt, repeated!(rt, fields.next(alloc)), b"CDE");
+    same(rt, repeated!(rt, fields.next(alloc)), None);
+    drop(fields);
+}
+
+fn all_turns_come(rt: &impl Abort, alloc: Global, mut fields: Fields<'_>) {
+    has_number(rt, repeated!(rt, fields.next(alloc)), 8);
+    for turn in 0..8 {
+        has_text(rt, repeated!(rt, fields.next(alloc)), &[b'A' + turn]);
+        has_number(rt, repeated!(rt, fields.next(alloc)), u64::from(turn) + 1);
+    }
+    has_text(rt, repeated!(rt, fields.next(alloc)), b"CDE");
+    same(rt, repeated!(rt, fields.next(alloc)), None);
+    drop(fields);
+}
+
+/// Takes turns from the temperature on. The last temperature is left.
+fn turns_are_taken(rt: &impl Abort, alloc: Global, mut fields: Fields<'_>) {
+    has_number(rt, repeated!(rt, fields.next(alloc)), 8);
+    let opener = Fxy::from_bits(TEMPERATURE);
+    let taken = repeated!(rt, fields.take_turns(alloc, &LastText, opener));
+    let mut turns = taken.expect(rt, "turns");
+    for turn in 0..7 {
+        let mut numbers = [0; 2];
+        assert!(rt; turns.fields().len() == 2);
+        same(rt, turns.next(&mut numbers), true);
+        same(rt, numbers, [16640 + turn, 21 + turn]);
+    }
+    drop(turns);
+    has_number(rt, repeated!(rt, fields.next(alloc)), 16647);
     has_text(rt, repeated!(rt, fields.next(alloc)), b"CDE");
     same(rt, repeated!(rt, fields.next(alloc)), None);
     drop(fields);
@@ -112,12 +160,15 @@ fn last_comes_chosen(rt: &impl Abort, alloc: Global, index: &SubsetIndex) {
     drop(fields);
 }
 
-fn template(rt: &impl Abort, alloc: Global) -> Template {
+fn built(rt: &impl Abort, alloc: Global, list: &[Fxy]) -> Template {
     let tables = tables(rt, alloc);
-    let list = DESCRIPTORS.map(Fxy::from_bits);
-    let built = repeated!(rt, Template::build(alloc, &tables, &list));
+    let built = repeated!(rt, Template::build(alloc, &tables, list));
     drop(tables);
     built
+}
+
+fn template(rt: &impl Abort, alloc: Global) -> Template {
+    built(rt, alloc, &DESCRIPTORS.map(Fxy::from_bits))
 }
 
 /// Reads a message without a layout, plain or compressed.
@@ -172,10 +223,47 @@ fn come_chosen(rt: &impl Abort, alloc: Global) {
     drop(kept);
 }
 
+fn with_turns<'a>(
+    rt: &impl Abort,
+    alloc: Global,
+    list: &[u16; 5],
+    octets: &'a [u8],
+) -> SubsetIndex<'a> {
+    let mut reader = BitReader::new(octets);
+    repeated!(
+        rt,
+        SubsetIndex::index(
+            alloc,
+            built(rt, alloc, &list.map(Fxy::from_bits)),
+            false,
+            &mut reader,
+            1
+        ),
+        same(rt, reader.place(), 0)
+    )
+}
+
+/// Reads turns that a walk lays out.
+fn come_in_turns(rt: &impl Abort, alloc: Global) {
+    let index = with_turns(rt, alloc, &TURNS, TURNS_PLAIN);
+    all_turns_come(rt, alloc, first_fields(rt, alloc, &index));
+    last_comes(rt, alloc, first_fields(rt, alloc, &index));
+    drop(index);
+}
+
+/// Takes turns as numbers.
+fn come_as_numbers(rt: &impl Abort, alloc: Global) {
+    let index = with_turns(rt, alloc, &NUMBERS, NUMBERS_PLAIN);
+    turns_are_taken(rt, alloc, first_fields(rt, alloc, &index));
+    drop(index);
+}
+
 #[test]
 fn fields_handed_out(rt: HostRuntime) {
     come_unlaid(&rt, rt.alloc(), false, PLAIN, 1);
     come_unlaid(&rt, rt.alloc(), true, PACKED, 2);
     come_laid(&rt, rt.alloc());
     come_chosen(&rt, rt.alloc());
+    come_in_turns(&rt, rt.alloc());
+    come_as_numbers(&rt, rt.alloc());
 }

@@ -3,7 +3,8 @@
 
 use crate::tests::devices::{Reader, Writer};
 use crate::tests::same;
-use crate::tests::samples::{EDITION_5, SOUNDING, TABLE_B, TABLE_D};
+use crate::tests::samples::{COMPRESSED, EDITION_5, SOUNDING, TABLE_B, TABLE_D};
+use crate::tests::turns::TWICE;
 use bufr_io::{Tally, ToolFault, load_tables};
 use bufr_select_engine::{Column, Outputs, VersionTables, columns_of, run_select};
 use bufr_tables::{Fxy, Tables};
@@ -17,6 +18,9 @@ const ROOM: usize = 4096;
 const ROWS: &[u8] = b"input,message,001001,007004,011001,012101\n\
 1,2,10,100000,180,\n1,2,10,85000,,\n1,2,10,70000,270,273.15\n\
 2,1,10,100000,180,\n2,1,10,85000,,\n2,1,10,70000,270,273.15\n";
+
+/// The columns of the rows.
+const COLUMNS: &str = "input,message,001001,007004,011001,012101";
 
 /// All refusals.
 const LINES: &[u8] = b"bufr-select: input 1 at 0: M2 Edition 5\n";
@@ -42,8 +46,7 @@ fn tables(rt: &impl Abort, alloc: Global) -> Tables {
     }
 }
 
-fn columns(rt: &impl Abort, alloc: Global) -> Vec<Column> {
-    let text = "input,message,001001,007004,011001,012101";
+fn columns(rt: &impl Abort, alloc: Global, text: &str) -> Vec<Column> {
     match columns_of(alloc, text) {
         Ok(columns) => columns,
         Err(_) => columns_of(alloc, text)
@@ -52,13 +55,18 @@ fn columns(rt: &impl Abort, alloc: Global) -> Vec<Column> {
     }
 }
 
-fn pairs<'t>(rt: &impl Abort, alloc: Global, tables: &'t Tables) -> Vec<VersionTables<'t>> {
+fn pairs<'t>(
+    rt: &impl Abort,
+    alloc: Global,
+    tables: &'t Tables,
+    list: &'t [u16],
+) -> Vec<VersionTables<'t>> {
     let mut pairs = match Vec::with_capacity(alloc, 1) {
         Ok(pairs) => pairs,
         Err(_) => Vec::with_capacity(alloc, 1).expect(rt, "what no longer is refused"),
     };
     pairs
-        .push(VersionTables::new(alloc, None, tables))
+        .push(VersionTables::for_elements(alloc, None, tables, list))
         .ok()
         .expect(rt, "room for one");
     pairs
@@ -72,11 +80,16 @@ fn refused_and_sounding(rt: &impl Abort, alloc: Global) -> Vec<u8> {
     octets
 }
 
-/// Returns whether an answer is the tally; it stops the test at another answer than want of memory.
-fn is_tally(rt: &impl Abort, answer: Result<Tally, ToolFault>) -> bool {
+/// Returns whether an answer is the tally of these frames; it stops the test at another answer than want of memory.
+fn is_tally(
+    rt: &impl Abort,
+    answer: Result<Tally, ToolFault>,
+    frames: u128,
+    refused: u128,
+) -> bool {
     let tally = Tally {
-        frames: 3,
-        refused: 1,
+        frames,
+        refused,
         skipped: 0,
         reports: 0,
     };
@@ -94,8 +107,8 @@ fn is_tally(rt: &impl Abort, answer: Result<Tally, ToolFault>) -> bool {
 /// and whether that is all; it stops the test at another answer than the tally or want of memory.
 fn select(rt: &impl Abort, alloc: Global) -> (Vec<u8>, Vec<u8>, bool) {
     let tables = tables(rt, alloc);
-    let columns = columns(rt, alloc);
-    let pairs = pairs(rt, alloc, &tables);
+    let columns = columns(rt, alloc, COLUMNS);
+    let pairs = pairs(rt, alloc, &tables, &[]);
     let first = refused_and_sounding(rt, alloc);
     let mut inputs = [
         Reader::new(&first, 20, false),
@@ -109,7 +122,7 @@ fn select(rt: &impl Abort, alloc: Global) -> (Vec<u8>, Vec<u8>, bool) {
     let answer = run_select(alloc, 1000, pairs, &columns, each, &mut inputs, &mut out);
     drop(columns);
     drop(tables);
-    let is_all = is_tally(rt, answer);
+    let is_all = is_tally(rt, answer, 3, 1);
     (out.rows.taken, out.refusals.taken, is_all)
 }
 
@@ -133,4 +146,83 @@ fn rows_with_each_growth_refused(rt: HostRuntime) {
     same(&rt, is_all || is_all_again, true, 0);
     same(&rt, rows.len() == ROWS.len(), is_all, rows.len());
     same(&rt, again.len() == ROWS.len(), is_all_again, again.len());
+}
+
+/// The rows of two compressed messages.
+const ROWS_OF_COLUMNS: &[u8] = b"message,subset,001002,012101\n\
+1,1,384,273.15\n1,2,384,\n2,1,384,273.15\n2,2,384,\n";
+
+/// The rows of two messages with eight levels.
+const ROWS_OF_TURNS: &[u8] =
+    b"message,007004,012101#2\n1,1000,200.00\n1,1010,200.01\n1,1020,200.02\n\
+1,1030,\n1,1040,200.04\n1,1050,200.05\n1,1060,200.06\n1,1070,200.07\n2,1000,200.00\n2,1010,200.01\n\
+2,1020,200.02\n2,1030,\n2,1040,200.04\n2,1050,200.05\n2,1060,200.06\n2,1070,200.07\n";
+
+/// A selection from a message that comes twice.
+#[derive(Clone, Copy)]
+struct Selection<'a> {
+    columns: &'a str,
+    each: &'a str,
+    list: &'a [u16],
+    message: &'a [u8],
+}
+
+/// Selects, and returns the rows and whether that is all.
+fn select_twice(rt: &impl Abort, alloc: Global, run: Selection<'_>) -> (Vec<u8>, bool) {
+    let tables = tables(rt, alloc);
+    let columns = columns(rt, alloc, run.columns);
+    let pairs = pairs(rt, alloc, &tables, run.list);
+    let mut octets = list_with_room(rt, alloc);
+    for _ in 0..2u32 {
+        octets.extend_from_slice(run.message).expect(rt, "room");
+    }
+    let mut inputs = [Reader::new(&octets, 20, false)];
+    let mut out = Outputs {
+        rows: Writer::over(list_with_room(rt, alloc), ROOM),
+        refusals: Writer::over(list_with_room(rt, alloc), ROOM),
+    };
+    let each = Fxy::from_text(run.each.as_bytes());
+    let answer = run_select(alloc, 1000, pairs, &columns, each, &mut inputs, &mut out);
+    drop(columns);
+    drop(tables);
+    let is_all = is_tally(rt, answer, 2, 0);
+    same(rt, out.refusals.taken.as_slice(), b"", 0);
+    (out.rows.taken, is_all)
+}
+
+/// Stops the test unless a selection has these rows; after a refusal the first of them.
+fn assert_twice(rt: &impl Abort, alloc: Global, run: Selection<'_>, wanted: &[u8]) {
+    let (rows, is_all) = select_twice(rt, alloc, run);
+    assert_front(rt, &rows, wanted);
+    let (again, is_all_again) = select_twice(rt, alloc, run);
+    assert_front(rt, &again, wanted);
+    same(rt, is_all || is_all_again, true, 0);
+    same(rt, rows.len() == wanted.len(), is_all, rows.len());
+    same(rt, again.len() == wanted.len(), is_all_again, again.len());
+}
+
+/// Rows straight from the columns of messages.
+#[test]
+fn rows_of_columns_with_each_growth_refused(rt: HostRuntime) {
+    let alloc = rt.alloc();
+    let run = Selection {
+        columns: "message,subset,001002,012101",
+        each: "",
+        list: &[0x0102, 0x0C65],
+        message: COMPRESSED,
+    };
+    assert_twice(&rt, alloc, run, ROWS_OF_COLUMNS);
+}
+
+/// Rows straight from the numbers of turns.
+#[test]
+fn rows_of_turns_with_each_growth_refused(rt: HostRuntime) {
+    let alloc = rt.alloc();
+    let run = Selection {
+        columns: "message,007004,012101#2",
+        each: "007004",
+        list: &[],
+        message: TWICE,
+    };
+    assert_twice(&rt, alloc, run, ROWS_OF_TURNS);
 }

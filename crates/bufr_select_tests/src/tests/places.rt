@@ -1,8 +1,10 @@
 //! Rows by the places of their fields, which a pair of tables finds for a list of descriptors.
 
 use super::samples::{
-    COMMA_IN_COLUMNS, LEVELS, LEVELS_IN_COLUMNS, LEVELS_NEXT, LEVELS_OF_TWO, MISSING, NAMED,
-    NAMED_IN_COLUMNS, NAMED_OF_THREE, OF_46, SEQUENCES, SOUNDING, TABLE_B, TEXTS, UNEQUAL,
+    COMMA_IN_COLUMNS, COMPRESSED, FOUR_COLUMNS, LEVELS, LEVELS_IN_COLUMNS, LEVELS_NEXT,
+    LEVELS_OF_TWO, LONG_FRONT, MISSING, NAMED, NAMED_IN_COLUMNS, NAMED_OF_THREE, OF_46,
+    ONE_WORD_IN_COLUMNS, SEQUENCES, SIGNS_IN_COLUMNS, SOUNDING, TABLE_B, TEXTS, UNEQUAL,
+    WORDS_IN_COLUMNS,
 };
 use super::{Run, assert_run, joined, tables_of};
 use bufr_select_engine::VersionTables;
@@ -133,6 +135,69 @@ const ROWS: &[Row] = &[
         &[LEVELS_OF_TWO, LEVELS_OF_TWO],
         "message,subset\n1,1\n1,2\n2,1\n2,2\n",
     ),
+    (
+        "message,subset,007004#2,007004,012101#3,012101#1,012101#4,001001,031001",
+        "",
+        &[0x0101, 0x0704, 0x0C65, 0x1F01],
+        &[LEVELS_IN_COLUMNS, LEVELS, LEVELS_IN_COLUMNS],
+        "message,subset,007004#2,007004,012101#3,012101#1,012101#4,001001,031001\n\
+        1,1,80000,90020,270.15,280.01,,20,\n1,2,80000,90000,270.00,,,20,\n\
+        2,1,85000,100000,,273.15,,10,\n\
+        3,1,80000,90020,270.15,280.01,,20,\n3,2,80000,90000,270.00,,,20,\n",
+    ),
+    (
+        "subset,005001,011002,004001",
+        "",
+        &[0x0401, 0x0501, 0x0B02],
+        &[SIGNS_IN_COLUMNS],
+        "subset,005001,011002,004001\n1,-12.34567,5.2,0\n2,0.00001,12.0,0\n3,,0.7,0\n",
+    ),
+    (
+        "subset,001011,001011#2,012101",
+        "",
+        &[0x010B, 0x0C65],
+        &[WORDS_IN_COLUMNS, ONE_WORD_IN_COLUMNS],
+        "subset,001011,001011#2,012101\n1,ab,pq,273.15\n2,\\07b,r,273.15\n\
+        3,\"\"\"q\",,273.15\n4,,s\\0d,273.15\n5,,tu,273.15\n6,a\\5cb,vw,273.15\n\
+        1,xy,,\n2,xy,,\n",
+    ),
+    (
+        "001001,001011",
+        "",
+        &[0x0101, 0x010B],
+        &[ONE_WORD_IN_COLUMNS, COMPRESSED],
+        "001001,001011\n11,xy\n,xy\n10,\n10,\n",
+    ),
+    (
+        "subset,012101",
+        "",
+        &[0x0C65],
+        &[LEVELS_IN_COLUMNS],
+        "subset,012101\n1,280.01\n2,\n",
+    ),
+    (
+        "012101",
+        "",
+        &[0x0C65],
+        &[LEVELS_IN_COLUMNS],
+        "012101\n280.01\n\"\"\n",
+    ),
+    (
+        "input,message,place,subset,compressed,centre,year,month,day,hour,observed,master_version",
+        "",
+        &[],
+        &[COMPRESSED, COMPRESSED],
+        "input,message,place,subset,compressed,centre,year,month,day,hour,observed,master_version\n\
+        1,1,0,1,1,98,2024,1,15,12,1,37\n1,1,0,2,1,98,2024,1,15,12,1,37\n\
+        1,2,68,1,1,98,2024,1,15,12,1,37\n1,2,68,2,1,98,2024,1,15,12,1,37\n",
+    ),
+    (
+        "subset,012101,012101#2",
+        "012101",
+        &[0x0C65],
+        &[LEVELS_IN_COLUMNS],
+        "subset,012101,012101#2\n1,280.01,\n1,,\n1,270.15,\n2,,\n2,,\n2,270.00,\n",
+    ),
 ];
 
 /// Makes the pair of tables that reads all versions, and finds the places of these descriptors.
@@ -178,5 +243,72 @@ fn rows_by_places(rt: HostRuntime) {
         assert_row(&rt, alloc, &tables, row.2, place, row);
         assert_row(&rt, alloc, &tables, &[], place, row);
     }
+    drop(tables);
+}
+
+/// Adds a text several times, with commas between.
+fn add_columns(rt: &impl Abort, text: &mut Vec<u8>, word: &[u8], numbered: bool, alloc: Global) {
+    for number in 1..201u32 {
+        if number > 1 {
+            text.push(b',').expect(rt, "memory");
+        }
+        text.extend_from_slice(word).expect(rt, "memory");
+        if numbered {
+            let mark = format!(in alloc; "#{number}").expect(rt, "memory");
+            text.extend_from_slice(mark.as_bytes()).expect(rt, "memory");
+        }
+    }
+}
+
+fn long_message(rt: &impl Abort, alloc: Global) -> Vec<u8> {
+    let mut message = joined(rt, alloc, &[LONG_FRONT]);
+    for _ in 0..50u32 {
+        message.extend_from_slice(FOUR_COLUMNS).expect(rt, "memory");
+    }
+    message.extend_from_slice(b"7777").expect(rt, "memory");
+    message
+}
+
+/// Rows of two hundred columns, which are longer than the room of a short row.
+#[test]
+fn long_rows_of_columns(rt: HostRuntime) {
+    let alloc = rt.alloc();
+    let tables = tables_of(&rt, alloc, TABLE_B);
+    let message = long_message(&rt, alloc);
+    let mut words = Vec::new(alloc);
+    add_columns(&rt, &mut words, b"012101", true, alloc);
+    let mut row = Vec::new(alloc);
+    add_columns(&rt, &mut row, b"273.15", false, alloc);
+    let rows = joined(&rt, alloc, &[&words, b"\n", &row, b"\n", &row, b"\n"]);
+    let columns = std::str::from_utf8(&words).ok().expect(&rt, "ASCII");
+    let run = Run::new(columns, "", &message, b"");
+    let pairs = pair_for(&rt, alloc, &tables, &[0x0C65]);
+    assert_run(&rt, alloc, pairs, run, Ok((1, 0)), &rows, b"");
+    drop(tables);
+}
+
+/// A thousand compressed messages, whose rows are longer than what is written at once.
+#[test]
+fn thousands_of_rows_of_columns(rt: HostRuntime) {
+    let alloc = rt.alloc();
+    let tables = tables_of(&rt, alloc, TABLE_B);
+    let mut stream = Vec::new(alloc);
+    let mut rows = joined(
+        &rt,
+        alloc,
+        &[b"message,place,subset,001002,012101,centre,year,month\n"],
+    );
+    for turn in 0..1200u32 {
+        stream.extend_from_slice(COMPRESSED).expect(&rt, "memory");
+        let (number, place) = (turn + 1, 68 * turn);
+        let two = format!(in alloc;
+            "{number},{place},1,384,273.15,98,2024,1\n{number},{place},2,384,,98,2024,1\n"
+        ).expect(&rt, "memory");
+        rows.extend_from_slice(two.as_bytes()).expect(&rt, "memory");
+    }
+    let columns = "message,place,subset,001002,012101,centre,year,month";
+    let run = Run::new(columns, "", &stream, b"");
+    let pairs = pair_for(&rt, alloc, &tables, &[0x0102, 0x0C65]);
+    assert_run(&rt, alloc, pairs, run, Ok((1200, 0)), &rows, b"");
     drop(tables);
 }

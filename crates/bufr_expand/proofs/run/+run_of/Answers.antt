@@ -2,26 +2,17 @@
 use Rattle.std.proofs.Common.{rules, refl, ◌≡◌, ◌-◌, ◌+◌, length, drop, take, ap, sym, ◌∙◌, arith}
 use Rattle.std.proofs.Common.{length-drop, [], ℕ, false, Option, Some}
 use Rattle.std.proofs.lemmas.List.{take_all, nil_from_length}
-use Rattle.bufr_tables.specs.declared.element.Kind.{Kind}
 use Rattle.bufr_tables.specs.declared.element.Kind.TheVariants as kinds
-use Rattle.bufr_tables.specs.Elements.{same_kind}
 use Rattle.bufr_expand.specs.declared.operators.Spec.{Spec}
 use Rattle.bufr_expand.specs.OperatorsInForce.{effective}
 use Rattle.bufr_expand.specs.Runs.{IsFieldRun}
 use Rattle.bufr_expand.specs.Trees.{tree_within}
 use Rattle.bufr_expand.proofs.PassFacts.{spec_ok}
-use Rattle.bufr_expand.proofs.RunFacts.{begins_nowhere, begins_joined, begins_element}
+use Rattle.bufr_expand.proofs.RunFacts.{no_count, begins_nowhere, begins_joined, begins_element}
 use Rattle.bufr_expand.proofs.RunFacts.{begins_untouched, begins_repeated, begins_rest, turns_of_run}
 use Rattle.bufr_expand.proofs.run.+run_of.Goals as goal
 use Rattle.bufr_expand.proofs.run.+run_of.Goals.{first_run-in-Element+in_ok-spec-in-Element}
 use Rattle.bufr_expand.proofs.run.+run_of.Goals.{first_run-in-Untouched+in_ok-spec-in-Untouched}
-
-no_count : (kind : Kind) → (kind ≡ kinds.Count → ⊥) → same_kind kind kinds.Count ≡ false
-no_count kinds.Text not = refl
-no_count kinds.Code not = refl
-no_count kinds.Flag not = refl
-no_count kinds.Quantity not = refl
-no_count kinds.Count not = absurd (not refl)
 
 field_run : (found : Option Spec) (spec : Spec) (bits : ℕ) → found ≡ Some spec
     → (spec.kind ≡ kinds.Count → ⊥) → bits ≡ spec.width

@@ -1,5 +1,5 @@
 -- Field by field, until no cell waits for a field that is left.
-use Rattle.std.proofs.Common.{◌≡◌, Some, None, true, ◌∙◌, sym, subst, arith}
+use Rattle.std.proofs.Common.{◌≡◌, Some, None, true, ◌∙◌, refl, sym, subst, arith}
 use Rattle.bufr_fields.specs.Values.{as_field}
 use Rattle.bufr_select_rows.specs.Asks.{IsSetOf, flagged}
 use Rattle.bufr_select_rows.proofs.PickFacts.{picked_after}
@@ -56,9 +56,10 @@ returns-in-Ok-None-clause-row g c =
 -- the cells have the same columns when more numbers are noted
 pub fill_numbers-requires-in-Ok-Some : goal.fill_numbers-requires-in-Ok-Some
 fill_numbers-requires-in-Ok-Some g c =
-    subst (IsSetOf c.args.asked.now None)
+    let covers = subst (IsSetOf c.args.asked.now None)
     (sym (columns_kept c.fields.cells c.note_field.new.cells c.in-Ok-Some.field
-    c.in_ok-note_field-in-Ok-Some.ensures ∙ c.fields.invariant.columns)) c.requires
+    c.in_ok-note_field-in-Ok-Some.ensures ∙ c.fields.invariant.columns)) c.requires in
+    λ k. ((refl, tt), covers)
 
 -- one field more was taken, and the numbers after it
 pub fields-preserved-in_ok-due-in-Ok-Some : goal.fields-preserved-in_ok-due-in-Ok-Some

@@ -1,5 +1,5 @@
 -- The cells begin the subset, and then its chosen fields come.
-use Rattle.std.proofs.Common.{◌≡◌, List, OnOk, ◌∙◌, map, sym, ap, subst}
+use Rattle.std.proofs.Common.{◌≡◌, List, OnOk, ◌∙◌, map, refl, sym, ap, subst}
 use Rattle.bufr_select_rows.specs.Asks.{IsSetOf}
 use Rattle.bufr_select_rows.specs.CellLaws.{columns_begun}
 use Rattle.bufr_select_rows.specs.Cells.{opens_at_once, rows_left}
@@ -10,13 +10,14 @@ use Rattle.bufr_select_rows.proofs.ChosenFacts.{covers_listed, rows_chosen}
 use Rattle.bufr_select_rows.proofs.PickedFacts.{rows_begun}
 use Rattle.bufr_select_rows.proofs.picker.put_chosen.Goals as goal
 
-pub put_rows-requires-clause-covers : goal.put_rows-requires-clause-covers
-put_rows-requires-clause-covers g c =
+pub put_rows-requires : goal.put_rows-requires
+put_rows-requires g c =
     let a = c.args in
     let is = ap (λ (cells : List Cell). map (λ cell. cell.column) cells)
     c.in_ok-begin_cells.ensures
     ∙ columns_begun (origin a.from.now) a.cells.now in
-    subst (IsSetOf a.asked.now a.each) (sym is) c.requires.covers
+    let covers = subst (IsSetOf a.asked.now a.each) (sym is) c.requires.covers in
+    λ k. ((refl, tt), (c.requires.works, covers))
 
 pub returns-clause-puts : goal.returns-clause-puts
 returns-clause-puts g c list all lists fields_are =

@@ -1,126 +1,29 @@
 -- Subset by subset, until none is left.
-use Rattle.std.proofs.Common.{◌+◌, List, ◌∙◌, map, drop, length, ap, arith}
+use Rattle.std.proofs.Common.{Err, ◌+◌, ◌∙◌, map, drop, arith, refl}
 use Rattle.bufr_io.specs.declared.fault.ToolFault.TheVariants as faults
 use Rattle.bufr_io.specs.PassingLaws.{passed}
 use Rattle.bufr_select_rows.specs.Rows.{origin, rows}
-use Rattle.bufr_select_rows.specs.declared.cell.Cell.{Cell}
 use Rattle.bufr_io.specs.HeldTexts.{PutsOrStops}
 use Rattle.bufr_select_rows.specs.MessageRows.{subsets_rows}
-use Rattle.bufr_io.specs.HeldLaws.{some_next, some_ran_out, some_stops}
-use Rattle.bufr_select_rows.proofs.ChosenFacts.{subset_there}
-use Rattle.bufr_select_rows.proofs.PickedFacts.{all_written, covers_same, subset_next}
+use Rattle.bufr_io.specs.HeldLaws.{some_first, some_next, some_stops}
+use Rattle.bufr_io.specs.HeldLaws.{stops_none}
+use Rattle.bufr_io.specs.HeldTexts.{Puts}
+use Rattle.bufr_select_rows.proofs.ChosenFacts.{subset_put}
+use Rattle.bufr_select_rows.proofs.PickedFacts.{covers_same, subset_next}
 use Rattle.bufr_select_rows.proofs.picker.put_message.Goals as goal
 
 -- the cells have the columns that the set covers
-pub put_chosen-requires-clause-covers : goal.put_chosen-requires-clause-covers
-put_chosen-requires-clause-covers g c =
+pub put_subset_at-requires-clause-covers : goal.put_subset_at-requires-clause-covers
+put_subset_at-requires-clause-covers g c =
     let p = c.args.picker.now in
     let q = c.loop-index.picker in
     let inv = c.loop-index.invariant in
     covers_same p.asked q.asked p.each q.each (map (λ cell. cell.column) p.cells.items)
-    (map (λ cell. cell.column) c.deref_mut.result.now) inv.asked inv.each
-    (ap (λ (cells : List Cell). map (λ cell. cell.column) cells) c.deref_mut.ensures.value
-    ∙ inv.columns)
-    c.requires.covers
-
--- putting a subset by its chosen fields stopped
-pub returns-in_err-put_chosen-clause-puts : goal.returns-in_err-put_chosen-clause-puts
-returns-in_err-put_chosen-clause-puts g c =
-    let p = c.args.picker.now in
-    let q = c.loop-index.picker in
-    let inv = c.loop-index.invariant in
-    let all = map (λ cell. cell.column) p.cells.items in
-    let o = origin c.args.from.now in
-    let subsets = c.args.found.now.message.subsets in
-    let i = c.loop-index.index in
-    let lent = c.deref_mut.result.now in
-    let same = ap (λ (cells : List Cell). map (λ cell. cell.column) cells) c.deref_mut.ensures.value
-    ∙ inv.columns in
-    let whole = subsets_rows p.each all o 1 subsets in
-    let left = subsets_rows p.each all o (i + 1) (drop i subsets) in
-    let rest = subsets_rows p.each all o (i + 1 + 1) (drop (i + 1) subsets) in
-    let subset = subset_there c.listed.result.now i subsets c.in-Some.fields (omega arith)
-    c.in-Some.ensures in
-    let here = rows (map (λ cell. cell.column) lent) q.each (record (origin c.loop-index.here) { subset = i + 1 }) subset.0 in
-    let next = subset_next p.each q.each all (map (λ cell. cell.column) lent) o
-    (record (origin c.loop-index.here) { subset = i + 1 }) i subsets subset.0 inv.each same (inv.here (i + 1)) subset.1 in
-    passed
-    (PutsOrStops whole c.args.rows.now (g.W.Sink.writing c.args.writer.now) c.put_chosen.new.rows
-    (g.W.Sink.writing c.put_chosen.new.writer))
-    c.from_residual.result c.in_err-put_chosen.field-0.0 c.from_residual.ensures.1
-    (some_stops whole left here rest c.args.rows.now c.loop-index.rows c.put_chosen.new.rows
-    (g.W.Sink.writing c.args.writer.now) (g.W.Sink.writing c.loop-index.writer)
-    (g.W.Sink.writing c.put_chosen.new.writer) c.in_err-put_chosen.field-0.0 inv.rows next
-    (c.in_err-put_chosen.ensures.puts c.listed.result.now subset.0 c.listed.ensures subset.2))
-
--- one subset more was put by its chosen fields
-pub loop-index-preserved-in-Some : goal.loop-index-preserved-in-Some
-loop-index-preserved-in-Some g c =
-    let p = c.args.picker.now in
-    let q = c.loop-index.picker in
-    let inv = c.loop-index.invariant in
-    let all = map (λ cell. cell.column) p.cells.items in
-    let o = origin c.args.from.now in
-    let subsets = c.args.found.now.message.subsets in
-    let i = c.loop-index.index in
-    let lent = c.deref_mut.result.now in
-    let same = ap (λ (cells : List Cell). map (λ cell. cell.column) cells) c.deref_mut.ensures.value
-    ∙ inv.columns in
-    let whole = subsets_rows p.each all o 1 subsets in
-    let left = subsets_rows p.each all o (i + 1) (drop i subsets) in
-    let rest = subsets_rows p.each all o (i + 1 + 1) (drop (i + 1) subsets) in
-    let subset = subset_there c.listed.result.now i subsets c.in-Some.fields (omega arith)
-    c.in-Some.ensures in
-    let here = rows (map (λ cell. cell.column) lent) q.each (record (origin c.loop-index.here) { subset = i + 1 }) subset.0 in
-    let next = subset_next p.each q.each all (map (λ cell. cell.column) lent) o
-    (record (origin c.loop-index.here) { subset = i + 1 }) i subsets subset.0 inv.each same (inv.here (i + 1)) subset.1 in
-    let e = c.in_ok-put_chosen.ensures in
-    record {
-      rows = some_next whole left here rest c.args.rows.now c.loop-index.rows
-          c.put_chosen.new.rows (g.W.Sink.writing c.args.writer.now)
-          (g.W.Sink.writing c.loop-index.writer) (g.W.Sink.writing c.put_chosen.new.writer)
-          inv.rows next (e.puts c.listed.result.now subset.0 c.listed.ensures subset.2) e.works;
-      columns = ap (λ (cells : List Cell). map (λ cell. cell.column) cells)
-          (all_written q.cells.len c.put_chosen.new.cells q.cells.items q.cells.ok.0
-          (omega (arith, c.put_chosen.auto.cells, ap length c.deref_mut.ensures.value)))
-          ∙ e.columns ∙ same;
-      here = inv.here;
-      each = inv.each;
-      asked = inv.asked;
-    }
-
--- there was no memory for the fields of a subset
-pub returns-in_err-fields-clause-puts : goal.returns-in_err-fields-clause-puts
-returns-in_err-fields-clause-puts g c =
-    let p = c.args.picker.now in
-    let all = map (λ cell. cell.column) p.cells.items in
-    let o = origin c.args.from.now in
-    let subsets = c.args.found.now.message.subsets in
-    let i = c.loop-index.index in
-    let r = c.args.rows.now in
-    let w = g.W.Sink.writing c.args.writer.now in
-    let w1 = g.W.Sink.writing c.loop-index.writer in
-    let whole = subsets_rows p.each all o 1 subsets in
-    passed (PutsOrStops whole r w c.loop-index.rows w1) c.from_residual-in_err-fields.result faults.OutOfMemory
-    c.from_residual-in_err-fields.ensures.1
-    (some_ran_out whole (subsets_rows p.each all o (i + 1) (drop i subsets)) r c.loop-index.rows w
-    w1 c.loop-index.invariant.rows)
-
--- the cells have the columns that the set covers
-pub put_subset-requires-clause-covers : goal.put_subset-requires-clause-covers
-put_subset-requires-clause-covers g c =
-    let p = c.args.picker.now in
-    let q = c.loop-index.picker in
-    let inv = c.loop-index.invariant in
-    covers_same p.asked q.asked p.each q.each (map (λ cell. cell.column) p.cells.items)
-    (map (λ cell. cell.column) c.deref_mut-in-loop-index.result.now) inv.asked inv.each
-    (ap (λ (cells : List Cell). map (λ cell. cell.column) cells) c.deref_mut-in-loop-index.ensures.value
-    ∙ inv.columns)
-    c.requires.covers
+    (map (λ cell. cell.column) q.cells.items) inv.asked inv.each inv.columns c.requires.covers
 
 -- putting a subset stopped
-pub returns-in_err-put_subset-clause-puts : goal.returns-in_err-put_subset-clause-puts
-returns-in_err-put_subset-clause-puts g c =
+pub returns-in_err-put_subset_at-clause-puts : goal.returns-in_err-put_subset_at-clause-puts
+returns-in_err-put_subset_at-clause-puts g c =
     let p = c.args.picker.now in
     let q = c.loop-index.picker in
     let inv = c.loop-index.invariant in
@@ -128,26 +31,28 @@ returns-in_err-put_subset-clause-puts g c =
     let o = origin c.args.from.now in
     let subsets = c.args.found.now.message.subsets in
     let i = c.loop-index.index in
-    let lent = c.deref_mut-in-loop-index.result.now in
-    let same = ap (λ (cells : List Cell). map (λ cell. cell.column) cells) c.deref_mut-in-loop-index.ensures.value
-    ∙ inv.columns in
+    let from = record (origin c.loop-index.here) { subset = i + 1 } in
     let whole = subsets_rows p.each all o 1 subsets in
     let left = subsets_rows p.each all o (i + 1) (drop i subsets) in
     let rest = subsets_rows p.each all o (i + 1 + 1) (drop (i + 1) subsets) in
-    let here = rows (map (λ cell. cell.column) lent) q.each (record (origin c.loop-index.here) { subset = i + 1 })
-    c.in_ok-fields.fields in
-    let next = subset_next p.each q.each all (map (λ cell. cell.column) lent) o
-    (record (origin c.loop-index.here) { subset = i + 1 }) i subsets c.in_ok-fields.fields inv.each same (inv.here (i + 1))
-    c.in_ok-fields.ensures in
+    let held = c.loop-index.rows in
+    let e = c.in_err-put_subset_at.field-0.0 in
+    let put = subset_put subsets i
+    (λ s. PutsOrStops (rows (map (λ cell. cell.column) q.cells.items) q.each from s.fields) held
+    (g.W.Sink.writing c.loop-index.writer) c.put_subset_at.new.rows
+    (g.W.Sink.writing c.put_subset_at.new.writer) (Err e))
+    (omega arith) c.in_err-put_subset_at.ensures.puts in
+    let still = inv.rows in
     passed
-    (PutsOrStops whole c.args.rows.now (g.W.Sink.writing c.args.writer.now) c.put_subset.new.rows
-    (g.W.Sink.writing c.put_subset.new.writer))
-    c.from_residual-in_err-put_subset.result c.in_err-put_subset.field-0.0
-    c.from_residual-in_err-put_subset.ensures.1
-    (some_stops whole left here rest c.args.rows.now c.loop-index.rows c.put_subset.new.rows
-    (g.W.Sink.writing c.args.writer.now) (g.W.Sink.writing c.loop-index.writer)
-    (g.W.Sink.writing c.put_subset.new.writer) c.in_err-put_subset.field-0.0 inv.rows next
-    c.in_err-put_subset.ensures.puts)
+    (PutsOrStops whole c.args.rows.now (g.W.Sink.writing c.args.writer.now) c.put_subset_at.new.rows
+    (g.W.Sink.writing c.put_subset_at.new.writer))
+    c.from_residual-in_err-put_subset_at.result e c.from_residual-in_err-put_subset_at.ensures.1
+    (some_stops whole left (rows (map (λ cell. cell.column) q.cells.items) q.each from put.0.fields) rest
+    c.args.rows.now held c.put_subset_at.new.rows (g.W.Sink.writing c.args.writer.now)
+    (g.W.Sink.writing c.loop-index.writer) (g.W.Sink.writing c.put_subset_at.new.writer) e still
+    (subset_next p.each q.each all (map (λ cell. cell.column) q.cells.items) o from i subsets put.0.fields
+    inv.each inv.columns (inv.here (i + 1)) put.1)
+    put.2)
 
 -- one subset more was put
 pub loop-index-preserved : goal.loop-index-preserved
@@ -159,28 +64,53 @@ loop-index-preserved g c =
     let o = origin c.args.from.now in
     let subsets = c.args.found.now.message.subsets in
     let i = c.loop-index.index in
-    let lent = c.deref_mut-in-loop-index.result.now in
-    let same = ap (λ (cells : List Cell). map (λ cell. cell.column) cells) c.deref_mut-in-loop-index.ensures.value
-    ∙ inv.columns in
+    let from = record (origin c.loop-index.here) { subset = i + 1 } in
     let whole = subsets_rows p.each all o 1 subsets in
     let left = subsets_rows p.each all o (i + 1) (drop i subsets) in
     let rest = subsets_rows p.each all o (i + 1 + 1) (drop (i + 1) subsets) in
-    let here = rows (map (λ cell. cell.column) lent) q.each (record (origin c.loop-index.here) { subset = i + 1 })
-    c.in_ok-fields.fields in
-    let next = subset_next p.each q.each all (map (λ cell. cell.column) lent) o
-    (record (origin c.loop-index.here) { subset = i + 1 }) i subsets c.in_ok-fields.fields inv.each same (inv.here (i + 1))
-    c.in_ok-fields.ensures in
-    let e = c.in_ok-put_subset.ensures in
+    let held = c.loop-index.rows in
+    let e = c.in_ok-put_subset_at.ensures in
+    let put = subset_put subsets i
+    (λ s. Puts (rows (map (λ cell. cell.column) q.cells.items) q.each from s.fields) held
+    (g.W.Sink.writing c.loop-index.writer) c.put_subset_at.new.rows
+    (g.W.Sink.writing c.put_subset_at.new.writer))
+    (omega arith) e.puts in
+    let still = inv.rows in
     record {
-      rows = some_next whole left here rest c.args.rows.now c.loop-index.rows
-          c.put_subset.new.rows (g.W.Sink.writing c.args.writer.now)
-          (g.W.Sink.writing c.loop-index.writer) (g.W.Sink.writing c.put_subset.new.writer)
-          inv.rows next e.puts e.works;
-      columns = ap (λ (cells : List Cell). map (λ cell. cell.column) cells)
-          (all_written q.cells.len c.put_subset.new.cells q.cells.items q.cells.ok.0
-          (omega (arith, c.put_subset.auto.cells, ap length c.deref_mut-in-loop-index.ensures.value)))
-          ∙ e.columns ∙ same;
+      rows = some_next whole left (rows (map (λ cell. cell.column) q.cells.items) q.each from put.0.fields)
+          rest c.args.rows.now held c.put_subset_at.new.rows (g.W.Sink.writing c.args.writer.now)
+          (g.W.Sink.writing c.loop-index.writer) (g.W.Sink.writing c.put_subset_at.new.writer) still
+          (subset_next p.each q.each all (map (λ cell. cell.column) q.cells.items) o from i subsets
+          put.0.fields inv.each inv.columns (inv.here (i + 1)) put.1)
+          put.2 e.works;
+      columns = e.columns ∙ inv.columns;
       here = inv.here;
-      each = inv.each;
-      asked = inv.asked;
+      each = e.each ∙ inv.each;
+      asked = e.asked ∙ inv.asked;
+    }
+
+-- there was no memory for the sources
+pub returns-in_err-columns-clause-puts : goal.returns-in_err-columns-clause-puts
+returns-in_err-columns-clause-puts g c =
+    let p = c.args.picker.now in
+    let all = map (λ cell. cell.column) p.cells.items in
+    let whole = subsets_rows p.each all (origin c.args.from.now) 1 c.args.found.now.message.subsets in
+    let w = g.W.Sink.writing c.args.writer.now in
+    passed (PutsOrStops whole c.args.rows.now w c.args.rows.now w) c.from_residual.result
+    faults.OutOfMemory c.from_residual.ensures.1 (stops_none whole c.args.rows.now w c.requires.works)
+
+-- no subset was put, and the columns make the rows
+pub loop-index-init : goal.loop-index-init
+loop-index-init g c =
+    let p = c.args.picker.now in
+    let subsets = c.args.found.now.message.subsets in
+    let w = g.W.Sink.writing c.args.writer.now in
+    record {
+      rows = some_first
+          (subsets_rows p.each (map (λ cell. cell.column) p.cells.items) (origin c.args.from.now) 1 subsets)
+          c.args.rows.now w c.requires.works;
+      here = λ n. refl;
+      columns = refl;
+      each = refl;
+      asked = refl;
     }

@@ -1,5 +1,5 @@
 -- The cells begin the subset, and then its fields come.
-use Rattle.std.proofs.Common.{◌≡◌, List, OnOk, ◌∙◌, map, sym, ap, subst}
+use Rattle.std.proofs.Common.{◌≡◌, List, OnOk, ◌∙◌, map, refl, sym, ap, subst}
 use Rattle.bufr_select_rows.specs.Asks.{IsSetOf}
 use Rattle.bufr_select_rows.specs.CellLaws.{columns_begun}
 use Rattle.bufr_select_rows.specs.Cells.{opens_at_once, rows_left}
@@ -9,13 +9,14 @@ use Rattle.bufr_io.specs.HeldTexts.{PutsOrStops}
 use Rattle.bufr_select_rows.proofs.PickedFacts.{rows_begun}
 use Rattle.bufr_select_rows.proofs.picker.put_subset.Goals as goal
 
-pub put_rows-requires-clause-covers : goal.put_rows-requires-clause-covers
-put_rows-requires-clause-covers g c =
+pub put_rows-requires : goal.put_rows-requires
+put_rows-requires g c =
     let a = c.args in
     let is = ap (λ (cells : List Cell). map (λ cell. cell.column) cells)
     c.in_ok-begin_cells.ensures
     ∙ columns_begun (origin a.from.now) a.cells.now in
-    subst (IsSetOf a.asked.now a.each) (sym is) c.requires.covers
+    let covers = subst (IsSetOf a.asked.now a.each) (sym is) c.requires.covers in
+    λ k. ((refl, tt), (c.requires.works, covers))
 
 pub returns-in-Ok-clause-puts : goal.returns-in-Ok-clause-puts
 returns-in-Ok-clause-puts g c =
@@ -38,13 +39,14 @@ returns-in-Ok-clause-columns g c =
     (λ columns. OnOk c.put_rows.result (map (λ cell. cell.column) c.put_rows.new.cells ≡ columns))
     is c.put_rows.ensures.columns
 
-pub put_rows-requires-in-Err-clause-covers : goal.put_rows-requires-in-Err-clause-covers
-put_rows-requires-in-Err-clause-covers g c =
+pub put_rows-requires-in-Err : goal.put_rows-requires-in-Err
+put_rows-requires-in-Err g c =
     let a = c.args in
     let is = ap (λ (cells : List Cell). map (λ cell. cell.column) cells)
     c.in_ok-begin_cells.ensures
     ∙ columns_begun (origin a.from.now) a.cells.now in
-    subst (IsSetOf a.asked.now a.each) (sym is) c.requires.covers
+    let covers = subst (IsSetOf a.asked.now a.each) (sym is) c.requires.covers in
+    λ k. ((refl, tt), (c.requires.works, covers))
 
 pub returns-in-Err-clause-puts : goal.returns-in-Err-clause-puts
 returns-in-Err-clause-puts g c =

@@ -1,5 +1,5 @@
 -- The octets after a text fill it.
-use Rattle.std.proofs.Common.{◌≡◌, ◌-◌, ◌≤◌, ◌∙◌, ℕ, List, length, take, drop, replicate, ap, refl, sym, arith}
+use Rattle.std.proofs.Common.{◌≡◌, ◌-◌, ◌≤◌, ◌∙◌, length, take, drop, replicate, ap, refl, sym, arith}
 use Rattle.std.proofs.lemmas.List.{drop-replicate, length-take-le, take-replicate}
 use Rattle.bufr_fields.specs.declared.field.Raw.TheVariants.{Text}
 use Rattle.bufr_data.proofs.CompressedFacts.Lent.{filled_own, filled_room}

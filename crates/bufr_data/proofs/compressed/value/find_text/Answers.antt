@@ -1,5 +1,5 @@
 -- The text at an index comes after those before it.
-use Rattle.std.proofs.Common.{◌≡◌, ◌*◌, ◌∙◌, sym, ap, refl, arith}
+use Rattle.std.proofs.Common.{◌*◌, sym, refl, arith}
 use Rattle.bufr_bits.specs.Bits.{octets_at}
 use Rattle.bufr_bits.specs.Ends.{left}
 use Rattle.bufr_data.proofs.CompressedFacts.Lent.{back_again, if_none, text_flat}

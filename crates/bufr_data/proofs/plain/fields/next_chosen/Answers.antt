@@ -24,8 +24,8 @@ read_number-requires g c =
     let a = asks_field _ _ _ _ c.in-Some.ensures.passed in
     asked_there _ a.met _ _ a.more _ a.is c.elements.invariant.ahead.1
 
-pub elements-preserved-else-asks : goal.elements-preserved-else-asks
-elements-preserved-else-asks g c =
+pub elements-preserved-else-at_turns : goal.elements-preserved-else-at_turns
+elements-preserved-else-at_turns g c =
     let inv = c.elements.invariant in
     let steps = c.in-Ok.ensures.found in
     record {
@@ -37,6 +37,16 @@ elements-preserved-else-asks g c =
             ∙ steps.is,
       );
     }
+
+pub returns-then-at_turns-clause-others : goal.returns-then-at_turns-clause-others
+returns-then-at_turns-clause-others g c =
+    let steps = c.in-Ok.ensures.found in
+    one_passed (g.A.Asks.is_asked c.args.asked.now) _ _ _ c.elements.invariant.passed (
+      as_field c.in-Ok.number,
+      sym c.asks.ensures ∙ c.if-asks.false,
+      ap (λ walk. fields_ahead Step walk c.elements.reader) (sym c.in-None.ensures.unmoved)
+          ∙ steps.is,
+    )
 
 pub returns-in-Some-read_number-clause-ahead : goal.returns-in-Some-read_number-clause-ahead
 returns-in-Some-read_number-clause-ahead g c =

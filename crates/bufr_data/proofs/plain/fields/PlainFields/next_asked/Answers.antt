@@ -1,16 +1,8 @@
 -- A field that is not chosen is one more of those skipped.
-use Rattle.std.proofs.Common.{refl, sym, subst, ◌∙◌}
+use Rattle.std.proofs.Common.{sym, subst, ◌∙◌}
 use Rattle.bufr_data.specs.Handed.{PassesUnasked}
-use Rattle.bufr_data.proofs.AskedFacts.{none_ahead, one_passed, on_refusal}
+use Rattle.bufr_data.proofs.AskedFacts.{one_passed, on_refusal}
 use Rattle.bufr_data.proofs.plain.fields.PlainFields.next_asked.Goals as goal
-
-pub returns-then-has_no_more-clause-found : goal.returns-then-has_no_more-clause-found
-returns-then-has_no_more-clause-found g c = (
-  none_ahead (g.A.Asks.is_asked c.args.asked.now) c.self.inside.due c.self.inside.walk
-      c.self.inside.reader c.args.self.now c.in-Step.is c.self.view_is
-      c.if-has_no_more.ensures,
-  refl,
-)
 
 pub loop-field-preserved-else-asks : goal.loop-field-preserved-else-asks
 loop-field-preserved-else-asks g c =
