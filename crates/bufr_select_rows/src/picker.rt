@@ -518,6 +518,45 @@ fn put_subset<W: Sink>(
     }
 }
 
+/// Puts the rows of the subset at an index by a walk over its template.
+#[inline(never)]
+fn put_walked<W: Sink>(
+    alloc: Global,
+    from: &Origin<'_>,
+    found: &View<'_>,
+    index: usize,
+    picker: &mut Picker,
+    rows: &mut HeldRows,
+    writer: &mut W,
+) -> Result<(), ToolFault>
+    requires works { (W.writing writer.old).failed ≡ false }
+    requires covers { IsSetOf picker.old.asked picker.old.each
+        (map (λ c. c.column) picker.old.cells.items) }
+    requires inside { index < length found.now.message.subsets }
+    ensures puts { IfSome (slice_get found.now.message.subsets index) (λ s. PutsOrStops
+        (subset_rows (map (λ c. c.column) picker.old.cells.items) picker.old.each (origin from.now)
+        s.fields) rows.old (W.writing writer.old) rows.new (W.writing writer.new) result) }
+    ensures columns { OnOk result (map (λ c. c.column) picker.new.cells.items
+        ≡ map (λ c. c.column) picker.old.cells.items) }
+    ensures each { picker.new.each ≡ picker.old.each }
+    ensures asked { picker.new.asked ≡ picker.old.asked }
+    ensures sources { picker.new.sources.items ≡ picker.old.sources.items }
+    ensures works { OnOk result ((W.writing writer.new).failed ≡ false) }
+{
+    let fields = found.fields(alloc, index)?;
+    put_subset(
+        alloc,
+        picker.each,
+        &picker.asked,
+        from,
+        fields,
+        &mut picker.line,
+        &mut picker.cells,
+        rows,
+        writer,
+    )
+}
+
 /// Puts the rows of a subset by its chosen fields.
 #[inline(always)]
 fn put_chosen<W: Sink>(
@@ -606,30 +645,19 @@ fn put_subset_at<W: Sink>(
             rows,
             writer,
         ),
-        None => {
-            let fields = found.fields(alloc, index)?;
-            put_subset(
-                alloc,
-                picker.each,
-                &picker.asked,
-                from,
-                fields,
-                &mut picker.line,
-                &mut picker.cells,
-                rows,
-                writer,
-            )
-        }
+        None => put_walked(alloc, from, found, index, picker, rows, writer),
     }
 }
 
-/// Puts the rows of a message by its columns.
-#[inline(never)]
-fn put_by_columns<W: Sink>(
+/// Puts the rows of the subset at an index, straight from its columns if they are found and its row
+/// is short.
+#[inline(always)]
+fn put_from_columns<W: Sink>(
     alloc: Global,
     from: &Origin<'_>,
     found: &View<'_>,
-    columns: &ChosenColumns<'_>,
+    columns: &Option<ChosenColumns<'_>>,
+    index: usize,
     picker: &mut Picker,
     rows: &mut HeldRows,
     writer: &mut W,
@@ -637,32 +665,27 @@ fn put_by_columns<W: Sink>(
     requires works { (W.writing writer.old).failed ≡ false }
     requires covers { IsSetOf picker.old.asked picker.old.each
         (map (λ c. c.column) picker.old.cells.items) }
-    requires have { HaveRows picker.old.each (map (λ c. c.column) picker.old.cells.items)
-        picker.old.sources.items found.now.message.subsets columns.now }
-    ensures puts { PutsOrStops (subsets_rows picker.old.each
-        (map (λ c. c.column) picker.old.cells.items) (origin from.now) 1
-        found.now.message.subsets) rows.old (W.writing writer.old) rows.new
-        (W.writing writer.new) result }
+    requires have { IfSome columns.now (HaveRows picker.old.each
+        (map (λ c. c.column) picker.old.cells.items) picker.old.sources.items
+        found.now.message.subsets) }
+    requires inside { index < length found.now.message.subsets }
+    ensures puts { IfSome (slice_get found.now.message.subsets index) (λ s. PutsOrStops
+        (subset_rows (map (λ c. c.column) picker.old.cells.items) picker.old.each (origin from.now)
+        s.fields) rows.old (W.writing writer.old) rows.new (W.writing writer.new) result) }
     ensures columns { OnOk result (map (λ c. c.column) picker.new.cells.items
         ≡ map (λ c. c.column) picker.old.cells.items) }
     ensures each { picker.new.each ≡ picker.old.each }
     ensures asked { picker.new.asked ≡ picker.old.asked }
+    ensures sources { picker.new.sources.items ≡ picker.old.sources.items }
     ensures works { OnOk result ((W.writing writer.new).failed ≡ false) }
 {
-    // A copy for each subset would take as long as a field.
-    let mut here = *from;
-    let subsets = found.count();
-    for index in 0..subsets {
-        here.subset = index as u64 + 1;
-        if picker
-            .line
-            .hold_subset(&picker.sources, columns, &here, index, rows)?
-        {
-            continue;
+    if let Some(columns) = columns {
+        let line = &mut picker.line;
+        if line.hold_subset(&picker.sources, columns, from, index, rows)? {
+            return Ok(());
         }
-        put_subset_at(alloc, &here, found, index, &mut *picker, rows, writer)?;
     }
-    Ok(())
+    put_subset_at(alloc, from, found, index, picker, rows, writer)
 }
 
 /// Puts the rows of a message.
@@ -694,13 +717,20 @@ pub fn put_message<W: Sink>(
         found,
         &mut picker.sources,
     )?;
-    if let Some(columns) = &columns {
-        return put_by_columns(alloc, from, found, columns, picker, rows, writer);
-    }
+    // A copy for each subset would take as long as a field.
     let mut here = *from;
     for index in 0..found.count() {
         here.subset = index as u64 + 1;
-        put_subset_at(alloc, &here, found, index, &mut *picker, rows, writer)?;
+        put_from_columns(
+            alloc,
+            &here,
+            found,
+            &columns,
+            index,
+            &mut *picker,
+            rows,
+            writer,
+        )?;
     }
     Ok(())
 }

@@ -367,9 +367,14 @@ fn is_shown_as_itself(octet: u8) -> bool
 }
 
 /// Returns whether a text shows an octet as itself, and its field needs no quotes for it.
+#[inline(always)]
 fn is_plain(octet: u8) -> bool
     ensures { result ≡ is_plain octet }
 {
+    // Digits and capital letters come most often.
+    if octet >= b'-' && octet <= b'[' {
+        return true;
+    }
     is_shown_as_itself(octet) && !needs_byte(octet)
 }
 

@@ -10,6 +10,7 @@ use Rattle.bufr_bits.specs.Bits.{bits, number_at, octets_at}
 use Rattle.bufr_bits.specs.BitLaws.{number_at-bin, number_at_is}
 use Rattle.bufr_bits.specs.Ends.{BitPlace, left}
 use Rattle.bufr_bits.specs.NumberLaws.{numbers_at_found}
+use Rattle.bufr_bits.specs.OctetLaws.{length-bits}
 use Rattle.bufr_tables.specs.declared.element.Kind.TheVariants as kinds
 use Rattle.bufr_tables.specs.Elements.{same_kind}
 use Rattle.bufr_base.specs.AnswerLaws.{ok_value}
@@ -31,7 +32,9 @@ use Rattle.bufr_data.proofs.CompressedFacts.Indexed.{one_value}
 use Rattle.bufr_data.proofs.CompressedFacts.Walks.{column_form}
 use Rattle.bufr_data.proofs.KindFacts.{other_kind}
 use Rattle.bufr_data.proofs.ListFacts.{all_at}
-use Rattle.bufr_data.proofs.CompressedFacts.Passed.{octets_none, minimum_there, TextHead, text_raw, number_raw}
+use Rattle.bufr_data.proofs.PlainFacts.Passed.{number_missing}
+use Rattle.bufr_data.proofs.CompressedFacts.Passed.{octets_none, minimum_there, TextHead, text_raw}
+use Rattle.bufr_data.proofs.CompressedFacts.Passed.{number_raw, some_bits}
 
 pub text_without_minimum : (spec : Spec) (index : ℕ) (front : List Bool) (b : ℕ)
     → spec.kind ≡ kinds.Text → b ≡ spec.width / 8 * 8 → length front < b
@@ -183,16 +186,6 @@ minimum_is octets bit index spec h has none =
     sym (behind_head octets bit index spec h has
     ∙ ap (λ k. one_behind spec (Number h.minimum) k index (drop h.first (bits octets))) none)
 
--- too few bits for the increment at an index
-pub increment_past : (octets : List ℕ) (bit index : ℕ) (spec : Spec) (h : ColumnHead) (c : ℕ)
-    → HasHead octets bit spec h → (h.increment_bits ≡ 0 → ⊥) → c ≡ index * h.increment_bits
-    → length (drop h.first (bits octets)) < c
-    → None ≡ one_at spec index (drop bit (bits octets))
-increment_past octets bit index spec h c has some times short =
-    number_past spec index (drop bit (bits octets)) _ (drop h.first (bits octets)) h.minimum
-    h.increment_bits c has.numbers (narrow_number spec.width _ _ has.narrow has.minimum)
-    has.increment_bits some times short
-
 raised_behind : (spec : Spec) (m k index : ℕ) (rest : List Bool) → (k ≡ 0 → ⊥)
     → one_behind spec (Number m) k index rest
     ≡ raised_of spec.width m k (number_at k (drop (index * k) rest))
@@ -214,6 +207,32 @@ increment_there octets bit index spec h c last found has some times after there 
     ∙ ap (λ m. raised_of spec.width h.minimum k (number_at k (drop m rest))) (sym times)
     ∙ ap (λ xs. raised_of spec.width h.minimum k (number_at k xs)) (sym after)
     ∙ ap (raised_of spec.width h.minimum k) there)
+
+-- too few bits for the increment at an index
+pub increment_short : (octets : List ℕ) (bit index : ℕ) (spec : Spec) (h : ColumnHead) (c : ℕ)
+    → HasHead octets bit spec h → (h.increment_bits ≡ 0 → ⊥) → c ≡ index * h.increment_bits
+    → 8 * length octets < h.first + c + h.increment_bits
+    → None ≡ one_at spec index (drop bit (bits octets))
+increment_short octets bit index spec h c has some times short =
+    let last = drop c (drop h.first (bits octets)) in
+    let few : length last < h.increment_bits =
+    omega (
+      arith,
+      short,
+      has.inside,
+      length-bits octets,
+      length-drop h.first (bits octets),
+      length-drop c (drop h.first (bits octets)),
+      some_bits h.increment_bits some,
+    ) in
+    increment_there octets bit index spec h c last None has some times refl
+    (number_missing h.increment_bits last few)
+
+-- the bits left at an increment
+pub increment_left : (octets : List ℕ) (start k : ℕ) → start + k ≤ 8 * length octets
+    → k ≤ length (drop start (bits octets))
+increment_left octets start k inside =
+    omega (arith, inside, length-bits octets, length-drop start (bits octets))
 
 -- a number that is there
 pub number_is : (found : Option ℕ) (v : Raw) → option_map (λ n. Number n) found ≡ Some v

@@ -56,7 +56,7 @@ pub number_found : (width : ℕ) (front : List Bool) → width ≤ length front
 unfolding number_at
 number_found width front long = rw (le-ltb (length front) width long) refl
 
-number_missing : (width : ℕ) (front : List Bool) → length front < width
+pub number_missing : (width : ℕ) (front : List Bool) → length front < width
     → number_at width front ≡ None
 unfolding number_at
 number_missing width front short = rw (lt-ltb (length front) width short) refl

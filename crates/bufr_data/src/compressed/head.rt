@@ -58,12 +58,11 @@ pub(crate) fn number_under(
     if k == 0 {
         return Some(head.minimum);
     }
-    let mut reader = BitReader::at(octets, head.first);
-    if !reader.pass(u128::from(index) * u128::from(k)) {
+    let start = head.first + u128::from(index) * u128::from(k);
+    if start + u128::from(k) > 8 * octets.len() as u128 {
         return None;
     }
-    match reader.take(k) {
-        None => None,
-        Some(increment) => raised(spec.width, head.minimum, k, increment),
-    }
+    let mut reader = BitReader::at(octets, start);
+    let increment = reader.take_left(k);
+    raised(spec.width, head.minimum, k, increment)
 }

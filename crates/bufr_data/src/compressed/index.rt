@@ -411,6 +411,7 @@ pub(crate) fn number_there(
 
 /// Lends the text at an index of the column at a place, put in `room`. `None` for a number, and for
 /// a text of more than 64 octets.
+#[inline(always)]
 pub(crate) fn text_there<'r>(
     octets: &[u8],
     subsets: u16,

@@ -72,6 +72,7 @@ fn text_value(
 
 /// Moves the reader to the text at `index` of the column, and returns its number of octets: all, or
 /// fewer that are to be filled.
+#[inline(always)]
 pub(crate) fn find_text(reader: &mut BitReader, spec: Spec, index: u16) -> Option<u64>
     requires { spec.kind ≡ Text }
     ensures found { IfSome result (λ count. one_at spec index (left reader.old) ≡ option_map

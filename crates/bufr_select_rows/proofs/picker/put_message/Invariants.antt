@@ -1,7 +1,8 @@
 -- The loop of `put_message`: the rows of the subsets so far.
-use Rattle.std.proofs.Common.{◌≡◌, ℕ, ◌+◌, map, drop}
+use Rattle.std.proofs.Common.{◌≡◌, ℕ, ◌+◌, IfSome, map, drop}
 use Rattle.bufr_select_rows.specs.Rows.{origin}
 use Rattle.bufr_select_rows.specs.MessageRows.{subsets_rows}
+use Rattle.bufr_select_rows.specs.Sources.{HaveRows}
 use Rattle.bufr_io.specs.HeldLaws.{PutsSome}
 use Rattle.bufr_select_rows.proofs.picker.put_message.Given as goal
 
@@ -19,4 +20,7 @@ invariant-loop-index g l = record {
       ≡ map (λ c. c.column) l.initial.picker.cells.items;
   each : l.picker.each ≡ l.initial.picker.each;
   asked : l.picker.asked ≡ l.initial.picker.asked;
+  sources : IfSome l.columns (HaveRows l.initial.picker.each
+      (map (λ c. c.column) l.initial.picker.cells.items) l.picker.sources.items
+      l.found.message.subsets);
 }

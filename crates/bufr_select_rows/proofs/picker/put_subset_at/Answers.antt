@@ -26,20 +26,3 @@ returns-in-Some-clause-puts g c =
     c.put_chosen.result)
     c.deref_mut.ensures.value
     (c.put_chosen.ensures.puts c.listed.result.now subset.0 c.listed.ensures subset.2))
-
-pub returns-in_ok-fields-in-None-clause-puts : goal.returns-in_ok-fields-in-None-clause-puts
-returns-in_ok-fields-in-None-clause-puts g c =
-    let a = c.args in
-    let p = a.picker.now in
-    subst
-    (λ found. IfSome found (λ (s : Subset). PutsOrStops
-    (rows (map (λ cell. cell.column) p.cells.items) p.each (origin a.from.now) s.fields) a.rows.now
-    (g.W.Sink.writing a.writer.now) c.put_subset.new.rows (g.W.Sink.writing c.put_subset.new.writer)
-    c.put_subset.result))
-    (sym c.in_ok-fields-in-None.ensures)
-    (subst
-    (λ (cells : List Cell). PutsOrStops
-    (rows (map (λ cell. cell.column) cells) p.each (origin a.from.now) c.in_ok-fields-in-None.fields) a.rows.now
-    (g.W.Sink.writing a.writer.now) c.put_subset.new.rows (g.W.Sink.writing c.put_subset.new.writer)
-    c.put_subset.result)
-    c.deref_mut-in-None.ensures.value c.put_subset.ensures.puts)
