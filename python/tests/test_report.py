@@ -177,7 +177,7 @@ def test_what_refusals_mean():
     from bufr import refusals
     found = {}
     for codes, means in re.findall(r"^\| (`[MXV]\d.*?) \| (.*?) \|", read(f"{TOP}/docs/MANUAL.md").decode(), re.M):
-        numbers = re.findall(r"`([MXV])(\d)", codes)
+        numbers = re.findall(r"`([MXV])(\d+)", codes)
         ends = [int(number) for _, number in numbers]
         every = range(ends[0], ends[-1] + 1) if " to " in codes else ends
         found.update((f"{numbers[0][0]}{number}", means.replace("`", "")) for number in every)

@@ -350,6 +350,39 @@ turns_passed w v turn r inner room h some has =
       within = omega (arith, has.items_are, room);
     }
 
+pub elements_passed : (w v : Walk) (r : Run) → w.state ≡ Going → v.state ≡ Going
+    → v.nodes.now ≡ w.nodes.now → v.place ≡ w.place + r.items → v.stop ≡ w.stop
+    → v.loops.items ≡ w.loops.items → v.operators ≡ w.operators → v.items ≡ w.items + r.items
+    → w.items + r.items ≤ most_items → 0 < r.items
+    → BeginsRun (tree_between w.nodes.now w.place w.stop) w.operators r
+    (tree_between w.nodes.now (w.place + r.items) w.stop) → PassesRun w r v
+unfolding waits items_met
+elements_passed w v r was goes nodes place stop loops operators sum room some h =
+    let os = w.loops.items in
+    let on : left v
+    ≡ going w.nodes.now (w.place + r.items) w.stop os w.operators (w.items + r.items) =
+    left_going v os goes loops
+    ∙ ap (λ ns. going ns v.place v.stop os v.operators v.items) nodes
+    ∙ ap (λ p. going w.nodes.now p v.stop os v.operators v.items) place
+    ∙ ap (λ p. going w.nodes.now (w.place + r.items) p os v.operators v.items) stop
+    ∙ ap (λ q. going w.nodes.now (w.place + r.items) w.stop os q v.items) operators
+    ∙ ap (λ n. going w.nodes.now (w.place + r.items) w.stop os w.operators n) sum in
+    record {
+      leads =
+          leads_from _ _ _ _ r (left_going w os was refl) (sym on)
+          (h.leads w.items (behind_all w.nodes.now os) room);
+      answered = ap is_waiting goes;
+      steady =
+          subst (λ n. IsSteady n (left v)) (sym sum)
+          (subst (IsSteady (w.items + r.items)) (sym on)
+          (steady_going w.nodes.now (w.place + r.items) w.stop os w.operators
+          (w.items + r.items)));
+      few = h.few;
+      some_item = some;
+      items_are = sum;
+      within = omega (arith, sum, room);
+    }
+
 -- ---- turns with the same fields
 
 field_asks : (d used : ℕ) (found : Option Spec) (spec : Spec) (later : Course)

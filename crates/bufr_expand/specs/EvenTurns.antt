@@ -1,6 +1,6 @@
 -- Turns with the same fields: their nodes are elements, none a count (FM 94 BUFR, regulations 94.5.4
 -- and 94.5.5).
-use Rattle.std.specs.Prelude.{◌≡◌, ℕ, zero, suc, ◌+◌, ◌<◌, ◌≤◌, false, List, [], ◌∷◌, ◌++◌, map}
+use Rattle.std.specs.Prelude.{◌≡◌, ℕ, zero, suc, ◌+◌, ◌<◌, ◌≤◌, false, List, [], ◌++◌, map}
 use Rattle.std.specs.Prelude.{length}
 use Rattle.std.specs.List.{AllByRecursion}
 use Rattle.bufr_tables.specs.declared.element.Kind.TheVariants as kinds

@@ -46,6 +46,10 @@ pub record Leads (course : Course) (run : Run) (later : Course) : Type 0 where
 abbrev pub no_run : Run
 no_run = record { fields = 0; items = 0; bits = 0 }
 
+-- the run of a field of this width
+abbrev pub field_run : ℕ → Run
+field_run bits = record { fields = 1; items = 1; bits = bits }
+
 -- a run after another
 abbrev pub joined_runs : Run → Run → Run
 joined_runs first others = record {

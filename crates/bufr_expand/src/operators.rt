@@ -123,7 +123,9 @@ impl Operators {
             return None;
         }
         let increase = u32::from(self.increase.unwrap_or(0));
-        let reference = if element.reference == 0 {
+        let reference = if increase == 0 {
+            element.reference
+        } else if element.reference == 0 {
             0
         } else if increase > 18 {
             return None;

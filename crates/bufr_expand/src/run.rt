@@ -1,8 +1,9 @@
 //! Sums fields that no data can change.
 
-ghost use Rattle.std.specs.Prelude.{◌≤◌, ◌∷◌, length, drop, IfSome};
-ghost use Rattle.bufr_expand.specs.Runs.{BeginsRun, TurnsRun};
+ghost use Rattle.std.specs.Prelude.{◌≤◌, ◌∷◌, List, length, drop, IfSome};
+ghost use Rattle.bufr_expand.specs.Runs.{BeginsRun, TurnsRun, field_run};
 ghost use Rattle.bufr_expand.specs.Trees.{tree_of, done};
+ghost use Rattle.bufr_expand.specs.declared.node.Node.{Node};
 
 use crate::node::Node;
 use crate::operators::{Operators, untouched};
@@ -91,5 +92,51 @@ fn first_run(first: Node, behind: &[Node], operators: &Operators) -> Option<(Run
             },
             0,
         )),
+    }
+}
+
+/// Sums the elements at the front, up to a node that is none, a count, or a field without a spec.
+pub(crate) fn front_run(nodes: &[Node], operators: &Operators) -> Run
+    ensures within { result.items ≤ length nodes.now }
+    ensures begins { BeginsRun (tree_of nodes.now) operators.now result
+        (tree_of (drop result.items nodes.now)) }
+{
+    let mut run = Run {
+        fields: 0,
+        items: 0,
+        bits: 0,
+    };
+    let mut rest = nodes;
+    while let Some((first, behind)) = rest.split_first() {
+        let Some(width) = element_bits(first, operators) else {
+            return run;
+        };
+        let Some(bits) = run.bits.checked_add(u128::from(width)) else {
+            return run;
+        };
+        run = Run {
+            fields: run.fields + 1,
+            items: run.items + 1,
+            bits,
+        };
+        rest = behind;
+    }
+    run
+}
+
+/// Returns the bits of a node's field, if it is an element with a spec and no count.
+#[inline(always)]
+fn element_bits(node: &Node, operators: &Operators) -> Option<u32>
+    ensures { IfSome result (λ bits. (rest : List Node) → BeginsRun (tree_of (node.now ∷ rest))
+        operators.now (field_run bits) (tree_of rest)) }
+{
+    let spec = match node {
+        Node::Element(fxy, element) => operators.effective(element, *fxy).ok()?,
+        Node::Untouched(_, element) => untouched(element)?,
+        Node::Operator(_) | Node::Repeated(_, _) | Node::Delayed(_, _, _) => return None,
+    };
+    match spec.kind {
+        Kind::Count => None,
+        _ => Some(spec.width),
     }
 }

@@ -14,7 +14,7 @@ use crate::even_turns::{EvenTurns, fields_of};
 use crate::limits::MOST_ITEMS;
 use crate::node::Node;
 use crate::operators::{Operators, Spec, untouched};
-use crate::run::{Run, turns_run};
+use crate::run::{Run, front_run, turns_run};
 use crate::template::Template;
 use crate::walk_state::{Open, PendingCount, State};
 use bufr_base::OutOfMemory;
@@ -70,8 +70,9 @@ impl<'t> Walk<'t> {
     ghost use Rattle.bufr_expand.specs.Courses.{course, ends, stops, asks, asks_if};
     ghost use Rattle.bufr_expand.specs.Walks.{left, waits, items_met, steps_left, going, after_count};
     ghost use Rattle.bufr_expand.specs.Walks.{turns_then, behind_all, Goes, Counted, IsBelowCount};
+    ghost use Rattle.bufr_expand.specs.Walks.{tree_between};
     ghost use Rattle.bufr_expand.specs.Asked.{TellsNone};
-    ghost use Rattle.bufr_expand.specs.Runs.{PassesRun, IsInnermost, HasLeft};
+    ghost use Rattle.bufr_expand.specs.Runs.{BeginsRun, PassesRun, IsInnermost, HasLeft};
     ghost use Rattle.bufr_expand.specs.EvenTurns.{PassesTurns};
     ghost use Rattle.bufr_expand.specs.declared.walk_state.State.TheVariants.{Going};
     ghost use Rattle.bufr_expand.specs.declared.walk.Step.TheVariants.{Field};
@@ -146,6 +147,42 @@ impl<'t> Walk<'t> {
         }
         self.leave(turn, run.items);
         Some(run)
+    }
+
+    /// Passes the elements that come next, if any, up to a count or another node, if they have at
+    /// most `most` bits.
+    pub fn pass_elements(&mut self, most: u128) -> Option<Run>
+        requires { waits self.old ≡ false }
+        ensures passed { IfSome result (λ run. PassesRun self.old run self.new) }
+        ensures answered { waits self.new ≡ false }
+        ensures enough { IfSome result (λ run. run.bits ≤ most) }
+        ensures unmoved { IfNone result (self.new ≡ self.old) }
+    {
+        match self.state {
+            State::Going if self.place < self.stop && self.items < MOST_ITEMS => {}
+            _ => return None,
+        }
+        let run = front_run(&self.nodes[self.place..self.stop], &self.operators);
+        if run.items == 0 || run.bits > most || run.items > MOST_ITEMS - self.items {
+            return None;
+        }
+        self.go_past(run);
+        Some(run)
+    }
+
+    /// Goes past the elements of a run.
+    fn go_past(&mut self, run: Run)
+        requires goes { self.old.state ≡ Going }
+        requires within { self.old.place + run.items ≤ self.old.stop }
+        requires begins { BeginsRun (tree_between self.old.nodes.now self.old.place self.old.stop)
+            self.old.operators run
+            (tree_between self.old.nodes.now (self.old.place + run.items) self.old.stop) }
+        requires room { self.old.items + run.items ≤ most_items }
+        requires some { 0 < run.items }
+        ensures { PassesRun self.old run self.new }
+    {
+        self.place += run.items as usize;
+        self.items += run.items;
     }
 
     /// Passes all turns left of a replication, if their nodes are elements and none is a count.

@@ -1,12 +1,13 @@
 //! Passes plain subsets and reads only their counts. After a fault the reader may have moved.
 
 ghost use Rattle.std.specs.Prelude.{◌≡◌, ◌+◌, ◌≤◌, true, Ok, Err, IfOk, IfErr, OnOk, IfSome};
-ghost use Rattle.std.specs.Prelude.{Bool, List, drop, length, IfNone, IsOk, OnSome};
+ghost use Rattle.std.specs.Prelude.{Bool, List, drop, false, length, IfNone, IsOk, OnSome};
 ghost use Rattle.bufr_bits.specs.Ends.{left};
 ghost use Rattle.bufr_base.specs.Answers.{Fails};
 ghost use Rattle.bufr_tables.specs.declared.element.Kind.TheVariants.{Count};
 ghost use Rattle.bufr_tables.specs.Elements.{same_kind};
 ghost use Rattle.bufr_expand.specs.Courses.{course};
+ghost use Rattle.bufr_expand.specs.Runs.{PassesRun};
 ghost use Rattle.bufr_expand.specs.Walks as walks;
 ghost use Rattle.bufr_fields.specs.declared.field.Raw.TheVariants.{Number};
 ghost use Rattle.bufr_data.specs.Handed.{moved_on};
@@ -20,7 +21,7 @@ ghost use Rattle.bufr_fields.specs.Steady.{IsReady, WalkAdvances};
 use crate::plain::read::fault_of;
 use bufr_base::Failure;
 use bufr_bits::BitReader;
-use bufr_expand::{Spec, Step, Template, Walk};
+use bufr_expand::{Run, Spec, Step, Template, Walk};
 use bufr_fields::{DataFault, MOST_RAW_BITS};
 use bufr_tables::Kind;
 use std::alloc::Global;
@@ -50,8 +51,8 @@ pub(crate) fn pass_subset(
     }
 }
 
-/// Passes field `i`, or all turns left of a replication if they have one size. Returns the number of
-/// the next field, or `None` at the end.
+/// Passes the elements that come next, all turns left of a replication if they have one size, or
+/// else field `i`. Returns the number of the next field, or `None` at the end.
 fn pass_next(walk: &mut Walk, reader: &mut BitReader, i: u64) -> Result<Option<u64>, DataFault>
     requires ready { IsReady walk.old }
     requires counted { i ≤ walks.items_met walk.old + 1 }
@@ -65,30 +66,7 @@ fn pass_next(walk: &mut Walk, reader: &mut BitReader, i: u64) -> Result<Option<u
     ensures octets { reader.new.octets ≡ reader.old.octets }
     ensures onward { reader.old.place ≤ reader.new.place }
 {
-    match walk.pass_element() {
-        None => pass_other(walk, reader, i),
-        Some((_, spec)) => {
-            pass_raw(spec, reader, i)?;
-            Ok(Some(i + 1))
-        }
-    }
-}
-
-/// Passes what `pass_next` does if no element comes next.
-fn pass_other(walk: &mut Walk, reader: &mut BitReader, i: u64) -> Result<Option<u64>, DataFault>
-    requires ready { IsReady walk.old }
-    requires counted { i ≤ walks.items_met walk.old + 1 }
-    ensures ok { IfOk result (λ next. PassesOn i (walks.left walk.old) (left reader.old) next
-        (walks.left walk.new) (walks.items_met walk.new) (left reader.new)) }
-    ensures advances { IfOk result (λ next. OnSome next (WalkAdvances walk.old walk.new)) }
-    ensures counted { IfOk result (λ next. IfSome next (λ n.
-        n ≤ walks.items_met walk.new + 1)) }
-    ensures err { IfErr result (λ fault.
-        fields_at 1 i (walks.left walk.old) (left reader.old) ≡ Err fault) }
-    ensures octets { reader.new.octets ≡ reader.old.octets }
-    ensures onward { reader.old.place ≤ reader.new.place }
-{
-    if let Some(run) = walk.pass_turns(reader.left()) {
+    if let Some(run) = pass_run(walk, reader.left()) {
         reader.pass(run.bits);
         return Ok(Some(i + run.fields));
     }
@@ -107,6 +85,20 @@ fn pass_other(walk: &mut Walk, reader: &mut BitReader, i: u64) -> Result<Option<
             walk.count(number);
             Ok(Some(i + 1))
         }
+    }
+}
+
+/// Passes elements or turns at once, if they come next and have at most `most` bits.
+fn pass_run(walk: &mut Walk, most: u128) -> Option<Run>
+    requires { walks.waits walk.old ≡ false }
+    ensures passed { IfSome result (λ run. PassesRun walk.old run walk.new) }
+    ensures answered { walks.waits walk.new ≡ false }
+    ensures enough { IfSome result (λ run. run.bits ≤ most) }
+    ensures unmoved { IfNone result (walk.new ≡ walk.old) }
+{
+    match walk.pass_elements(most) {
+        Some(run) => Some(run),
+        None => walk.pass_turns(most),
     }
 }
 

@@ -1,4 +1,4 @@
-//! Tests of turns passed at once.
+//! Tests of turns and elements passed at once.
 
 ghost use Rattle.std.specs.Prelude.{◌≡◌, false};
 ghost use Rattle.bufr_expand.specs.Walks.{waits};
@@ -31,23 +31,40 @@ fn parts(run: Option<Run>) -> Option<(u64, u64, u128)> {
     }
 }
 
-fn assert_passes(rt: &impl Abort, walk: &mut Walk<'_>, row: &Row<'_>)
+/// What a walk passes at once.
+#[derive(Clone, Copy)]
+enum Passed {
+    Turns,
+    Elements,
+}
+
+fn pass(walk: &mut Walk<'_>, passed: Passed, most: u128) -> Option<Run>
+    requires { waits walk.old ≡ false }
+    ensures { waits walk.new ≡ false }
+{
+    match passed {
+        Passed::Turns => walk.pass_turns(most),
+        Passed::Elements => walk.pass_elements(most),
+    }
+}
+
+fn assert_passes(rt: &impl Abort, walk: &mut Walk<'_>, passed: Passed, row: &Row<'_>)
     requires { waits walk.old ≡ false }
 {
     let (_, (_, steps, told), most, run, items, next) = *row;
     for _ in 0..steps {
         let _ = step(walk, told);
     }
-    same(rt, parts(walk.pass_turns(most)), run);
+    same(rt, parts(pass(walk, passed, most)), run);
     same(rt, walk.items(), items);
     same(rt, walk.next(), Ok(answer(rt, next)));
 }
 
-fn assert_row(rt: &impl Abort, alloc: Global, row: &Row<'_>) {
+fn assert_row(rt: &impl Abort, alloc: Global, passed: Passed, row: &Row<'_>) {
     let (digits, (used, _, _), _, _, _, _) = *row;
     let template = template_of(rt, alloc, digits);
     let mut walk = Walk::start(alloc, &template, used).expect(rt, "room");
-    assert_passes(rt, &mut walk, row);
+    assert_passes(rt, &mut walk, passed, row);
     drop(walk);
     drop(template);
 }
@@ -144,7 +161,87 @@ const ROWS: &[Row<'static>] = &[
 #[test]
 fn turns_at_once(rt: HostRuntime) {
     for row in ROWS {
-        assert_row(&rt, rt.alloc(), row);
+        assert_row(&rt, rt.alloc(), Passed::Turns, row);
+    }
+}
+
+/// A temperature and a name; a temperature before an operator, and two after it; one before a
+/// replication, and a block before a count.
+const BOTH: &[u32] = &[12101, 1011];
+
+const BEFORE_AN_OPERATOR: &[u32] = &[12101, 201130, 12101, 12101, 201000, 1001];
+
+const BEFORE_TURNS: &[u32] = &[12101, 101002, 12101];
+
+const BEFORE_A_COUNT: &[u32] = &[1001, 101000, 31001, 12101];
+
+/// Elements, the second of them as in the table whatever operators are in force.
+const AS_IN_TABLE: &[u32] = &[1001, 206016, 12101, 12101];
+
+/// Elements that a walk passes at once, or not.
+const ELEMENT_ROWS: &[Row<'static>] = &[
+    // all of them, those left, and one bit too many
+    (BOTH, (0, 0, 0), MANY, Some((2, 2, 88)), 2, None),
+    (BOTH, (0, 1, 0), MANY, Some((1, 1, 72)), 2, None),
+    (BOTH, (0, 2, 0), MANY, None, 2, None),
+    (BOTH, (5, 0, 0), 88, Some((2, 2, 88)), 7, None),
+    (BOTH, (0, 0, 0), 87, None, 0, TEMPERATURE),
+    (AS_IN_TABLE, (0, 0, 0), MANY, Some((3, 3, 39)), 3, None),
+    // up to an operator, and under it
+    (
+        BEFORE_AN_OPERATOR,
+        (0, 0, 0),
+        MANY,
+        Some((1, 1, 16)),
+        1,
+        Some(WIDER),
+    ),
+    (
+        BEFORE_AN_OPERATOR,
+        (0, 2, 0),
+        MANY,
+        Some((1, 1, 18)),
+        4,
+        NUMBER,
+    ),
+    // up to a replication and a count
+    (
+        BEFORE_TURNS,
+        (0, 0, 0),
+        MANY,
+        Some((1, 1, 16)),
+        1,
+        TEMPERATURE,
+    ),
+    (BEFORE_A_COUNT, (0, 0, 0), MANY, Some((1, 1, 7)), 1, COUNT),
+    (BEFORE_A_COUNT, (0, 1, 2), MANY, None, 1, COUNT),
+    // in a turn: no further than its end
+    (PAIRS, (0, 1, 2), MANY, None, 1, TEMPERATURE),
+    (PAIRS, (0, 2, 2), MANY, Some((1, 1, 7)), 4, TEMPERATURE),
+    (PAIRS, (0, 4, 2), MANY, Some((1, 1, 7)), 7, None),
+    // the greatest number of items, and one more
+    (
+        BOTH,
+        (16_777_214, 0, 0),
+        MANY,
+        Some((2, 2, 88)),
+        16_777_216,
+        None,
+    ),
+    (
+        BOTH,
+        (16_777_215, 0, 0),
+        MANY,
+        None,
+        16_777_215,
+        TEMPERATURE,
+    ),
+];
+
+#[test]
+fn elements_at_once(rt: HostRuntime) {
+    for row in ELEMENT_ROWS {
+        assert_row(&rt, rt.alloc(), Passed::Elements, row);
     }
 }
 

@@ -1,5 +1,5 @@
 -- Node by node.
-use Rattle.std.proofs.Common.{ap, sym, subst}
+use Rattle.std.proofs.Common.{sym, subst}
 use Rattle.std.proofs.lemmas.List.{nil_from_length}
 use Rattle.bufr_expand.specs.EvenTurns.{BeginsFields}
 use Rattle.bufr_expand.specs.Trees.{tree_of, tree_within}

@@ -1,6 +1,6 @@
 -- The sums of a run, node by node.
 use Rattle.std.proofs.Common.{rules, refl, ◌≡◌, ◌-◌, ◌+◌, length, drop, take, ap, sym, ◌∙◌, arith}
-use Rattle.std.proofs.Common.{length-drop, [], ℕ, false, Option, Some}
+use Rattle.std.proofs.Common.{length-drop, [], ℕ, Option, Some}
 use Rattle.std.proofs.lemmas.List.{take_all, nil_from_length}
 use Rattle.bufr_tables.specs.declared.element.Kind.TheVariants as kinds
 use Rattle.bufr_expand.specs.declared.operators.Spec.{Spec}

@@ -1,5 +1,5 @@
 -- The search goes through just these nodes.
-use Rattle.std.proofs.Common.{rules, tests, not, take, drop, ◌-◌, length}
+use Rattle.std.proofs.Common.{rules, tests, not, take, drop, ◌-◌}
 use Rattle.std.proofs.lemmas.Iterator.{YieldsList-from_slice}
 use Rattle.std.proofs.lemmas.Iterator.Search.{all_from_yields_List}
 use Rattle.bufr_expand.specs.Asked.{none_between, tells}

@@ -17,8 +17,9 @@ use Rattle.bufr_expand.specs.OperatorsInForce as operating
 use Rattle.bufr_expand.specs.OperatorsInForce.{number_spec, quantity}
 use Rattle.bufr_expand.proofs.Powers.{outside_times, checked_is, ten_power_below, decides_within}
 use Rattle.bufr_expand.proofs.operators.Operators.quantity.Goals as goal
-use Rattle.bufr_expand.proofs.operators.Operators.quantity.Goals.{then-element-eq0}
-use Rattle.bufr_expand.proofs.operators.Operators.quantity.Goals.{else-element-eq0+else-increase-gt18+in_ok-reference}
+use Rattle.bufr_expand.proofs.operators.Operators.quantity.Goals.{then-increase-eq0}
+use Rattle.bufr_expand.proofs.operators.Operators.quantity.Goals.{else-increase-eq0+then-element-eq0}
+use Rattle.bufr_expand.proofs.operators.Operators.quantity.Goals.{else-increase-eq0+else-element-eq0+else-increase-gt18+in_ok-reference}
 
 widening_is : (o : Option ℕ) → (10 * increase_of o + 2) / 3 ≡ widening o
 widening_is None = refl
@@ -78,6 +79,9 @@ none_times r k fits e =
     let none : r ≡ pos 0 = sym (to_z-of_z w64 r fits) ∙ ap (to_z w64) e in
     rw none (search rules)
 
+once : (r : ℤ) (y : ℕ) → y ≡ 0 → r ≡ r *ℤ pos (10 ^ y)
+once r y e = rw e (search rules)
+
 pub returns-in_err-reference : goal.returns-in_err-reference
 returns-in_err-reference c =
     let row = c.args.element.now in
@@ -103,13 +107,16 @@ returns c =
     (rw (c.unsigned_abs.ensures.value, same) at c.if-unsigned_abs-gt-MOST_SCALE.false) in
     let inc = power_is _ _ q c.from-increase.ensures c.unwrap_or.ensures in
     let fits : FitsSigned w64 row.reference = search rules in
-    let kept = sym c.if-element-eq0.reference-is in
-    let reference : c.if-element-eq0.reference ≡ row.reference *ℤ pos (10 ^ y) =
-    elim c.if-element-eq0.branch [
-      | then-element-eq0 w ↦
+    let kept = sym c.if-increase-eq0.reference-is in
+    let reference : c.if-increase-eq0.reference ≡ row.reference *ℤ pos (10 ^ y) =
+    elim c.if-increase-eq0.branch [
+      | then-increase-eq0 w ↦
+          kept ∙ w.reference-is ∙ to_z-of_z w64 row.reference fits
+          ∙ once row.reference y w.if-increase-eq0.true
+      | else-increase-eq0+then-element-eq0 w ↦
           kept ∙ w.reference-is
           ∙ none_times row.reference (10 ^ y) fits w.if-element-eq0.true
-      | else-element-eq0+else-increase-gt18+in_ok-reference w ↦
+      | else-increase-eq0+else-element-eq0+else-increase-gt18+in_ok-reference w ↦
           let fit : FitsSigned w64 w.in_ok-reference.reference = search rules in
           let is = product_is w.checked_mul.result row.reference w.pow.result y fits
           w.if-increase-gt18.false w.pow.ensures w.checked_mul.ensures in
@@ -127,7 +134,7 @@ returns c =
     (omega arith) c.added-2.ensures.low c.added-2.ensures.high in
     let spec = rw (
       scale,
-      c.if-element-eq0.reference-is,
+      c.if-increase-eq0.reference-is,
       c.from-2.ensures,
       added,
       c.from-4.ensures,

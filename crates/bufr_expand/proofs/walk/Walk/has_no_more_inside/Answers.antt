@@ -1,5 +1,5 @@
 -- Neither the nodes ahead nor those of open replications are chosen fields.
-use Rattle.std.proofs.Common.{◌≡◌, ◌≤◌, true, ap, sym, ◌∙◌, length, arith}
+use Rattle.std.proofs.Common.{◌≡◌, ◌≤◌, ap, sym, ◌∙◌, length, arith}
 use Rattle.std.proofs.lemmas.List.{take_all}
 use Rattle.bufr_expand.specs.declared.walk_state.State.TheVariants as states
 use Rattle.bufr_expand.proofs.AskedFacts.{are_clear, none_left}

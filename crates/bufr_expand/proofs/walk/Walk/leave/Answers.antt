@@ -1,5 +1,5 @@
 -- The loops but the last are left, and the nodes after its body come next.
-use Rattle.std.proofs.Common.{◌≡◌, ◌+◌, ◌-◌, ◌≤◌, ◌++◌, ◌∷◌, [], length, take, vec_len, sym, ap, ◌∙◌, refl, arith}
+use Rattle.std.proofs.Common.{◌≡◌, ◌-◌, ◌++◌, ◌∷◌, [], length, take, vec_len, sym, ap, ◌∙◌, refl, arith}
 use Rattle.bufr_expand.proofs.LoopFacts.{in_front-mono, open_fewer, going_at}
 use Rattle.bufr_expand.proofs.RunFacts.{has_left}
 use Rattle.bufr_expand.proofs.walk.Walk.leave.Goals as goal

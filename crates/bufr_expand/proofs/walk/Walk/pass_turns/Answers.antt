@@ -1,7 +1,6 @@
 -- The course after all turns of the innermost replication.
-use Rattle.std.proofs.Common.{◌≡◌, ◌+◌, ◌<◌, ◌≤◌, ap, arith}
+use Rattle.std.proofs.Common.{◌+◌, ◌<◌, ◌≤◌, arith}
 use Rattle.bufr_expand.specs.Limits.{most_items}
-use Rattle.bufr_expand.specs.Walks.{is_waiting, waits}
 use Rattle.bufr_expand.proofs.RunFacts.{turns_passed}
 use Rattle.bufr_expand.proofs.walk.Walk.pass_turns.Goals as goal
 
